@@ -1,0 +1,1 @@
+// Laws that the proofs above cite. It holds no code: see proofs/.
