@@ -1,0 +1,43 @@
+-- The masks of the code against the definitions: bit n of a byte is `b`, 0 or 1, and each mask's value is a sum with `b * 2 ^ n` in it.
+use mathlib.Core.Bool.{Bool, true, false, cond, not}
+use mathlib.Core.Path.{_≡_, refl, sym, ap, _∙_}
+use Prim.Native.Nat.{ℕ, zero, suc, _+_, _-_, _*_, _/_, _%_, _^_, _<_}
+use native.Mathlib.Nat.{one-mul, zero-mul}
+use native.Mathlib.Omega.{arith}
+use lib.Dec.{eqb}
+use lib.Bits.{bitAnd, bitOr}
+use lib.Pow.{pow-pos, pow-lt}
+use borrow.Author.Tests.{ne-eqb}
+use Rattle.rules.proofs.Bits.{shifted-one, and-bit, or-bit, and-not}
+use Rattle.bit_utils.specs.Bits.{isSet, setBit, unsetBit}
+
+tested : (b m : ℕ) → b < 2 → 0 < m → not (eqb (b * m) 0) ≡ eqb b 1
+tested zero m h p = rw (zero-mul m)
+tested (suc zero) m h p = let n : m ≡ 0 → ⊥ = λ e. omega arith in rw (one-mul m, ne-eqb m 0 n)
+tested (suc (suc b)) m h p = absurd (omega arith)
+
+added : (b m x r : ℕ) → b < 2 → r + b * m ≡ x + m → r ≡ cond (eqb b 1) x (x + m)
+added zero m x r h e = omega (arith, zero-mul m)
+added (suc zero) m x r h e = omega (arith, one-mul m)
+added (suc (suc b)) m x r h e = absurd (omega arith)
+
+taken-off : (b m x r : ℕ) → b < 2 → r + b * m ≡ x → r ≡ cond (eqb b 1) (x - m) x
+taken-off zero m x r h e = omega (arith, zero-mul m)
+taken-off (suc zero) m x r h e = omega (arith, one-mul m)
+taken-off (suc (suc b)) m x r h e = absurd (omega arith)
+
+module _ (x n : ℕ) (h : n < 8) where
+  pub test-mask : not (eqb (bitAnd x (1 * 2 ^ n % 256)) 0) ≡ isSet x n
+  unfolding isSet
+  test-mask = rw (shifted-one 8 n h, and-bit x n) (tested (x / 2 ^ n % 2) (2 ^ n) (omega arith) (pow-pos n))
+
+  pub set-mask : bitOr x (1 * 2 ^ n % 256) ≡ setBit x n
+  unfolding setBit isSet
+  set-mask = rw (shifted-one 8 n h) (added (x / 2 ^ n % 2) (2 ^ n) x _ (omega arith) (or-bit x n))
+
+  pub unset-mask : x < 256 → bitAnd x (255 - 1 * 2 ^ n % 256) ≡ unsetBit x n
+  unfolding unsetBit isSet
+  unset-mask l =
+      let p : 2 ^ n < 256 = pow-lt {i = n} {j = 8} h in
+      rw (shifted-one 8 n h)
+      (taken-off (x / 2 ^ n % 2) (2 ^ n) x _ (omega arith) (rw (← and-bit x n) (and-not 8 x (2 ^ n) l p)))
