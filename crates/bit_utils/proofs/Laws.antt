@@ -1,11 +1,11 @@
 -- The masks of the code against the definitions: bit n of a byte is `b`, 0 or 1, and each mask's value is a sum with `b * 2 ^ n` in it.
-use mathlib.Core.Bool.{Bool, true, false, cond, not}
+use mathlib.Core.Bool.{Bool, true, false, cond, not, _&&_}
 use mathlib.Core.Path.{_≡_, refl, sym, ap, _∙_}
 use Prim.Native.Nat.{ℕ, zero, suc, _+_, _-_, _*_, _/_, _%_, _^_, _<_}
 use native.Mathlib.Nat.{one-mul, zero-mul}
 use native.Mathlib.Omega.{arith}
 use lib.Dec.{eqb}
-use lib.Bits.{bitAnd, bitOr}
+use lib.Bits.{bitAnd, bitOr, and-shr, and-mod}
 use lib.Pow.{pow-pos, pow-lt}
 use borrow.Author.Tests.{ne-eqb}
 use Rattle.rules.proofs.Bits.{shifted-one, and-bit, or-bit, and-not}
@@ -41,3 +41,19 @@ module _ (x n : ℕ) (h : n < 8) where
       let p : 2 ^ n < 256 = pow-lt {i = n} {j = 8} h in
       rw (shifted-one 8 n h)
       (taken-off (x / 2 ^ n % 2) (2 ^ n) x _ (omega arith) (rw (← and-bit x n) (and-not 8 x (2 ^ n) l p)))
+
+bits-and : (x y : ℕ) → x < 2 → y < 2 → eqb (bitAnd x y) 1 ≡ (eqb x 1 && eqb y 1)
+bits-and zero zero h k = refl
+bits-and zero (suc zero) h k = refl
+bits-and (suc zero) zero h k = refl
+bits-and (suc zero) (suc zero) h k = refl
+bits-and (suc (suc x)) y h k = absurd (omega arith)
+bits-and zero (suc (suc y)) h k = absurd (omega arith)
+bits-and (suc zero) (suc (suc y)) h k = absurd (omega arith)
+
+-- a bit of `x & y` is set where it is set in both
+pub is-set-and : (x y n : ℕ) → isSet (bitAnd x y) n ≡ (isSet x n && isSet y n)
+unfolding isSet
+is-set-and x y n =
+    rw (and-shr x y n, and-mod (x / 2 ^ n) (y / 2 ^ n) 1)
+    (bits-and (x / 2 ^ n % 2) (y / 2 ^ n % 2) (omega arith) (omega arith))
