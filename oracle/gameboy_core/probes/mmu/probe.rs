@@ -1,0 +1,92 @@
+//! The bus's hidden fields, and the three mappers by themselves.
+
+use super::*;
+
+pub fn joypad_state(memory: &Memory) -> u8 {
+    memory.joypad_state
+}
+
+/// What a mapper has selected.
+pub struct Banks {
+    pub rom: usize,
+    pub ram: usize,
+    pub mode: bool,
+    pub enabled: bool,
+    pub high: usize,
+}
+
+impl Banks {
+    pub const START: Banks = Banks {
+        rom: 1,
+        ram: 0,
+        mode: false,
+        enabled: false,
+        high: 0,
+    };
+}
+
+/// A mapper that is no part of a bus. Its kind is the header's.
+pub enum Mapper {
+    RomOnly(RomOnly),
+    Mbc1(Mbc1),
+    Mbc2(Mbc2),
+}
+
+impl Mapper {
+    pub fn new(cartridge: Cartridge) -> Mapper {
+        match cartridge.get_mbc_type() {
+            MbcType::RomOnly => Mapper::RomOnly(RomOnly::new(cartridge)),
+            MbcType::Mbc1 => Mapper::Mbc1(Mbc1::new(cartridge)),
+            MbcType::Mbc2 => Mapper::Mbc2(Mbc2::new(cartridge)),
+            MbcType::Mbc3 | MbcType::Mbc5 => panic!("a mapper that is not compared"),
+        }
+    }
+
+    pub fn get(&self) -> Banks {
+        match self {
+            Mapper::RomOnly(_) => Banks::START,
+            Mapper::Mbc1(mbc1) => mbc1::probe::get(mbc1),
+            Mapper::Mbc2(mbc2) => mbc2::probe::get(mbc2),
+        }
+    }
+
+    pub fn set(&mut self, banks: &Banks) {
+        match self {
+            Mapper::RomOnly(_) => (),
+            Mapper::Mbc1(mbc1) => mbc1::probe::set(mbc1, banks),
+            Mapper::Mbc2(mbc2) => mbc2::probe::set(mbc2, banks),
+        }
+    }
+
+    pub fn read_byte(&self, index: u16) -> u8 {
+        self.mbc().read_byte(index)
+    }
+
+    pub fn write_byte(&mut self, index: u16, value: u8) {
+        self.mbc_mut().write_byte(index, value)
+    }
+
+    pub fn ram_mut(&mut self) -> &mut [u8] {
+        self.mbc_mut().get_cartridge_mut().get_ram_mut()
+    }
+
+    pub fn set_ram_change_callback(&mut self, f: Box<dyn FnMut(usize, u8)>) {
+        self.mbc_mut().set_ram_change_callback(f)
+    }
+
+    fn mbc(&self) -> &dyn Mbc {
+        match self {
+            Mapper::RomOnly(rom_only) => rom_only,
+            Mapper::Mbc1(mbc1) => mbc1,
+            Mapper::Mbc2(mbc2) => mbc2,
+        }
+    }
+
+    fn mbc_mut(&mut self) -> &mut dyn Mbc {
+        match self {
+            Mapper::RomOnly(rom_only) => rom_only,
+            Mapper::Mbc1(mbc1) => mbc1,
+            Mapper::Mbc2(mbc2) => mbc2,
+        }
+    }
+}

@@ -1,0 +1,3 @@
+//! The Rust, from where build.rs has laid it together with our stand-ins.
+
+include!(concat!(env!("OUT_DIR"), "/lib.rs"));

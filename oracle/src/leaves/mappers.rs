@@ -1,0 +1,338 @@
+//! W: kind, log2 N, RAM code, ROM bank, RAM bank, mode, enabled, high bits,
+//! index (2 bytes), value. Gives the five in the middle after the write, whether
+//! a save byte was stored, its address (2) and value (0 and 0 if none was).
+//! R: the same without the value. Gives the byte read, over the contents of
+//! machine.rs.
+//!
+//! States keep to document 01, "State ranges".
+
+use gameboy_core::mmu::probe::Banks;
+
+use super::{Bytes, Letter};
+use crate::hex;
+use crate::machine::{save_byte, Machine, Shape};
+use crate::random::Random;
+
+pub const WRITE: Letter = Letter {
+    name: 'W',
+    edges: write_edges,
+    random: |random| {
+        let state = State::random(random);
+        let index = random_index(random);
+        state.write(index, random_value(random))
+    },
+    answer: write_answer,
+    recorded: (420, 380),
+};
+
+pub const READ: Letter = Letter {
+    name: 'R',
+    edges: read_edges,
+    random: |random| {
+        let state = State::random(random);
+        state.read(random_index(random))
+    },
+    answer: read_answer,
+    recorded: (360, 140),
+};
+
+const ROM_ONLY: u8 = 0;
+const MBC1: u8 = 1;
+const MBC2: u8 = 2;
+
+/// The ends of every window, and of the pages that Mbc2 tells apart.
+const INDEX_EDGES: [u16; 20] = [
+    0x0000, 0x00FF, 0x0100, 0x01FF, 0x0200, 0x1FFF, 0x2000, 0x20FF, 0x2100, 0x3FFF, 0x4000, 0x5FFF,
+    0x6000, 0x7FFF, 0xA000, 0xA001, 0xA1FF, 0xA200, 0xBFFE, 0xBFFF,
+];
+
+const VALUE_EDGES: [u8; 17] = [
+    0x00, 0x01, 0x02, 0x03, 0x0A, 0x0F, 0x10, 0x1A, 0x1F, 0x20, 0x3F, 0x40, 0x60, 0x7F, 0x80, 0xFA,
+    0xFF,
+];
+
+fn shape(input: &[u8]) -> Shape {
+    Shape {
+        kind: input[0],
+        log: input[1],
+        code: input[2],
+    }
+}
+
+fn banks(input: &[u8]) -> Banks {
+    Banks {
+        rom: input[3].into(),
+        ram: input[4].into(),
+        mode: input[5] == 1,
+        enabled: input[6] == 1,
+        high: input[7].into(),
+    }
+}
+
+fn write_answer(machine: &mut Machine, input: &[u8]) -> Bytes {
+    let held = machine.mapper(shape(input));
+    held.mapper.set(&banks(input));
+    held.mapper.write_byte(hex::word(&input[8..10]), input[10]);
+
+    let after = held.mapper.get();
+    let mut output = vec![
+        after.rom as u8,
+        after.ram as u8,
+        after.mode.into(),
+        after.enabled.into(),
+        after.high as u8,
+    ];
+    let stored = held.stored.take();
+    match stored[..] {
+        [] => output.extend([0; 4]),
+        [(address, value)] => {
+            let [.., high, low] = address.to_be_bytes();
+            output.extend([1, high, low, value]);
+            // The byte must be in the save; then the contents are put back.
+            let byte = &mut held.mapper.ram_mut()[address];
+            assert_eq!(*byte, value, "told of another byte than was stored");
+            *byte = save_byte(address);
+        }
+        _ => panic!("one write stored more than one byte"),
+    }
+    output
+}
+
+fn read_answer(machine: &mut Machine, input: &[u8]) -> Bytes {
+    let held = machine.mapper(shape(input));
+    held.mapper.set(&banks(input));
+    vec![held.mapper.read_byte(hex::word(&input[8..10]))]
+}
+
+/// A mapper's part of the input.
+#[derive(Clone, Copy)]
+struct State {
+    kind: u8,
+    log: u8,
+    code: u8,
+    rom: u8,
+    ram: u8,
+    mode: u8,
+    enabled: u8,
+    high: u8,
+}
+
+impl State {
+    fn start(kind: u8, log: u8, code: u8) -> State {
+        State {
+            kind,
+            log,
+            code,
+            rom: 1,
+            ram: 0,
+            mode: 0,
+            enabled: 0,
+            high: 0,
+        }
+    }
+
+    fn read(self, index: u16) -> Bytes {
+        let mut bytes = vec![
+            self.kind,
+            self.log,
+            self.code,
+            self.rom,
+            self.ram,
+            self.mode,
+            self.enabled,
+            self.high,
+        ];
+        bytes.extend(index.to_be_bytes());
+        bytes
+    }
+
+    fn write(self, index: u16, value: u8) -> Bytes {
+        let mut bytes = self.read(index);
+        bytes.push(value);
+        bytes
+    }
+
+    fn random(random: &mut Random) -> State {
+        let kind = random.pick(&[ROM_ONLY, MBC1, MBC1, MBC1, MBC1, MBC2, MBC2, MBC2]);
+        let log = 1 + random.below(most_log(kind).into()) as u8;
+        let code = match kind {
+            MBC2 => 0,
+            _ => random.pick(&[0, 2, 3, 3, 3]),
+        };
+        let mut state = State::start(kind, log, code);
+        if kind == ROM_ONLY {
+            return state;
+        }
+        state.rom = random.below(1 << log) as u8;
+        if kind == MBC2 || code > 0 {
+            state.enabled = u8::from(!random.once_in(3));
+        }
+        if kind == MBC1 {
+            state.high = random.below(4) as u8;
+        }
+        if code == 3 {
+            state.mode = random.flag();
+            state.ram = random.below(4) as u8;
+        }
+        state
+    }
+}
+
+/// N at most: 2, 128, 16.
+fn most_log(kind: u8) -> u8 {
+    [1, 7, 4][usize::from(kind)]
+}
+
+/// All states, but of the ROM banks only first, second, middle and last.
+fn states() -> Vec<State> {
+    let mut list = Vec::new();
+    for code in [0, 2, 3] {
+        list.push(State::start(ROM_ONLY, 1, code));
+    }
+    for log in 1..=most_log(MBC2) {
+        for rom in bank_edges(log) {
+            for enabled in 0..2 {
+                let start = State::start(MBC2, log, 0);
+                list.push(State {
+                    rom,
+                    enabled,
+                    ..start
+                });
+            }
+        }
+    }
+    for log in 1..=most_log(MBC1) {
+        for rom in bank_edges(log) {
+            for high in 0..4 {
+                for (code, ram, mode, enabled) in mbc1_rams() {
+                    let start = State::start(MBC1, log, code);
+                    list.push(State {
+                        rom,
+                        high,
+                        ram,
+                        mode,
+                        enabled,
+                        ..start
+                    });
+                }
+            }
+        }
+    }
+    list
+}
+
+fn bank_edges(log: u8) -> Vec<u8> {
+    let count = 1u8 << log;
+    let mut list = vec![0, 1, count / 2, count - 1];
+    list.dedup();
+    list
+}
+
+/// RAM code, RAM bank, mode, enabled.
+fn mbc1_rams() -> Vec<(u8, u8, u8, u8)> {
+    let mut list = vec![(0, 0, 0, 0), (2, 0, 0, 0), (2, 0, 0, 1)];
+    for ram in 0..4 {
+        for flags in 0..4 {
+            list.push((3, ram, flags / 2, flags % 2));
+        }
+    }
+    list
+}
+
+fn write_edges() -> Vec<Bytes> {
+    let mut list = Vec::new();
+
+    // Every state at every index; the values take turns.
+    let mut turn = 0;
+    for state in states() {
+        for index in INDEX_EDGES {
+            list.push(state.write(index, VALUE_EDGES[turn % VALUE_EDGES.len()]));
+            turn += 1;
+        }
+    }
+
+    // Every value in every window.
+    for value in 0..=255 {
+        for code in [0, 2, 3] {
+            for index in INDEX_EDGES {
+                list.push(State::start(ROM_ONLY, 1, code).write(index, value));
+            }
+        }
+        for log in 1..=most_log(MBC2) {
+            for index in INDEX_EDGES {
+                for enabled in 0..2 {
+                    let start = State::start(MBC2, log, 0);
+                    list.push(State { enabled, ..start }.write(index, value));
+                }
+            }
+        }
+        for (code, mode, enabled) in [(0, 0, 0), (2, 0, 1), (3, 0, 1), (3, 1, 1)] {
+            for index in [0x0000, 0x6000, 0xA000] {
+                let start = State::start(MBC1, 7, code);
+                list.push(
+                    State {
+                        mode,
+                        enabled,
+                        ..start
+                    }
+                    .write(index, value),
+                );
+            }
+            for log in 1..=most_log(MBC1) {
+                for high in 0..4 {
+                    let start = State::start(MBC1, log, code);
+                    let state = State {
+                        high,
+                        mode,
+                        enabled,
+                        ..start
+                    };
+                    list.push(state.write(0x2000, value));
+                    list.push(state.write(0x4000, value));
+                }
+            }
+        }
+    }
+    list
+}
+
+/// Every state at every index, and every ROM bank.
+fn read_edges() -> Vec<Bytes> {
+    let mut list = Vec::new();
+    for state in states() {
+        for index in INDEX_EDGES {
+            list.push(state.read(index));
+        }
+    }
+    for kind in [MBC1, MBC2] {
+        for log in 1..=most_log(kind) {
+            for rom in 0..1 << log {
+                let start = State::start(kind, log, 0);
+                for index in [0x3FFF, 0x4000, 0x5678, 0x7FFF] {
+                    list.push(State { rom, ..start }.read(index));
+                }
+            }
+        }
+    }
+    list
+}
+
+/// Each window as often; Mbc2's 512 bytes and the edges more than the rest.
+fn random_index(random: &mut Random) -> u16 {
+    if random.once_in(5) {
+        return random.pick(&INDEX_EDGES);
+    }
+    let start = random.pick(&[0x0000, 0x2000, 0x4000, 0x6000, 0xA000]);
+    if start == 0xA000 && random.once_in(2) {
+        return start + random.below(0x400) as u16;
+    }
+    start + random.below(0x2000) as u16
+}
+
+fn random_value(random: &mut Random) -> u8 {
+    if random.once_in(4) {
+        random.pick(&VALUE_EDGES)
+    } else {
+        random.any_byte()
+    }
+}

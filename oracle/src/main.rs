@@ -1,0 +1,43 @@
+//! Prints the Rust's answers, one a line (README.md has the forms).
+//!
+//!     oracle leaves SEED COUNT   corners, edges, then COUNT random inputs a letter
+//!     oracle record              the sample that recorded.txt holds
+//!
+//! A further list is a further module beside `leaves`.
+
+mod corners;
+mod hex;
+mod leaves;
+mod machine;
+mod random;
+
+use std::io::{self, BufWriter, Write};
+use std::process::ExitCode;
+
+const USAGE: &str = "usage: oracle leaves SEED COUNT | oracle record";
+
+fn main() -> ExitCode {
+    let arguments: Vec<String> = std::env::args().skip(1).collect();
+    let words: Vec<&str> = arguments.iter().map(String::as_str).collect();
+    let mut out = BufWriter::new(io::stdout().lock());
+    let done = match words[..] {
+        ["leaves", seed, count] => match (seed.parse(), count.parse()) {
+            (Ok(seed), Ok(count)) => leaves::print(seed, count, &mut out),
+            _ => return usage(),
+        },
+        ["record"] => leaves::record(&mut out),
+        _ => return usage(),
+    };
+    match done.and_then(|()| out.flush()) {
+        Ok(()) => ExitCode::SUCCESS,
+        Err(error) => {
+            eprintln!("oracle: {error}");
+            ExitCode::FAILURE
+        }
+    }
+}
+
+fn usage() -> ExitCode {
+    eprintln!("{USAGE}");
+    ExitCode::from(2)
+}
