@@ -2,10 +2,10 @@
 //! Rust's answer to one.
 
 mod bits;
-mod interrupts;
-mod joypad;
+pub mod interrupts;
+pub mod joypad;
 mod mappers;
-mod timer;
+pub mod timer;
 
 use std::io::{self, Error, Write};
 
@@ -113,7 +113,7 @@ fn sample(list: Vec<Bytes>, mut wanted: usize, name: char) -> Vec<Bytes> {
 }
 
 /// Input and output of a line.
-fn parts(line: &str) -> (Bytes, Bytes) {
+pub fn parts(line: &str) -> (Bytes, Bytes) {
     let mut words = line.split(' ').skip(1).map(hex::bytes);
     (words.next().unwrap(), words.next().unwrap())
 }

@@ -71,7 +71,7 @@ impl Shape {
 
     /// Numbers of banks come from the Rust's reading of a header; the contents
     /// are put in afterwards, over the header too.
-    fn cartridge(self) -> Cartridge {
+    pub fn cartridge(self) -> Cartridge {
         let mut rom = vec![0; 0x4000 << self.log];
         rom[0x0147] = [0x00, 0x01, 0x05][usize::from(self.kind)];
         rom[0x0149] = self.code;
@@ -95,7 +95,7 @@ pub fn save_byte(address: usize) -> u8 {
 }
 
 /// Mbc3 alone would ask for the time.
-struct NoClock;
+pub struct NoClock;
 
 impl RTC for NoClock {
     fn get_current_time(&self) -> u64 {

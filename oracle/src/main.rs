@@ -1,10 +1,13 @@
 //! Prints the Rust's answers, one a line (README.md has the forms).
 //!
 //!     oracle leaves SEED COUNT   corners, edges, then COUNT random inputs a letter
-//!     oracle record              the sample that recorded.txt holds
+//!     oracle bus SEED COUNT      corners, edges, then COUNT random lists of calls
+//!     oracle record leaves|bus   the sample that recorded.txt, recorded-bus.txt holds
+//!     oracle check FILE          makes the calls of such lists anew and compares
 //!
-//! A further list is a further module beside `leaves`.
+//! A further list is a further module beside `leaves` and `bus`.
 
+mod bus;
 mod corners;
 mod hex;
 mod leaves;
@@ -14,18 +17,22 @@ mod random;
 use std::io::{self, BufWriter, Write};
 use std::process::ExitCode;
 
-const USAGE: &str = "usage: oracle leaves SEED COUNT | oracle record";
+const USAGE: &str =
+    "usage: oracle leaves|bus SEED COUNT | oracle record leaves|bus | oracle check FILE";
 
 fn main() -> ExitCode {
     let arguments: Vec<String> = std::env::args().skip(1).collect();
     let words: Vec<&str> = arguments.iter().map(String::as_str).collect();
     let mut out = BufWriter::new(io::stdout().lock());
     let done = match words[..] {
-        ["leaves", seed, count] => match (seed.parse(), count.parse()) {
+        [list @ ("leaves" | "bus"), seed, count] => match (seed.parse(), count.parse()) {
+            (Ok(seed), Ok(count)) if list == "bus" => bus::print(seed, count, &mut out),
             (Ok(seed), Ok(count)) => leaves::print(seed, count, &mut out),
             _ => return usage(),
         },
-        ["record"] => leaves::record(&mut out),
+        ["record", "leaves"] => leaves::record(&mut out),
+        ["record", "bus"] => bus::record(&mut out),
+        ["check", name] => bus::check(name, &mut out),
         _ => return usage(),
     };
     match done.and_then(|()| out.flush()) {

@@ -1,9 +1,11 @@
 -- Definitions go by cases, as nested `cond` over tests; code goes by branches. These rulesets carry what a branch showed into the definition:
 -- `search tests` is `search needs` with that added, `search cases` is that alone.
-use mathlib.Core.Path.{_≡_, ap}
-use mathlib.Core.Bool.{Bool, true, false, cond}
+use mathlib.Core.Path.{_≡_, refl, sym, ap, _∙_}
+use mathlib.Core.Bool.{Bool, true, false, cond, not, _&&_}
 use borrow.Author.Needs.{needs}
-use borrow.Author.Tests.{lt-ltb, le-ltb, le-leb, lt-leb, eq-eqb, ne-eqb}
+use borrow.Author.Tests.{lt-ltb, le-ltb, le-leb, lt-leb, eq-eqb, ne-eqb, not-true, not-false}
+use Prim.Native.Nat.{ℕ}
+use native.Mathlib.Omega.{arith}
 
 pub cond-true : {A : Type 0} (b : Bool) (x y : A) → b ≡ true → cond b x y ≡ x
 cond-true b x y e = ap (λ (t : Bool). cond t x y) e
@@ -14,3 +16,15 @@ cond-false b x y e = ap (λ (t : Bool). cond t x y) e
 pub ruleset cases = (cond-true, cond-false, lt-ltb, le-ltb, le-leb, lt-leb, eq-eqb, ne-eqb)
 
 pub ruleset tests = (needs, cases)
+
+-- what a test on `!f(..)` shows of the definition that f's contract names
+pub denied : {b e : Bool} → b ≡ e → not b ≡ true → e ≡ false
+denied p h = sym p ∙ not-true _ h
+
+pub granted : {b e : Bool} → b ≡ e → not b ≡ false → e ≡ true
+granted p h = sym p ∙ not-false _ h
+
+-- both sides of an `and` that is true
+pub both-true : (a b : Bool) → (a && b) ≡ true → (a ≡ true) × (b ≡ true)
+both-true true b h = (refl, h)
+both-true false b h = let z : _≡_ {A = ℕ} 0 1 = cc in absurd (omega arith)

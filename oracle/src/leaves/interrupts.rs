@@ -8,7 +8,7 @@ use gameboy_core::mmu::{INTERRUPT_ENABLE_INDEX, INTERRUPT_FLAGS_INDEX};
 use super::{Bytes, Letter};
 use crate::machine::Machine;
 
-const INTERRUPTS_IN_ORDER: [Interrupt; 5] = [
+pub const INTERRUPTS_IN_ORDER: [Interrupt; 5] = [
     Interrupt::Vblank,
     Interrupt::Lcd,
     Interrupt::Timer,
@@ -16,7 +16,7 @@ const INTERRUPTS_IN_ORDER: [Interrupt; 5] = [
     Interrupt::Joypad,
 ];
 
-const NONE: u8 = 5;
+pub const NONE: u8 = 5;
 
 pub const INTERRUPTS: Letter = Letter {
     name: 'I',

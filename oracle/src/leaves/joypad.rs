@@ -13,7 +13,7 @@ use super::{Bytes, Letter};
 use crate::machine::Machine;
 use crate::random::Random;
 
-const BUTTONS_IN_ORDER: [Button; 8] = [
+pub const BUTTONS_IN_ORDER: [Button; 8] = [
     Button::Up,
     Button::Down,
     Button::Left,

@@ -30,7 +30,7 @@ const REGISTERS: [u16; 5] = [
 
 const PERIODS: [u32; 4] = [1024, 16, 64, 256];
 
-const MOST_CYCLES: u32 = 65_536;
+pub const MOST_CYCLES: u32 = 65_536;
 
 fn answer(machine: &mut Machine, input: &[u8]) -> Bytes {
     let bus = &mut machine.bus;

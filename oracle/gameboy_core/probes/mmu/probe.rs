@@ -6,6 +6,45 @@ pub fn joypad_state(memory: &Memory) -> u8 {
     memory.joypad_state
 }
 
+/// What a bus keeps to itself, its page apart (`load` gives that).
+pub struct Hidden<'a> {
+    pub vram: &'a [u8],
+    pub wram: &'a [u8],
+    pub oam: &'a [u8],
+    pub colour: bool,
+    pub vram_bank: i32,
+    pub wram_bank: i32,
+    pub hdma_source: u16,
+    pub hdma_destination: u16,
+    pub banks: Banks,
+}
+
+pub fn hidden(memory: &Memory) -> Hidden<'_> {
+    Hidden {
+        vram: &memory.vram,
+        wram: &memory.wram,
+        oam: &memory.oam,
+        colour: memory.is_cgb,
+        vram_bank: memory.vram_bank,
+        wram_bank: memory.wram_bank,
+        hdma_source: memory.hdma_source,
+        hdma_destination: memory.hdma_destination,
+        banks: banks(memory),
+    }
+}
+
+/// The bus has hidden its mapper's type; the cartridge in it names the type
+/// that `from_cartridge` chose.
+fn banks(memory: &Memory) -> Banks {
+    let mapper: *const dyn Mbc = &*memory.mbc;
+    match memory.get_cartridge().get_mbc_type() {
+        MbcType::RomOnly => Banks::START,
+        MbcType::Mbc1 => mbc1::probe::get(unsafe { &*mapper.cast::<Mbc1>() }),
+        MbcType::Mbc2 => mbc2::probe::get(unsafe { &*mapper.cast::<Mbc2>() }),
+        MbcType::Mbc3 | MbcType::Mbc5 => panic!("a mapper that is not compared"),
+    }
+}
+
 /// What a mapper has selected.
 pub struct Banks {
     pub rom: usize,

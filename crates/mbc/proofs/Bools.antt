@@ -1,0 +1,65 @@
+-- Laws of the tests that the ranges are made of: `&&`, `oneOf`, `implies`. They go both ways between a test and what it says.
+use mathlib.Core.Path.{_≡_, refl, sym, _∙_}
+use mathlib.Core.Bool.{Bool, true, false, cond, _&&_, _||_, or-true}
+use mathlib.Core.List.{List, [], _∷_}
+use mathlib.Core.Logic.{_⊎_, inl, inr, ⊎-elim}
+use Prim.Native.Nat.{ℕ, _≤_}
+use native.Mathlib.Omega.{arith}
+use lib.Dec.{eqb}
+use borrow.Author.Tests.{eq-eqb, ne-eqb, eqb-true, not-true}
+use Rattle.mbc.specs.Mbc.{oneOf, implies}
+
+pub and-left : (a b : Bool) → (a && b) ≡ true → a ≡ true
+and-left true b e = refl
+and-left false b e = e
+
+pub and-right : (a b : Bool) → (a && b) ≡ true → b ≡ true
+and-right true b e = e
+and-right false b e = let z : true ≡ true = refl in cc
+
+-- n is x or one of xs, as the arms of a `match` say it
+abbrev pub Among : ℕ → List ℕ → ℕ → Type 0
+Among x [] n = n ≡ x
+Among x (y ∷ ys) n = (n ≡ x) ⊎ Among y ys n
+
+pub among : (x : ℕ) (xs : List ℕ) (n : ℕ) → Among x xs n → oneOf (x ∷ xs) n ≡ true
+among x [] n e = rw (eq-eqb n x e)
+among x (y ∷ ys) n (inl e) = rw (eq-eqb n x e)
+among x (y ∷ ys) n (inr h) = rw (among y ys n h) (or-true (eqb n x))
+
+pub not-among : (x : ℕ) (xs : List ℕ) (n : ℕ) → (Among x xs n → ⊥) → oneOf (x ∷ xs) n ≡ false
+not-among x [] n h = rw (ne-eqb n x h)
+not-among x (y ∷ ys) n h = rw (ne-eqb n x (λ e. h (inl e))) (not-among y ys n (λ a. h (inr a)))
+
+pub implied : (a b : Bool) → implies a b ≡ true → a ≡ true → b ≡ true
+implied a true e h = refl
+implied a false e h = sym (not-true a e) ∙ h
+
+-- a number among some that are all at least k is at least k
+abbrev pub AllFrom : ℕ → List ℕ → Type 0
+AllFrom k [] = Unit {0}
+AllFrom k (x ∷ xs) = (k ≤ x) × AllFrom k xs
+
+pub or-cases : (a b : Bool) → (a || b) ≡ true → (a ≡ true) ⊎ (b ≡ true)
+or-cases true b e = inl refl
+or-cases false b e = inr e
+
+pub from : (k : ℕ) (xs : List ℕ) (n : ℕ) → AllFrom k xs → oneOf xs n ≡ true → k ≤ n
+from k [] n all e = let z : _≡_ {A = ℕ} 0 1 = cc in omega arith
+from k (x ∷ xs) n all e =
+    ⊎-elim (λ h. omega (arith, eqb-true n x h, all .0)) (λ h. from k xs n (all .1) h) (or-cases (eqb n x) (oneOf xs n) e)
+
+-- what holds of both arms holds of a `cond`
+pub by-cond : {A : Type 0} (P : A → Type 0) (b : Bool) (x y : A) → (b ≡ true → P x) → (b ≡ false → P y) → P (cond b x y)
+by-cond P true x y t f = t refl
+by-cond P false x y t f = f refl
+
+pub and-implied : (a b : Bool) → (a ≡ true → b ≡ true) → (a && b) ≡ a
+and-implied true b h = h refl
+and-implied false b h = refl
+
+-- what two conditions need, the second alone needs
+pub weaker : (a b d : Bool) → implies (a || b) d ≡ true → implies b d ≡ true
+weaker a b true e = refl
+weaker true b false e = let z : true ≡ true = refl in cc
+weaker false b false e = e

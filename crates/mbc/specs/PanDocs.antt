@@ -1,0 +1,52 @@
+-- What Pan Docs say of the mappers, in small pieces. specs/Mbc.antt puts them together, and says where the Rust departs from them.
+use mathlib.Core.Bool.{Bool, cond}
+use Prim.Native.Nat.{ℕ, _+_, _*_, _-_, _%_, _/_}
+use lib.Dec.{eqb}
+
+-- MBC1, MBC2: the low four bits A enable the RAM, anything else disables it
+abbrev pub enables : ℕ → Bool
+enables value = eqb (value % 16) 0xA
+
+-- MBC1, MBC2: ROM bank 0 acts as 1
+unfoldable pub zeroAsOne : ℕ → ℕ
+zeroAsOne bank = cond (eqb bank 0) 1 bank
+
+-- MBC1: five bits of the ROM bank, where 0 acts as 1 (so 20, 40, 60 become 21, 41, 61), and above them two more
+abbrev pub mbc1Bank : ℕ → ℕ → ℕ
+mbc1Bank five two = zeroAsOne (five % 32) + two * 32
+
+-- MBC1: the two bits that are the upper ROM bank bits or the RAM bank
+abbrev pub twoBits : ℕ → ℕ
+twoBits value = value % 4
+
+-- MBC1: bit 0, the mode
+abbrev pub modeBit : ℕ → Bool
+modeBit value = eqb (value % 2) 1
+
+-- MBC2: four bits of the ROM bank, where 0 acts as 1
+abbrev pub mbc2Bank : ℕ → ℕ
+mbc2Bank value = zeroAsOne (value % 16)
+
+-- MBC2: bit 8 of the address, 0 for RAM enable and 1 for the ROM bank
+abbrev pub bit8 : ℕ → Bool
+bit8 index = eqb (index / 256 % 2) 1
+
+-- MBC2: RAM holds half bytes
+abbrev pub halfByte : ℕ → ℕ
+halfByte value = value % 16
+
+-- MBC1: bank bits beyond the cartridge's size are masked; the size is a power of two, so the remainder is left
+abbrev pub masked : ℕ → ℕ → ℕ
+masked banks bank = bank % banks
+
+-- Memory Map: 4000-7FFF shows one ROM bank of 16,384 bytes
+abbrev pub romAddress : ℕ → ℕ → ℕ
+romAddress bank index = index - 0x4000 + bank * 0x4000
+
+-- Memory Map: A000-BFFF shows one RAM bank of 8,192 bytes
+abbrev pub ramAddress : ℕ → ℕ → ℕ
+ramAddress bank index = index - 0xA000 + bank * 0x2000
+
+-- MBC1: RAM that is off reads FF
+abbrev pub offByte : ℕ
+offByte = 0xFF

@@ -1,0 +1,84 @@
+// What a cartridge is described by, and what all mappers ask of it.
+ghost use mathlib.Core.Path.{_≡_};
+ghost use mathlib.Core.Bool.{_&&_};
+ghost use Prim.Native.Nat.{_<_, _*_};
+ghost use Rattle.mbc.specs.PanDocs.{masked};
+ghost use Rattle.mbc.specs.Mbc.{romLen, ramBanks, hasBanks, hasCode};
+
+// N, the ROM's banks of 16,384 bytes, and the header's RAM code.
+pub struct Cartridge {
+    pub banks: u16,
+    pub code: u8,
+}
+
+impl Cartridge {
+    pub fn rom_len(self) -> usize
+        ensures { λ r. ⌜ r ≡ romLen self ⌝ }
+    {
+        self.banks as usize * 0x4000
+    }
+
+    // RAM banks of 8,192 bytes.
+    pub fn ram_banks(self) -> u8
+        ensures { λ r. ⌜ r ≡ ramBanks (self .code) ⌝ }
+    {
+        let code = self.code;
+        if code == 2 {
+            return 1;
+        }
+        if code == 3 {
+            return 4;
+        }
+        0
+    }
+
+    pub fn ram_len(self) -> usize
+        ensures { λ r. ⌜ r ≡ ramBanks (self .code) * 0x2000 ⌝ }
+    {
+        self.ram_banks() as usize * 0x2000
+    }
+
+    // N is a power of two, at most `most`.
+    pub fn has_banks(self, most: u16) -> bool
+        ensures { λ r. ⌜ r ≡ hasBanks most self ⌝ }
+    {
+        let banks = self.banks;
+        if most < banks {
+            return false;
+        }
+        match banks {
+            2 | 4 | 8 | 16 | 32 | 64 | 128 => true,
+            _ => false,
+        }
+    }
+
+    pub fn has_code(self) -> bool
+        ensures { λ r. ⌜ r ≡ hasCode self ⌝ }
+    {
+        let code = self.code;
+        if code == 0 {
+            return true;
+        }
+        if code == 2 {
+            return true;
+        }
+        code == 3
+    }
+
+    pub fn describes(self, most: u16) -> bool
+        ensures { λ r. ⌜ r ≡ (hasBanks most self && hasCode self) ⌝ }
+    {
+        if self.has_banks(most) {
+            return self.has_code();
+        }
+        false
+    }
+
+    // The Rust's `bank & (banks - 1)`: N is a power of two.
+    pub fn masked(self, bank: u8) -> u8
+        requires { ⌜ 0 < self .banks ⌝ }
+        ensures { λ r. ⌜ r ≡ masked (self .banks) bank ⌝ }
+    {
+        (bank as u16 % self.banks) as u8
+    }
+}

@@ -1,0 +1,281 @@
+// What is common to the mappers: the Rust's trait `Mbc` as an enum, and its two calls.
+use crate::cartridge::Cartridge;
+use crate::mbc1::Mbc1;
+use crate::mbc2::Mbc2;
+use crate::rom_only;
+ghost use mathlib.Core.Path.{_≡_};
+ghost use mathlib.Core.Bool.{true};
+ghost use Prim.Native.Nat.{_≤_};
+ghost use lib.ListN.{length};
+ghost use Rattle.mbc.specs.PanDocs.{romAddress, ramAddress};
+ghost use Rattle.mbc.specs.Mbc.{romLen, ramLen, inRange, mapped, start, source, readAt, storedAt, after, written, fresh, lengths, readAs, readByte, writeByte};
+
+pub enum Mapper {
+    RomOnly,
+    Mbc1(Mbc1),
+    Mbc2(Mbc2),
+}
+
+// What a write asks of the save.
+pub enum Answer {
+    Stored { at: usize, value: u8 },
+    NotStored,
+}
+
+// Where a read finds its byte; `Half` is a save byte of which the low half counts.
+pub enum Source {
+    Rom(usize),
+    Save(usize),
+    Half(usize),
+    Fixed(u8),
+}
+
+pub struct Fresh {
+    pub number: u8,
+    pub cartridge: Cartridge,
+    pub mapper: Mapper,
+}
+
+pub struct Written {
+    pub mapper: Mapper,
+    pub answer: Answer,
+}
+
+pub struct ReadByte {
+    pub number: u8,
+    pub value: u8,
+}
+
+pub struct WriteByte {
+    pub number: u8,
+    pub mapper: Mapper,
+    pub answer: Answer,
+}
+
+// Whether a mapper answers for a place: 0000..7FFF and A000..BFFF.
+pub fn is_mapped(index: u16) -> bool
+    ensures { λ r. ⌜ r ≡ mapped index ⌝ }
+{
+    if index < 0x8000 {
+        return true;
+    }
+    if index < 0xA000 {
+        return false;
+    }
+    index < 0xC000
+}
+
+// The address in ROM of a place in 4000..7FFF.
+pub fn rom_address(bank: u8, index: u16) -> usize
+    requires { ⌜ 0x4000 ≤ index ⌝ }
+    ensures { λ r. ⌜ r ≡ romAddress bank index ⌝ }
+{
+    (index - 0x4000) as usize + bank as usize * 0x4000
+}
+
+// The address in RAM of a place in A000..BFFF.
+pub fn ram_address(bank: u8, index: u16) -> usize
+    requires { ⌜ 0xA000 ≤ index ⌝ }
+    ensures { λ r. ⌜ r ≡ ramAddress bank index ⌝ }
+{
+    (index - 0xA000) as usize + bank as usize * 0x2000
+}
+
+// A refused read gives 0.
+fn refused_read(number: u8) -> ReadByte
+    ensures { λ r. ⌜ r ≡ readAs number 0 ⌝ }
+{
+    ReadByte { number, value: 0 }
+}
+
+impl Source {
+    // What a write of `value` asks of a save of `len` bytes: to store where a read would look.
+    pub fn stored(self, len: usize, value: u8) -> Answer
+        ensures { λ r. ⌜ r ≡ storedAt len value self ⌝ }
+    {
+        match self {
+            Source::Rom(_) => Answer::NotStored,
+            Source::Save(at) => {
+                if at < len {
+                    return Answer::Stored { at, value };
+                }
+                Answer::NotStored
+            }
+            Source::Half(at) => {
+                if at < len {
+                    return Answer::Stored {
+                        at,
+                        value: value % 16,
+                    };
+                }
+                Answer::NotStored
+            }
+            Source::Fixed(_) => Answer::NotStored,
+        }
+    }
+}
+
+impl Mapper {
+    // Kinds are the state image's: 0 RomOnly, 1 Mbc1, 2 Mbc2.
+    fn start(kind: u8) -> Mapper
+        ensures { λ r. ⌜ r ≡ start kind ⌝ }
+    {
+        if kind == 0 {
+            return Mapper::RomOnly;
+        }
+        if kind == 1 {
+            return Mapper::Mbc1(Mbc1::new());
+        }
+        Mapper::Mbc2(Mbc2::new())
+    }
+
+    pub fn ram_len(self, cartridge: Cartridge) -> usize
+        ensures { λ r. ⌜ r ≡ ramLen cartridge self ⌝ }
+    {
+        match self {
+            Mapper::RomOnly => cartridge.ram_len(),
+            Mapper::Mbc1(_) => cartridge.ram_len(),
+            Mapper::Mbc2(_) => 512,
+        }
+    }
+
+    // Whether a lent ROM and save have the lengths that they must have.
+    pub fn lengths(self, cartridge: Cartridge, rom: usize, save: usize) -> bool
+        ensures { λ r. ⌜ r ≡ lengths cartridge self rom save ⌝ }
+    {
+        if rom == cartridge.rom_len() {
+            return save == self.ram_len(cartridge);
+        }
+        false
+    }
+
+    pub fn in_range(self, cartridge: Cartridge) -> bool
+        ensures { λ r. ⌜ r ≡ inRange cartridge self ⌝ }
+    {
+        match self {
+            Mapper::RomOnly => rom_only::in_range(cartridge),
+            Mapper::Mbc1(m) => m.in_range(cartridge),
+            Mapper::Mbc2(m) => m.in_range(cartridge),
+        }
+    }
+
+    pub fn source(self, cartridge: Cartridge, index: u16) -> Source
+        requires { ⌜ mapped index ≡ true ⌝ }
+        ensures { λ r. ⌜ r ≡ source cartridge self index ⌝ }
+    {
+        match self {
+            Mapper::RomOnly => rom_only::source(cartridge, index),
+            Mapper::Mbc1(m) => m.source(cartridge, index),
+            Mapper::Mbc2(m) => m.source(cartridge, index),
+        }
+    }
+
+    pub fn after(self, cartridge: Cartridge, index: u16, value: u8) -> Mapper
+        requires { ⌜ inRange cartridge self ≡ true ⌝ }
+        ensures { λ r. ⌜ r ≡ after cartridge self index value ⌝ }
+    {
+        match self {
+            Mapper::RomOnly => Mapper::RomOnly,
+            Mapper::Mbc1(m) => Mapper::Mbc1(m.after(cartridge, index, value)),
+            Mapper::Mbc2(m) => Mapper::Mbc2(m.after(cartridge, index, value)),
+        }
+    }
+
+    pub fn read(self, cartridge: Cartridge, rom: &[u8], save: &[u8], index: u16) -> u8
+        requires { ⌜ (inRange cartridge self ≡ true) × ((mapped index ≡ true) × ((length (now rom) ≡ romLen cartridge) × (length (now save) ≡ ramLen cartridge self))) ⌝ }
+        ensures { λ r. ⌜ r ≡ readAt cartridge self (now (rom .entry)) (now (save .entry)) index ⌝ }
+    {
+        match self.source(cartridge, index) {
+            Source::Rom(at) => rom[at],
+            Source::Save(at) => save[at],
+            Source::Half(at) => save[at] % 16,
+            Source::Fixed(byte) => byte,
+        }
+    }
+
+    pub fn write(self, cartridge: Cartridge, index: u16, value: u8) -> Written
+        requires { ⌜ (inRange cartridge self ≡ true) × (mapped index ≡ true) ⌝ }
+        ensures { λ r. ⌜ r ≡ written cartridge self index value ⌝ }
+    {
+        let len = self.ram_len(cartridge);
+        let source = self.source(cartridge, index);
+        let answer = source.stored(len, value);
+        let mapper = self.after(cartridge, index, value);
+        Written { mapper, answer }
+    }
+
+    // A new cartridge with its mapper as it starts; 3 for a description out of range.
+    pub fn fresh(kind: u8, banks: u16, code: u8) -> Fresh
+        ensures { λ r. ⌜ r ≡ fresh kind banks code ⌝ }
+    {
+        let none = Cartridge { banks: 0, code: 0 };
+        let cartridge = Cartridge { banks, code };
+        if 2 < kind {
+            return Fresh {
+                number: numbers::OUT_OF_RANGE,
+                cartridge: none,
+                mapper: Mapper::RomOnly,
+            };
+        }
+        let mapper = Mapper::start(kind);
+        if mapper.in_range(cartridge) {
+            return Fresh {
+                number: numbers::DONE,
+                cartridge,
+                mapper,
+            };
+        }
+        Fresh {
+            number: numbers::OUT_OF_RANGE,
+            cartridge: none,
+            mapper: Mapper::RomOnly,
+        }
+    }
+
+    // The Rust's `read_byte`: 3, 4 and 7 refuse, with 0.
+    pub fn read_byte(self, cartridge: Cartridge, rom: &[u8], save: &[u8], index: u16) -> ReadByte
+        ensures { λ r. ⌜ r ≡ readByte cartridge self (now (rom .entry)) (now (save .entry)) index ⌝ }
+    {
+        if !self.in_range(cartridge) {
+            return refused_read(numbers::OUT_OF_RANGE);
+        }
+        if !self.lengths(cartridge, rom.len(), save.len()) {
+            return refused_read(numbers::WRONG_LENGTH);
+        }
+        if !is_mapped(index) {
+            return refused_read(numbers::OUTSIDE);
+        }
+        ReadByte {
+            number: numbers::DONE,
+            value: self.read(cartridge, rom, save, index),
+        }
+    }
+
+    // The Rust's `write_byte`: 3 and 7 refuse, and change nothing.
+    pub fn write_byte(self, cartridge: Cartridge, index: u16, value: u8) -> WriteByte
+        ensures { λ r. ⌜ r ≡ writeByte cartridge self index value ⌝ }
+    {
+        if !self.in_range(cartridge) {
+            return WriteByte {
+                number: numbers::OUT_OF_RANGE,
+                mapper: self,
+                answer: Answer::NotStored,
+            };
+        }
+        if !is_mapped(index) {
+            return WriteByte {
+                number: numbers::OUTSIDE,
+                mapper: self,
+                answer: Answer::NotStored,
+            };
+        }
+        let done = self.write(cartridge, index, value);
+        let mapper = done.mapper;
+        let answer = done.answer;
+        WriteByte {
+            number: numbers::DONE,
+            mapper,
+            answer,
+        }
+    }
+}

@@ -1,0 +1,192 @@
+// MBC1, as the Rust's mbc1.rs: five registers.
+use crate::cartridge::Cartridge;
+use crate::mbc::Source;
+use crate::mbc::ram_address;
+use crate::mbc::rom_address;
+ghost use mathlib.Core.Path.{_≡_};
+ghost use mathlib.Core.Bool.{true};
+ghost use Prim.Native.Nat.{_<_, _≤_};
+ghost use Rattle.mbc.specs.PanDocs.{mbc1Bank};
+ghost use Rattle.mbc.specs.Mbc.{start1, inRange, held, suits, mapped, ramBank1, source, enable1, low1, high1, mode1, after1};
+ghost use Rattle.mbc.specs.declared.mbc.Mapper.the-variants as mapper;
+
+pub struct Mbc1 {
+    // The ROM bank at 4000..7FFF.
+    pub rom: u8,
+    pub ram: u8,
+    // Banking mode.
+    pub mode: bool,
+    pub enabled: bool,
+    // The upper two bits of the ROM bank.
+    pub high: u8,
+}
+
+// Five bits and the two above them, with the Rust's step from 00, 20, 40, 60: Pan Docs' rule on the five bits.
+fn combined(five: u8, two: u8) -> u8
+    requires { ⌜ two ≤ 3 ⌝ }
+    ensures { λ r. ⌜ r ≡ mbc1Bank five two ⌝ }
+{
+    let bank = five % 32 + two * 32;
+    match bank {
+        0x00 | 0x20 | 0x40 | 0x60 => bank + 1,
+        _ => bank,
+    }
+}
+
+impl Mbc1 {
+    pub fn new() -> Mbc1
+        ensures { λ r. ⌜ r ≡ start1 ⌝ }
+    {
+        Mbc1 {
+            rom: 1,
+            ram: 0,
+            mode: false,
+            enabled: false,
+            high: 0,
+        }
+    }
+
+    // RAM enabled needs code 2 or 3; banking mode or a RAM bank above 0 needs code 3.
+    fn suits(self, code: u8) -> bool
+        ensures { λ r. ⌜ r ≡ suits self code ⌝ }
+    {
+        if code == 3 {
+            return true;
+        }
+        if self.mode {
+            return false;
+        }
+        if 0 < self.ram {
+            return false;
+        }
+        if code == 2 {
+            return true;
+        }
+        !self.enabled
+    }
+
+    fn held(self, cartridge: Cartridge) -> bool
+        ensures { λ r. ⌜ r ≡ held cartridge (mapper.Mbc1 self) ⌝ }
+    {
+        let rom = self.rom as u16;
+        let ram = self.ram;
+        let high = self.high;
+        if cartridge.banks <= rom {
+            return false;
+        }
+        if 3 < ram {
+            return false;
+        }
+        if 3 < high {
+            return false;
+        }
+        self.suits(cartridge.code)
+    }
+
+    pub fn in_range(self, cartridge: Cartridge) -> bool
+        ensures { λ r. ⌜ r ≡ inRange cartridge (mapper.Mbc1 self) ⌝ }
+    {
+        if cartridge.describes(128) {
+            return self.held(cartridge);
+        }
+        false
+    }
+
+    // The RAM bank at A000..BFFF.
+    fn ram_bank(self) -> u8
+        ensures { λ r. ⌜ r ≡ ramBank1 self ⌝ }
+    {
+        if self.mode {
+            return self.ram;
+        }
+        0
+    }
+
+    pub fn source(self, cartridge: Cartridge, index: u16) -> Source
+        requires { ⌜ mapped index ≡ true ⌝ }
+        ensures { λ r. ⌜ r ≡ source cartridge (mapper.Mbc1 self) index ⌝ }
+    {
+        if index < 0x4000 {
+            return Source::Rom(index as usize);
+        }
+        if index < 0x8000 {
+            return Source::Rom(rom_address(self.rom, index));
+        }
+        if self.enabled {
+            let bank = self.ram_bank();
+            return Source::Save(ram_address(bank, index));
+        }
+        Source::Fixed(0xFF)
+    }
+
+    // 0000..1FFF
+    fn enable(self, cartridge: Cartridge, value: u8) -> Mbc1
+        ensures { λ r. ⌜ r ≡ enable1 cartridge self value ⌝ }
+    {
+        if cartridge.code == 0 {
+            return self;
+        }
+        let mut next = self;
+        next.enabled = value % 16 == 0x0A;
+        next
+    }
+
+    // 2000..3FFF: in banking mode the upper bits are left out.
+    fn select_low(self, cartridge: Cartridge, value: u8) -> Mbc1
+        requires { ⌜ (self .high ≤ 3) × (0 < cartridge .banks) ⌝ }
+        ensures { λ r. ⌜ r ≡ low1 cartridge self value ⌝ }
+    {
+        let mut next = self;
+        if self.mode {
+            next.rom = cartridge.masked(combined(value, 0));
+            return next;
+        }
+        next.rom = cartridge.masked(combined(value, self.high));
+        next
+    }
+
+    // 4000..5FFF: the RAM bank in banking mode, else the upper bits of the ROM bank.
+    fn select_high(self, cartridge: Cartridge, value: u8) -> Mbc1
+        requires { ⌜ (0 < cartridge .banks) × ((self .mode ≡ true) → cartridge .code ≡ 3) ⌝ }
+        ensures { λ r. ⌜ r ≡ high1 cartridge self value ⌝ }
+    {
+        let mut next = self;
+        if self.mode {
+            next.ram = value % 4 % cartridge.ram_banks();
+            return next;
+        }
+        let high = value % 4;
+        next.high = high;
+        next.rom = cartridge.masked(combined(self.rom, high));
+        next
+    }
+
+    // 6000..7FFF: banking mode only with several RAM banks.
+    fn select_mode(self, cartridge: Cartridge, value: u8) -> Mbc1
+        ensures { λ r. ⌜ r ≡ mode1 cartridge self value ⌝ }
+    {
+        let mut next = self;
+        if value % 2 == 1 {
+            if cartridge.code == 3 {
+                next.mode = true;
+                return next;
+            }
+            return self;
+        }
+        next.mode = false;
+        next
+    }
+
+    pub fn after(self, cartridge: Cartridge, index: u16, value: u8) -> Mbc1
+        requires { ⌜ inRange cartridge (mapper.Mbc1 self) ≡ true ⌝ }
+        ensures { λ r. ⌜ r ≡ after1 cartridge self index value ⌝ }
+    {
+        match index {
+            0x0000..=0x1FFF => self.enable(cartridge, value),
+            0x2000..=0x3FFF => self.select_low(cartridge, value),
+            0x4000..=0x5FFF => self.select_high(cartridge, value),
+            0x6000..=0x7FFF => self.select_mode(cartridge, value),
+            _ => self,
+        }
+    }
+}

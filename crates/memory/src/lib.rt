@@ -1,0 +1,254 @@
+// The state of the bus, as the Rust's `Memory` without what is lent: its groups, its ranges, and how it starts.
+// The groups are the records of the crates below; the lent memories are slices, which the calls take beside the state.
+ghost use mathlib.Core.Path.{_≡_};
+ghost use Prim.Native.Nat.{_<_};
+ghost use Rattle.memory.specs.Ranges.{banksInRange, hdmaInRange, stateInRange, inRange, vramLen, wramLen};
+ghost use Rattle.memory.specs.Start.{zeroed, startHdma, started};
+ghost use Rattle.memory.specs.World.{withMapper, withUsed};
+
+mod start;
+
+use hdma::Hdma;
+use joypad::Controller;
+use lcd::Lcd;
+use mbc::Cartridge;
+use mbc::Mapper;
+use palette::Color;
+pub use start::start_page;
+
+// `is_cgb`, `vram_bank` and `wram_bank`.
+pub struct Banks {
+    pub colour: bool,
+    pub vram: u8,
+    pub wram: u8,
+}
+
+// `div_cycles` and `tima_cycles`.
+pub struct Clock {
+    pub div: u8,
+    pub tima: u16,
+}
+
+pub struct Memory {
+    pub oam: [u8; 256],
+    // The Rust's `high_ram`: FF00..FFFF.
+    pub page: [u8; 256],
+    pub background: [Color; 32],
+    pub sprites: [Color; 32],
+    pub banks: Banks,
+    pub lcd: Lcd,
+    pub hdma: Hdma,
+    pub joypad: Controller,
+    pub clock: Clock,
+    pub cartridge: Cartridge,
+    pub mapper: Mapper,
+    // The bytes of the log that are used.
+    pub used: u16,
+}
+
+// The state with another mapper; a field that is an enum is not stored to, so the record is made anew.
+pub fn with_mapper(memory: Memory, mapper: Mapper) -> Memory
+    ensures { λ r. ⌜ r ≡ withMapper memory mapper ⌝ }
+{
+    let oam = memory.oam;
+    let page = memory.page;
+    let background = memory.background;
+    let sprites = memory.sprites;
+    let banks = memory.banks;
+    let lcd = memory.lcd;
+    let hdma = memory.hdma;
+    let joypad = memory.joypad;
+    let clock = memory.clock;
+    let cartridge = memory.cartridge;
+    Memory {
+        oam: oam,
+        page: page,
+        background: background,
+        sprites: sprites,
+        banks: banks,
+        lcd: lcd,
+        hdma: hdma,
+        joypad: joypad,
+        clock: clock,
+        cartridge: cartridge,
+        mapper: mapper,
+        used: memory.used,
+    }
+}
+
+pub fn with_used(memory: Memory, used: u16) -> Memory
+    ensures { λ r. ⌜ r ≡ withUsed memory used ⌝ }
+{
+    let mut next = memory;
+    next.used = used;
+    next
+}
+
+// Bytes of video memory.
+pub fn vram_len(colour: bool) -> usize
+    ensures { λ r. ⌜ r ≡ vramLen colour ⌝ }
+{
+    if colour { 0x4000 } else { 0x2000 }
+}
+
+// Bytes of work memory.
+pub fn wram_len(colour: bool) -> usize
+    ensures { λ r. ⌜ r ≡ wramLen colour ⌝ }
+{
+    if colour { 0x8000 } else { 0x2000 }
+}
+
+fn banks_in_range(banks: Banks) -> bool
+    ensures { λ r. ⌜ r ≡ banksInRange banks ⌝ }
+{
+    if banks.colour {
+        if 1 < banks.vram {
+            return false;
+        }
+        if banks.wram < 1 {
+            return false;
+        }
+        return banks.wram <= 7;
+    }
+    if banks.vram != 0 {
+        return false;
+    }
+    banks.wram == 1
+}
+
+fn hdma_in_range(hdma: Hdma, colour: bool) -> bool
+    ensures { λ r. ⌜ r ≡ hdmaInRange hdma colour ⌝ }
+{
+    if hdma.source % 16 != 0 {
+        return false;
+    }
+    if hdma.destination % 16 != 0 {
+        return false;
+    }
+    if colour {
+        return true;
+    }
+    !hdma.on
+}
+
+// The ranges of all but the log use.
+pub fn state_in_range(memory: Memory) -> bool
+    ensures { λ r. ⌜ r ≡ stateInRange memory ⌝ }
+{
+    let banks = memory.banks;
+    if !banks_in_range(banks) {
+        return false;
+    }
+    let hdma = memory.hdma;
+    if !hdma_in_range(hdma, banks.colour) {
+        return false;
+    }
+    let clock = memory.clock;
+    if 1023 < clock.tima {
+        return false;
+    }
+    let mapper = memory.mapper;
+    let cartridge = memory.cartridge;
+    if !mapper.in_range(cartridge) {
+        return false;
+    }
+    let background = memory.background;
+    if !palette::colors_in_range(background) {
+        return false;
+    }
+    let sprites = memory.sprites;
+    palette::colors_in_range(sprites)
+}
+
+// All ranges; `limit` is the lent log's length, or 65,535 where none is lent.
+pub fn in_range(memory: Memory, limit: usize) -> bool
+    ensures { λ r. ⌜ r ≡ inRange memory limit ⌝ }
+{
+    if !state_in_range(memory) {
+        return false;
+    }
+    savelog::use_in_range(memory.used, limit)
+}
+
+// The state that a refused fresh start gives. It is out of range: it has no WRAM bank.
+pub fn zero() -> Memory
+    ensures { λ r. ⌜ r ≡ zeroed ⌝ }
+{
+    let black = Color {
+        red: 0,
+        green: 0,
+        blue: 0,
+    };
+    Memory {
+        oam: [0; 256],
+        page: [0; 256],
+        background: [black; 32],
+        sprites: [black; 32],
+        banks: Banks {
+            colour: false,
+            vram: 0,
+            wram: 0,
+        },
+        lcd: lcd::host(false, 0, 0, 0, 0, 0, 0, 0),
+        hdma: Hdma {
+            on: false,
+            source: 0,
+            destination: 0,
+        },
+        joypad: Controller {
+            released: 0,
+            action: false,
+            direction: false,
+            state: 0,
+        },
+        clock: Clock { div: 0, tima: 0 },
+        cartridge: Cartridge { banks: 0, code: 0 },
+        mapper: Mapper::RomOnly,
+        used: 0,
+    }
+}
+
+// The hidden addresses at the start: those of the colour page, or 0.
+fn start_hdma(colour: bool, page: [u8; 256]) -> Hdma
+    ensures { λ r. ⌜ r ≡ startHdma colour page ⌝ }
+{
+    if colour {
+        return hdma::start_of(page[0x51], page[0x52], page[0x53], page[0x54]);
+    }
+    Hdma {
+        on: false,
+        source: 0,
+        destination: 0,
+    }
+}
+
+// The Rust's `from_cartridge`.
+pub fn new(cartridge: Cartridge, mapper: Mapper, colour: bool) -> Memory
+    ensures { λ r. ⌜ r ≡ started cartridge mapper colour ⌝ }
+{
+    let page = start_page(colour);
+    let hdma = start_hdma(colour, page);
+    let black = Color {
+        red: 0,
+        green: 0,
+        blue: 0,
+    };
+    Memory {
+        oam: [0; 256],
+        page: page,
+        background: [black; 32],
+        sprites: [black; 32],
+        banks: Banks {
+            colour: colour,
+            vram: 0,
+            wram: 1,
+        },
+        lcd: lcd::host(false, 144, 0, 1, 0, 0, 0, 0),
+        hdma: hdma,
+        joypad: Controller::new(),
+        clock: Clock { div: 0, tima: 0 },
+        cartridge: cartridge,
+        mapper: mapper,
+        used: 0,
+    }
+}

@@ -1,0 +1,2 @@
+pub mod Show
+pub mod Files

@@ -1,0 +1,24 @@
+-- In colour the bank is selected, else the byte is stored.
+use mathlib.Core.Path.{sym, _∙_}
+use Rattle.rules.proofs.Tests.{cond-true, cond-false}
+use Rattle.registers.specs.Colour.{vramBankPut}
+use borrow.Author.Needs.{needs}
+use Rattle.registers.proofs.colour.write_vram_bank.Statement.{statement}
+use Rattle.registers.proofs.colour.write_vram_bank.Tie as tie
+
+element-write-next : tie.Need-element-write-next
+element-write-next c = search needs
+
+returns : tie.Need-returns
+unfolding vramBankPut
+returns c = rw (c .if1 .taken)
+
+store-requires : tie.Need-store-requires
+store-requires c κs = search needs
+
+returns-2 : tie.Need-returns-2
+unfolding vramBankPut
+returns-2 c = c .store .ensures ∙ sym (cond-false _ _ _ (c .before .if1 .left))
+
+pub write-vram-bank-spec : {M : Type 1} → statement M
+write-vram-bank-spec = tie.close (tie.spec element-write-next returns store-requires returns-2)

@@ -1,0 +1,29 @@
+-- In colour what the crate hdma gives, else the byte.
+use mathlib.Core.Path.{sym, _∙_}
+use Rattle.rules.proofs.Tests.{cond-true, cond-false}
+use Rattle.registers.specs.Transfers.{destinationHighPut}
+use borrow.Author.Needs.{needs}
+use Rattle.registers.proofs.transfers.write_destination_high.Statement.{statement}
+use Rattle.registers.proofs.transfers.write_destination_high.Tie as tie
+
+write-destination-high-requires : tie.Need-write-destination-high-requires
+write-destination-high-requires c κs = search needs
+
+element-write-next : tie.Need-element-write-next
+element-write-next c = search needs
+
+returns : tie.Need-returns
+unfolding destinationHighPut
+returns c = rw (c .before .before .before .if1 .taken, c .before .write-destination-high .ensures)
+
+store-requires : tie.Need-store-requires
+store-requires c κs = search needs
+
+returns-2 : tie.Need-returns-2
+unfolding destinationHighPut
+returns-2 c = c .store .ensures ∙ sym (cond-false _ _ _ (c .before .if1 .left))
+
+pub write-destination-high-spec : {M : Type 1} → statement M
+write-destination-high-spec =
+    tie.close
+    (tie.spec write-destination-high-requires element-write-next returns store-requires returns-2)

@@ -1,0 +1,5 @@
+pub mod State
+pub mod PanDocs
+pub mod Colour
+pub mod Transfers
+pub mod Page

@@ -1,0 +1,78 @@
+-- What FF00 + at reads, and what a byte write stores there (document 01, "The bus": "Reads with bits forced", "Writes", "Colour only").
+use mathlib.Core.Bool.{cond}
+use mathlib.Core.List.{List}
+use Prim.Native.Nat.{ℕ, _-_, _%_}
+use lib.Bits.{bitOr}
+use lib.Dec.{eqb, ltb}
+use lib.ListN.{getD}
+use Rattle.joypad.specs.Joypad.{padRead}
+use Rattle.lcd.specs.Lcd.{scanlineWritten, lycWritten, controlWritten, statusWritten}
+use Rattle.memory.specs.declared.Memory.{Memory}
+use Rattle.registers.specs.Colour.{speedPut, vramBankPut, wramBankPut, backgroundIndexPut, backgroundDataPut, spriteIndexPut, spriteDataPut}
+use Rattle.registers.specs.State.{loaded, stored, onScreen}
+use Rattle.registers.specs.Transfers.{sourceHighPut, sourceLowPut, destinationHighPut, destinationLowPut, startPut}
+
+-- colour gives one byte, monochrome another
+unfoldable pub byKind : Memory → ℕ → ℕ → ℕ
+byKind m colour monochrome = cond (m .banks .colour) colour monochrome
+
+-- FF44 gives the scan line, or 0 with the screen disabled
+unfoldable pub lineRead : Memory → ℕ
+lineRead m = cond (m .lcd .disabled) 0 (m .lcd .line)
+
+-- a register as stored, with bits forced
+abbrev pub forced : Memory → ℕ → ℕ → ℕ
+forced m at bits = bitOr (loaded m at) bits
+
+-- the rest of the page: FF10..FF3F reads the sound window, all else as stored
+unfoldable pub plainRead : Memory → List ℕ → ℕ → ℕ
+plainRead m sound at = cond (ltb at 0x10) (loaded m at) (cond (ltb at 0x40) (getD sound (at - 0x10) 0) (loaded m at))
+
+unfoldable pub readRegister : Memory → List ℕ → ℕ → ℕ
+readRegister m sound at =
+    cond (eqb at 0x00) (padRead (loaded m 0x00) (m .joypad .state))
+    (cond (eqb at 0x03) 0xFF
+    (cond (eqb at 0x07) (forced m 0x07 0xF8)
+    (cond (eqb at 0x0E) 0xFF
+    (cond (eqb at 0x0F) (forced m 0x0F 0xE0)
+    (cond (eqb at 0x41) (forced m 0x41 0x80)
+    (cond (eqb at 0x44) (lineRead m)
+    (cond (eqb at 0x4C) 0xFF
+    (cond (eqb at 0x4F) (forced m 0x4F 0xFE)
+    (cond (eqb at 0x68) (byKind m (forced m 0x68 0x40) 0xC0)
+    (cond (eqb at 0x69) (byKind m (forced m 0x69 0xF8) 0xFF)
+    (cond (eqb at 0x6A) (byKind m (forced m 0x6A 0x40) 0xC0)
+    (cond (eqb at 0x6B) (byKind m (forced m 0x6B 0xF8) 0xFF)
+    (cond (eqb at 0x70) (byKind m (forced m 0x70 0x40) 0xFF)
+    (cond (eqb at 0x76) (byKind m 0x00 0xFF)
+    (cond (eqb at 0x77) (byKind m 0x00 0xFF)
+    (plainRead m sound at))))))))))))))))
+
+-- the rest of the page: a write in FF10..FF3F changes no bus byte, all else is stored
+unfoldable pub plainWrite : Memory → ℕ → ℕ → Memory
+plainWrite m at v = cond (ltb at 0x10) (stored m at v) (cond (ltb at 0x40) m (stored m at v))
+
+unfoldable pub writeRegister : Memory → ℕ → ℕ → Memory
+writeRegister m at v =
+    cond (eqb at 0x04) (stored m 0x04 0)
+    (cond (eqb at 0x0F) (stored m 0x0F (v % 32))
+    (cond (eqb at 0x40) (onScreen (λ s. controlWritten s v) m)
+    (cond (eqb at 0x41) (onScreen (λ s. statusWritten s v) m)
+    (cond (eqb at 0x44) (onScreen (λ s. scanlineWritten s v) m)
+    (cond (eqb at 0x45) (onScreen (λ s. lycWritten s v) m)
+    (cond (eqb at 0x4D) (speedPut m v)
+    (cond (eqb at 0x4F) (vramBankPut m v)
+    (cond (eqb at 0x51) (sourceHighPut m v)
+    (cond (eqb at 0x52) (sourceLowPut m v)
+    (cond (eqb at 0x53) (destinationHighPut m v)
+    (cond (eqb at 0x54) (destinationLowPut m v)
+    (cond (eqb at 0x55) (startPut m v)
+    (cond (eqb at 0x68) (backgroundIndexPut m v)
+    (cond (eqb at 0x69) (backgroundDataPut m v)
+    (cond (eqb at 0x6A) (spriteIndexPut m v)
+    (cond (eqb at 0x6B) (spriteDataPut m v)
+    (cond (eqb at 0x6C) (stored m 0x6C (bitOr v 0xFE))
+    (cond (eqb at 0x70) (wramBankPut m v)
+    (cond (eqb at 0x75) (stored m 0x75 (bitOr v 0x8F))
+    (cond (eqb at 0xFF) (stored m 0xFF (v % 32))
+    (plainWrite m at v)))))))))))))))))))))

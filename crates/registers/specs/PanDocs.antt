@@ -1,0 +1,27 @@
+-- From Pan Docs, "CGB Registers": what FF4D, FF4F and FF70 keep and select.
+use mathlib.Core.Bool.{cond}
+use Prim.Native.Nat.{ℕ, _+_, _*_, _/_, _%_}
+use lib.Dec.{eqb}
+
+-- FF4D: bit 7 the speed, read-only; bit 0 armed. The other bits read 1
+abbrev pub speedOf : ℕ → ℕ → ℕ
+speedOf current value = current / 128 * 128 + value % 2 + 126
+
+-- FF4F: bit 0 selects the bank of video memory
+abbrev pub vramBankOf : ℕ → ℕ
+vramBankOf value = value % 2
+
+-- FF70: bits 2..0 select the bank of work memory at D000; 0 selects 1
+unfoldable pub wramBankOf : ℕ → ℕ
+wramBankOf value = cond (eqb (value % 8) 0) 1 (value % 8)
+
+-- OAM DMA Transfer: XX00..XX9F to FE00..FE9F
+abbrev pub oamBytes : ℕ
+oamBytes = 160
+
+abbrev pub oamStart : ℕ
+oamStart = 0xFE00
+
+-- Memory Map: video memory ends before A000
+abbrev pub vramEnd : ℕ
+vramEnd = 0xA000

@@ -1,0 +1,163 @@
+// The registers that only a colour machine has: monochrome just stores them.
+ghost use mathlib.Core.Path.{_≡_};
+ghost use Rattle.registers.specs.PanDocs.{speedOf, wramBankOf};
+ghost use Rattle.registers.specs.Colour.{speedPut, vramBankPut, wramBankPut, backgroundOf, withBackgroundPalette, spritesOf, withSpritePalette, backgroundIndexPut, backgroundDataPut, spriteIndexPut, spriteDataPut};
+use crate::store;
+use memory::Memory;
+use palette::Palette;
+
+// Bit 7 stays, bit 0 is armed, the others read 1.
+fn speed(current: u8, value: u8) -> u8
+    ensures { λ r. ⌜ r ≡ speedOf current value ⌝ }
+{
+    current / 128 * 128 + value % 2 + 126
+}
+
+// FF4D.
+pub fn write_speed(memory: Memory, value: u8) -> Memory
+    ensures { λ r. ⌜ r ≡ speedPut memory value ⌝ }
+{
+    let banks = memory.banks;
+    if banks.colour {
+        let next = speed(memory.page[0x4D], value);
+        return store(memory, 0x4D, next);
+    }
+    store(memory, 0x4D, value)
+}
+
+// FF4F.
+pub fn write_vram_bank(memory: Memory, value: u8) -> Memory
+    ensures { λ r. ⌜ r ≡ vramBankPut memory value ⌝ }
+{
+    let mut banks = memory.banks;
+    if banks.colour {
+        banks.vram = value % 2;
+        let mut next = memory;
+        next.page[0x4F] = value % 2;
+        next.banks = banks;
+        return next;
+    }
+    store(memory, 0x4F, value)
+}
+
+// The bank that FF70 selects: 0 selects 1.
+fn wram_bank(value: u8) -> u8
+    ensures { λ r. ⌜ r ≡ wramBankOf value ⌝ }
+{
+    let bank = value % 8;
+    if bank == 0 {
+        return 1;
+    }
+    bank
+}
+
+// FF70.
+pub fn write_wram_bank(memory: Memory, value: u8) -> Memory
+    ensures { λ r. ⌜ r ≡ wramBankPut memory value ⌝ }
+{
+    let mut banks = memory.banks;
+    if banks.colour {
+        banks.wram = wram_bank(value);
+        let mut next = memory;
+        next.page[0x70] = value % 8;
+        next.banks = banks;
+        return next;
+    }
+    store(memory, 0x70, value)
+}
+
+fn background_of(memory: Memory) -> Palette
+    ensures { λ r. ⌜ r ≡ backgroundOf memory ⌝ }
+{
+    let colors = memory.background;
+    Palette {
+        index: memory.page[0x68],
+        data: memory.page[0x69],
+        colors: colors,
+    }
+}
+
+fn with_background(memory: Memory, palette: Palette) -> Memory
+    ensures { λ r. ⌜ r ≡ withBackgroundPalette memory palette ⌝ }
+{
+    let colors = palette.colors;
+    let mut next = memory;
+    next.page[0x68] = palette.index;
+    next.page[0x69] = palette.data;
+    next.background = colors;
+    next
+}
+
+fn sprites_of(memory: Memory) -> Palette
+    ensures { λ r. ⌜ r ≡ spritesOf memory ⌝ }
+{
+    let colors = memory.sprites;
+    Palette {
+        index: memory.page[0x6A],
+        data: memory.page[0x6B],
+        colors: colors,
+    }
+}
+
+fn with_sprites(memory: Memory, palette: Palette) -> Memory
+    ensures { λ r. ⌜ r ≡ withSpritePalette memory palette ⌝ }
+{
+    let colors = palette.colors;
+    let mut next = memory;
+    next.page[0x6A] = palette.index;
+    next.page[0x6B] = palette.data;
+    next.sprites = colors;
+    next
+}
+
+// FF68.
+pub fn write_background_index(memory: Memory, value: u8) -> Memory
+    ensures { λ r. ⌜ r ≡ backgroundIndexPut memory value ⌝ }
+{
+    let banks = memory.banks;
+    if banks.colour {
+        let palette = background_of(memory);
+        let next = palette::write_index(palette, value);
+        return with_background(memory, next);
+    }
+    store(memory, 0x68, value)
+}
+
+// FF69.
+pub fn write_background_data(memory: Memory, value: u8) -> Memory
+    ensures { λ r. ⌜ r ≡ backgroundDataPut memory value ⌝ }
+{
+    let banks = memory.banks;
+    if banks.colour {
+        let palette = background_of(memory);
+        let next = palette::write_data(palette, value);
+        return with_background(memory, next);
+    }
+    store(memory, 0x69, value)
+}
+
+// FF6A.
+pub fn write_sprite_index(memory: Memory, value: u8) -> Memory
+    ensures { λ r. ⌜ r ≡ spriteIndexPut memory value ⌝ }
+{
+    let banks = memory.banks;
+    if banks.colour {
+        let palette = sprites_of(memory);
+        let next = palette::write_index(palette, value);
+        return with_sprites(memory, next);
+    }
+    store(memory, 0x6A, value)
+}
+
+// FF6B.
+pub fn write_sprite_data(memory: Memory, value: u8) -> Memory
+    ensures { λ r. ⌜ r ≡ spriteDataPut memory value ⌝ }
+{
+    let banks = memory.banks;
+    if banks.colour {
+        let palette = sprites_of(memory);
+        let next = palette::write_data(palette, value);
+        return with_sprites(memory, next);
+    }
+    store(memory, 0x6B, value)
+}

@@ -1,0 +1,113 @@
+// Interrupts, the timer and the joypad on the state: FF00, FF04..FF07, FF0F and FFFF of the page with the groups that belong to them.
+ghost use mathlib.Core.Path.{_≡_};
+ghost use Rattle.interrupt.specs.PanDocs.{firstOf};
+ghost use Rattle.joypad.specs.Joypad.{withState, padRead, actionsAnswer, directionsAnswer};
+ghost use Rattle.registers.specs.State.{loaded, timerOf, withTimer, requestedIn, removedIn, withController, polledIn};
+use interrupt::Interrupt;
+use interrupt::Pending;
+use joypad::Controller;
+use memory::Memory;
+use timer::Timer;
+
+pub fn request_interrupt(memory: Memory, interrupt: Interrupt) -> Memory
+    ensures { λ r. ⌜ r ≡ requestedIn memory interrupt ⌝ }
+{
+    let flags = interrupt::request(memory.page[0x0F], interrupt);
+    let mut next = memory;
+    next.page[0x0F] = flags;
+    next
+}
+
+pub fn remove_interrupt(memory: Memory, interrupt: Interrupt) -> Memory
+    ensures { λ r. ⌜ r ≡ removedIn memory interrupt ⌝ }
+{
+    let flags = interrupt::remove(memory.page[0x0F], interrupt);
+    let mut next = memory;
+    next.page[0x0F] = flags;
+    next
+}
+
+pub fn get_interrupts(memory: Memory) -> Pending
+    ensures { λ r. ⌜ r ≡ firstOf (loaded memory 0xFF) (loaded memory 0x0F) ⌝ }
+{
+    interrupt::get_interrupts(memory.page[0xFF], memory.page[0x0F])
+}
+
+pub fn timer_of(memory: Memory) -> Timer
+    ensures { λ r. ⌜ r ≡ timerOf memory ⌝ }
+{
+    let clock = memory.clock;
+    Timer {
+        div: memory.page[0x04],
+        tima: memory.page[0x05],
+        tma: memory.page[0x06],
+        tac: memory.page[0x07],
+        flags: memory.page[0x0F],
+        div_cycles: clock.div,
+        tima_cycles: clock.tima,
+    }
+}
+
+pub fn with_timer(memory: Memory, timer: Timer) -> Memory
+    ensures { λ r. ⌜ r ≡ withTimer memory timer ⌝ }
+{
+    let mut clock = memory.clock;
+    clock.div = timer.div_cycles;
+    clock.tima = timer.tima_cycles;
+    let mut next = memory;
+    next.page[0x04] = timer.div;
+    next.page[0x05] = timer.tima;
+    next.page[0x0F] = timer.flags;
+    next.clock = clock;
+    next
+}
+
+// The joypad with FF0F as it is.
+pub fn with_controller(memory: Memory, controller: Controller) -> Memory
+    ensures { λ r. ⌜ r ≡ withController memory controller ⌝ }
+{
+    let mut next = memory;
+    next.joypad = controller;
+    next
+}
+
+pub fn set_joypad_state(memory: Memory, state: u8) -> Memory
+    ensures { λ r. ⌜ r ≡ withController memory (withState (memory .joypad) state) ⌝ }
+{
+    let controller = memory.joypad;
+    let next = controller.set_joypad_state(state);
+    with_controller(memory, next)
+}
+
+// The Rust's Controller::update.
+pub fn update_joypad(memory: Memory) -> Memory
+    ensures { λ r. ⌜ r ≡ polledIn memory ⌝ }
+{
+    let controller = memory.joypad;
+    let polled = controller.update(memory.page[0x00], memory.page[0x0F]);
+    let after = polled.controller;
+    let mut next = memory;
+    next.page[0x0F] = polled.flags;
+    next.joypad = after;
+    next
+}
+
+pub fn are_action_keys_enabled(memory: Memory) -> bool
+    ensures { λ r. ⌜ r ≡ actionsAnswer (loaded memory 0) ⌝ }
+{
+    joypad::are_action_keys_enabled(memory.page[0x00])
+}
+
+pub fn are_direction_keys_enabled(memory: Memory) -> bool
+    ensures { λ r. ⌜ r ≡ directionsAnswer (loaded memory 0) ⌝ }
+{
+    joypad::are_direction_keys_enabled(memory.page[0x00])
+}
+
+// What FF00 reads: the Rust's `get_joypad_state`.
+pub fn get_joypad_state(memory: Memory) -> u8
+    ensures { λ r. ⌜ r ≡ padRead (loaded memory 0) (memory .joypad .state) ⌝ }
+{
+    let controller = memory.joypad;
+    joypad::read(memory.page[0x00], controller.state)
+}

@@ -1,0 +1,28 @@
+// The bus by value: what its registers FF00..FFFF read and store, and the Rust's functions on `Memory` that touch the state alone.
+// Each takes the state apart, calls the crate that knows the rule, and puts the state together again.
+ghost use mathlib.Core.Path.{_≡_};
+ghost use Rattle.registers.specs.State.{loaded, stored};
+use memory::Memory;
+
+pub mod colour;
+pub mod interrupts;
+pub mod page;
+pub mod screen;
+pub mod transfers;
+
+// FF00 + at, raw.
+pub fn load(memory: Memory, at: u8) -> u8
+    ensures { λ r. ⌜ r ≡ loaded memory at ⌝ }
+{
+    let i = at as usize;
+    memory.page[i]
+}
+
+pub fn store(memory: Memory, at: u8, value: u8) -> Memory
+    ensures { λ r. ⌜ r ≡ stored memory at value ⌝ }
+{
+    let i = at as usize;
+    let mut next = memory;
+    next.page[i] = value;
+    next
+}

@@ -1,0 +1,121 @@
+-- The save log: what its bytes mean, and what recovery does with them (document 01, "Save log and state image").
+-- The layout of a record stands in `width`, `addressEnd`, `recordBytes` and `fieldsOf` alone, the lengths in `saveLengths` and `logLimit` alone.
+use mathlib.Core.Bool.{Bool, true, false, cond, _&&_, _||_}
+use mathlib.Core.List.{List, [], _∷_, _++_}
+use Prim.Native.Nat.{ℕ, zero, suc, _+_, _-_, _*_, _/_, _%_}
+use lib.Dec.{leb, ltb, eqb}
+use lib.ListN.{length, take, drop, set}
+use Rattle.numbers.specs.Numbers.{done, wrongLength, damaged}
+
+-- Bytes stand most significant first: k bytes of a number, and the number that bytes make.
+unfoldable pub bytesOf : ℕ → ℕ → List ℕ
+bytesOf zero n = []
+bytesOf (suc k) n = bytesOf k (n / 256) ++ n % 256 ∷ []
+
+unfoldable pub numberFrom : ℕ → List ℕ → ℕ
+numberFrom n [] = n
+numberFrom n (b ∷ bs) = numberFrom (n * 256 + b) bs
+
+-- "One record per stored save byte"
+pub record Rec : Type 0 where
+  pub mark : ℕ
+  pub address : ℕ
+  pub value : ℕ
+
+-- a record's length in bytes, and where its addresses end: 15 bits
+abbrev pub width : ℕ
+width = 3
+
+abbrev pub addressEnd : ℕ
+addressEnd = 32768
+
+-- "most significant bit first: bit 1, address 15 bits, value 8 bits"
+unfoldable pub recordBytes : ℕ → ℕ → List ℕ
+recordBytes address value = bytesOf width ((1 * addressEnd + address) * 256 + value)
+
+-- the same three fields of that number, read back
+unfoldable pub fieldsOf : ℕ → Rec
+fieldsOf n = record { mark = n / 256 / addressEnd; address = n / 256 % addressEnd; value = n % 256 }
+
+abbrev pub recordOf : List ℕ → Rec
+recordOf bytes = fieldsOf (numberFrom 0 bytes)
+
+-- the record of a store that is not damaged
+abbrev pub stored : ℕ → ℕ → Rec
+stored address value = record { mark = 1; address = address; value = value }
+
+-- The first k records, and "whole records in order": what is left at the end is ignored.
+unfoldable pub firstRecords : ℕ → List ℕ → List Rec
+firstRecords zero log = []
+firstRecords (suc k) log = recordOf (take width log) ∷ firstRecords k (drop width log)
+
+unfoldable pub records : List ℕ → List Rec
+records log = firstRecords (length log / width) log
+
+-- "A record is damaged if its first bit is 0 or its address is not below the RAM length": sound is the opposite.
+abbrev pub soundRecord : ℕ → Rec → Bool
+soundRecord ram r = eqb (r .mark) 1 && ltb (r .address) ram
+
+unfoldable pub allSound : ℕ → List Rec → Bool
+allSound ram [] = true
+allSound ram (r ∷ rs) = soundRecord ram r && allSound ram rs
+
+-- "applies whole records in order"
+unfoldable pub applyAll : List ℕ → List Rec → List ℕ
+applyAll save [] = save
+applyAll save (r ∷ rs) = applyAll (set save (r .address) (r .value)) rs
+
+-- "Recovery takes a save of 0, 512, 8,192 or 32,768 bytes and a log of 0 to 65,535 bytes"
+unfoldable pub saveLengths : List ℕ
+saveLengths = 0 ∷ 512 ∷ 8192 ∷ 32768 ∷ []
+
+abbrev pub logLimit : ℕ
+logLimit = 65535
+
+unfoldable pub oneOf : ℕ → List ℕ → Bool
+oneOf n [] = false
+oneOf n (k ∷ ks) = eqb n k || oneOf n ks
+
+unfoldable pub lengthsFit : ℕ → ℕ → Bool
+lengthsFit save log = oneOf save saveLengths && leb log logLimit
+
+-- What recovery gives: its number, and the save as it is then.
+pub record Outcome : Type 0 where
+  pub number : ℕ
+  pub save : List ℕ
+
+abbrev pub outcome : ℕ → List ℕ → Outcome
+outcome n s = record { number = n; save = s }
+
+-- The lengths come first (4), then damage (6), each of which leaves the save; document 01, "Numbers a call gives back".
+unfoldable pub recovery : List ℕ → List ℕ → Outcome
+recovery save log =
+    cond (lengthsFit (length save) (length log))
+    (cond (allSound (length save) (records log)) (outcome done (applyAll save (records log))) (outcome damaged save))
+    (outcome wrongLength save)
+
+-- The log after an append at `used`: what was before and what was behind stays.
+unfoldable pub appended : List ℕ → ℕ → ℕ → ℕ → List ℕ
+appended log used address value = take used log ++ recordBytes address value ++ drop (used + width) log
+
+-- "Clearing sets use to 0 and leaves the bytes"
+abbrev pub clearedUse : ℕ
+clearedUse = 0
+
+-- "log use a multiple of 3 within the log" (document 01, state ranges)
+unfoldable pub useInRange : ℕ → ℕ → Bool
+useInRange used len = eqb (used % width) 0 && leb used len
+
+-- A host that clears a full log keeps a copy of it first. Recovery then goes copy by copy, over what the one before gave.
+unfoldable pub recoverAll : List ℕ → List (List ℕ) → List ℕ
+recoverAll save [] = save
+recoverAll save (c ∷ cs) = recoverAll (recovery save c .save) cs
+
+unfoldable pub joined : List (List ℕ) → List ℕ
+joined [] = []
+joined (c ∷ cs) = c ++ joined cs
+
+-- what is left of the copies where only the first n bytes of them all survive
+unfoldable pub cutCopies : ℕ → List (List ℕ) → List (List ℕ)
+cutCopies n [] = []
+cutCopies n (c ∷ cs) = take n c ∷ cutCopies (n - length c) cs

@@ -1,0 +1,19 @@
+-- Each promise is a law.
+use Rattle.timer.proofs.Laws.{clock-rises, tma-tac-stay, steps-compose, stays-in-range, corner-2, corner-3, steps-at-no-cycles}
+use Rattle.timer.proofs.promises_hold.Statement.{statement}
+use Rattle.timer.proofs.promises_hold.Tie as tie
+
+returns : tie.Need-returns
+returns c =
+    record {
+      clock-rises = clock-rises;
+      tma-tac-stay = tma-tac-stay;
+      steps-compose = steps-compose;
+      stays-in-range = stays-in-range;
+      corner-2 = corner-2;
+      corner-3 = corner-3;
+      steps-at-no-cycles = steps-at-no-cycles;
+    }
+
+pub promises-hold-spec : {M : Type 1} → statement M
+promises-hold-spec = tie.close (tie.spec returns)

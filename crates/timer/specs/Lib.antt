@@ -1,0 +1,3 @@
+pub mod PanDocs
+pub mod Timer
+pub mod Promises

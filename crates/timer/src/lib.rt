@@ -1,0 +1,134 @@
+// The timer: DIV and TIMA after a number of cycles, as the Rust's timer.rs, on a record by value. Leans on interrupt for FF0F.
+// Each register goes step by step: one step of DIV in 256 cycles, one of TIMA in a period of TAC.
+ghost use mathlib.Core.Path.{_≡_};
+ghost use Prim.Native.Nat.{_+_, _%_, _<_, _≤_};
+ghost use Rattle.timer.specs.PanDocs.{period, stepTima, steps};
+ghost use Rattle.timer.specs.Timer.{divided, counted, updateCall};
+ghost use Rattle.timer.specs.Promises.{Promises};
+use interrupt::Interrupt;
+
+pub mod lent;
+
+// FF04..FF07 and FF0F as the page stores them, with the two remainders.
+pub struct Timer {
+    pub div: u8,
+    pub tima: u8,
+    pub tma: u8,
+    pub tac: u8,
+    pub flags: u8,
+    pub div_cycles: u8,
+    pub tima_cycles: u16,
+}
+
+// The number, and the timer after the call.
+pub struct Updated {
+    pub number: u8,
+    pub timer: Timer,
+}
+
+// Cycles for one step of TIMA, by TAC's bits 1..0.
+const PERIODS: [u16; 4] = [1024, 16, 64, 256];
+
+fn period_of(tac: u8) -> u16
+    ensures { λ r. ⌜ (r ≡ period tac) × ((0 < r) × (r ≤ 1024)) ⌝ }
+{
+    let i = (tac % 4) as usize;
+    PERIODS[i]
+}
+
+// DIV after so many steps.
+fn step_div(div: u8, count: u32) -> u8
+    ensures { λ r. ⌜ r ≡ (div + count) % 256 ⌝ }
+{
+    let mut next = div;
+    let mut i: u32 = 0;
+    while i < count {
+        next = std::num::wrapping_add_u8(next, 1);
+        i += 1;
+    }
+    next
+}
+
+// One step of TIMA.
+fn step_tima(timer: Timer) -> Timer
+    ensures { λ r. ⌜ r ≡ stepTima timer ⌝ }
+{
+    let mut next = timer;
+    let tima = std::num::wrapping_add_u8(timer.tima, 1);
+    if tima == 0 {
+        let flags = interrupt::request(timer.flags, Interrupt::Timer);
+        next.tima = timer.tma;
+        next.flags = flags;
+        return next;
+    }
+    next.tima = tima;
+    next
+}
+
+// Many steps of TIMA.
+fn step_tima_by(timer: Timer, count: u32) -> Timer
+    ensures { λ r. ⌜ r ≡ steps count timer ⌝ }
+{
+    let mut next = timer;
+    let mut i: u32 = 0;
+    while i < count {
+        next = step_tima(next);
+        i += 1;
+    }
+    next
+}
+
+fn update_div(timer: Timer, cycles: u32) -> Timer
+    requires { ⌜ cycles ≤ 65536 ⌝ }
+    ensures { λ r. ⌜ r ≡ divided timer cycles ⌝ }
+{
+    let total = timer.div_cycles as u32 + cycles;
+    let div = step_div(timer.div, total / 256);
+    let mut next = timer;
+    next.div = div;
+    next.div_cycles = (total % 256) as u8;
+    next
+}
+
+fn update_tima(timer: Timer, cycles: u32) -> Timer
+    requires { ⌜ (timer .«tima_cycles» < 1024) × (cycles ≤ 65536) ⌝ }
+    ensures { λ r. ⌜ r ≡ counted timer cycles ⌝ }
+{
+    if bit_utils::within::is_set(timer.tac, 2) {
+        let period = period_of(timer.tac) as u32;
+        let total = timer.tima_cycles as u32 + cycles;
+        let mut next = step_tima_by(timer, total / period);
+        next.tima_cycles = (total % period) as u16;
+        return next;
+    }
+    timer
+}
+
+// The Rust's Timer::update.
+pub fn update(timer: Timer, cycles: u32) -> Updated
+    ensures { λ r. ⌜ r ≡ updateCall timer cycles ⌝ }
+{
+    if 1023 < timer.tima_cycles {
+        return Updated {
+            number: numbers::OUT_OF_RANGE,
+            timer: timer,
+        };
+    }
+    if 65536 < cycles {
+        return Updated {
+            number: numbers::TOO_MANY_CYCLES,
+            timer: timer,
+        };
+    }
+    let divided = update_div(timer, cycles);
+    let next = update_tima(divided, cycles);
+    Updated {
+        number: numbers::DONE,
+        timer: next,
+    }
+}
+
+// The laws of specs/Promises.antt, as a contract: its proof hands them over.
+pub fn promises_hold()
+    ensures { λ _. ⌜ Promises ⌝ }
+{}
