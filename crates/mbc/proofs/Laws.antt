@@ -256,6 +256,11 @@ in-range-after c (Mbc2 m) index value e =
     (λ o. in-range2 c m selected e (mod-lt (mbc2Bank value) some)) (λ z. e))
     (λ f. e))
 
+-- the all-zero state, which a refused fresh mapper gives, is itself refused
+pub zero-refused : inRange (cartridgeOf 0 0) RomOnly ≡ false
+unfolding inRange described hasBanks
+zero-refused = refl
+
 -- document 01, corners 10 and 11
 
 pub corner-10-low : romBank (after (cartridgeOf 4 0) (Mbc1 start1) 0x2000 0x10) ≡ 0

@@ -1,4 +1,4 @@
--- The mappers as document 01 has them: descriptions, state ranges, reads, and what a write does. A further mapper is one more case of
+-- The mappers as document 01 has them (sections are named in quotes): descriptions, state ranges, reads, writes. A further mapper is one more case of
 -- `described`, `held`, `romBank`, `ramSource`, `after` and `ramLen`; the rest is common. Pan Docs' pieces are in specs/PanDocs.antt.
 use mathlib.Core.Bool.{Bool, true, false, cond, not, _&&_, _||_}
 use mathlib.Core.List.{List, [], _∷_}
@@ -42,7 +42,7 @@ ramLen c RomOnly = ramBanks (c .code) * 0x2000
 ramLen c (Mbc1 m) = ramBanks (c .code) * 0x2000
 ramLen c (Mbc2 m) = 512
 
--- N is a power of two, at most `most`
+-- N is a power of two, from 2 to `most`
 unfoldable pub hasBanks : ℕ → Cartridge → Bool
 hasBanks most c = leb (c .banks) most && oneOf (2 ∷ 4 ∷ 8 ∷ 16 ∷ 32 ∷ 64 ∷ 128 ∷ []) (c .banks)
 
@@ -81,7 +81,7 @@ start2 = record { rom = 1; enabled = false }
 unfoldable pub start : ℕ → Mapper
 start kind = cond (eqb kind 0) RomOnly (cond (eqb kind 1) (Mbc1 start1) (Mbc2 start2))
 
--- "Mappers", reads: rom_only.rs, mbc1.rs, mbc2.rs
+-- "Mappers", reads, as rom_only.rs, mbc1.rs, mbc2.rs: first where the byte is found
 
 -- the ROM bank at 4000..7FFF
 abbrev pub romBank : Mapper → ℕ
@@ -100,12 +100,14 @@ ramSource c (Mbc1 m) index = cond (m .enabled) (Save (ramAddress (ramBank1 m) in
 ramSource c (Mbc2 m) index =
     cond (ltb index 0xA200) (cond (m .enabled) (Half (ramAddress 0 index)) (Fixed offByte)) (Fixed 0)
 
+-- Memory Map: the first bank, the bank that is selected, cartridge RAM
 unfoldable pub source : Cartridge → Mapper → ℕ → Source
 source c m index =
     cond (ltb index 0x4000) (Rom index)
     (cond (ltb index 0x8000) (Rom (romAddress (romBank m) index))
     (ramSource c m index))
 
+-- and then the byte
 abbrev pub byteOf : List ℕ → List ℕ → Source → ℕ
 byteOf rom save (Rom at) = getD rom at 0
 byteOf rom save (Save at) = getD save at 0
@@ -197,6 +199,7 @@ written c m index value = record { mapper = after c m index value; answer = answ
 abbrev pub cartridgeOf : ℕ → ℕ → Cartridge
 cartridgeOf banks code = record { banks = banks; code = code }
 
+-- "Numbers a call gives back", 3: a description out of range gives the all-zero state
 unfoldable pub fresh : ℕ → ℕ → ℕ → Fresh
 fresh kind banks code =
     cond (leb kind 2 && described (cartridgeOf banks code) (start kind))
@@ -210,6 +213,7 @@ lengths c m rom save = eqb rom (romLen c) && eqb save (ramLen c m)
 abbrev pub readAs : ℕ → ℕ → ReadByte
 readAs number value = record { number = number; value = value }
 
+-- a refused read gives 0
 unfoldable pub readByte : Cartridge → Mapper → List ℕ → List ℕ → ℕ → ReadByte
 readByte c m rom save index =
     cond (not (inRange c m)) (readAs outOfRange 0)
@@ -220,6 +224,7 @@ readByte c m rom save index =
 abbrev pub wroteAs : ℕ → Mapper → Answer → WriteByte
 wroteAs number m a = record { number = number; mapper = m; answer = a }
 
+-- a refused write changes nothing
 unfoldable pub writeByte : Cartridge → Mapper → ℕ → ℕ → WriteByte
 writeByte c m index value =
     cond (not (inRange c m)) (wroteAs outOfRange m NotStored)

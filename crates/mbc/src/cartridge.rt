@@ -38,7 +38,7 @@ impl Cartridge {
         self.ram_banks() as usize * 0x2000
     }
 
-    // N is a power of two, at most `most`.
+    // N is a power of two, from 2 to `most`.
     pub fn has_banks(self, most: u16) -> bool
         ensures { λ r. ⌜ r ≡ hasBanks most self ⌝ }
     {

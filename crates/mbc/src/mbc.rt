@@ -159,6 +159,7 @@ impl Mapper {
         }
     }
 
+    // Where a read finds its byte.
     pub fn source(self, cartridge: Cartridge, index: u16) -> Source
         requires { ⌜ mapped index ≡ true ⌝ }
         ensures { λ r. ⌜ r ≡ source cartridge self index ⌝ }
@@ -170,6 +171,7 @@ impl Mapper {
         }
     }
 
+    // The registers after a write.
     pub fn after(self, cartridge: Cartridge, index: u16, value: u8) -> Mapper
         requires { ⌜ inRange cartridge self ≡ true ⌝ }
         ensures { λ r. ⌜ r ≡ after cartridge self index value ⌝ }
@@ -181,6 +183,7 @@ impl Mapper {
         }
     }
 
+    // For the bus, which has tested the state, the lengths and the index.
     pub fn read(self, cartridge: Cartridge, rom: &[u8], save: &[u8], index: u16) -> u8
         requires { ⌜ (inRange cartridge self ≡ true) × ((mapped index ≡ true) × ((length (now rom) ≡ romLen cartridge) × (length (now save) ≡ ramLen cartridge self))) ⌝ }
         ensures { λ r. ⌜ r ≡ readAt cartridge self (now (rom .entry)) (now (save .entry)) index ⌝ }
@@ -193,6 +196,7 @@ impl Mapper {
         }
     }
 
+    // For the bus, which has tested the state and the index, and stores what is answered.
     pub fn write(self, cartridge: Cartridge, index: u16, value: u8) -> Written
         requires { ⌜ (inRange cartridge self ≡ true) × (mapped index ≡ true) ⌝ }
         ensures { λ r. ⌜ r ≡ written cartridge self index value ⌝ }

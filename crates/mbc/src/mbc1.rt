@@ -65,6 +65,7 @@ impl Mbc1 {
         !self.enabled
     }
 
+    // The state ranges.
     fn held(self, cartridge: Cartridge) -> bool
         ensures { λ r. ⌜ r ≡ held cartridge (mapper.Mbc1 self) ⌝ }
     {
@@ -156,8 +157,10 @@ impl Mbc1 {
             return next;
         }
         let high = value % 4;
+        let bank = combined(self.rom, high);
+        let masked = cartridge.masked(bank);
         next.high = high;
-        next.rom = cartridge.masked(combined(self.rom, high));
+        next.rom = masked;
         next
     }
 
