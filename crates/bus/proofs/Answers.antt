@@ -3,7 +3,11 @@ use mathlib.Core.Bool.{Bool, true, false, cond}
 use mathlib.Core.Path.{_≡_, refl, sym, _∙_}
 use Prim.Native.Nat.{ℕ, _<_, _≤_}
 use native.Mathlib.Omega.{arith}
+use mathlib.Core.List.{List}
 use lib.Dec.{eqb, leb}
+use lib.ListN.{length, replicate}
+use Rattle.memory.specs.Start.{zeroed}
+use Rattle.bus.specs.Fresh.{begun, beginning}
 use borrow.Author.Tests.{ne-eqb, leb-true, eqb-true, eqb-false}
 use Rattle.interrupt.specs.declared.Pending.{Pending}
 use Rattle.interrupt.specs.declared.Pending.the-variants.{Some, None}
@@ -106,3 +110,14 @@ pub refused-interrupt : {n : ℕ} {m : Memory} → n ≡ refusedState m → (n �
     → record { number = n; memory = m } ≡ onInterrupt m f p
 refused-interrupt {n} {m} e h f (Some i) = refused-done e h m (f m i)
 refused-interrupt {n} {m} e h f None = outside-refused e h m
+
+-- a fresh start that is refused, and one that is done
+module _ {n k : ℕ} (e : n ≡ k) (m : Memory) (v w : List ℕ) where
+  pub refused-fresh : (n ≡ 0 → ⊥) → {z : Memory} → z ≡ zeroed → begun n z v w ≡ beginning k m v w
+  unfolding beginning
+  refused-fresh h f = rw (← e, ne-eqb n 0 h, f)
+
+  pub accepted-fresh : n ≡ 0 → {b : Memory} → b ≡ m → {v′ w′ : List ℕ} → v′ ≡ replicate (length v) 0 → w′ ≡ replicate (length w) 0
+      → begun 0 b v′ w′ ≡ beginning k m v w
+  unfolding beginning
+  accepted-fresh h f p q = rw (← e, h, f, p, q)

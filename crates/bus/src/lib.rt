@@ -1,5 +1,6 @@
 // The public calls of the bus. None has a `requires`: a state, a length or a number that is out of range is refused by document 01's number, and a
 // refused call changes nothing and gives 0. Every contract cites specs/Step.antt, where the calls are one function on worlds.
+pub mod fresh;
 pub mod refusals;
 pub mod state;
 

@@ -53,7 +53,7 @@ fn lengths_fit(
     sound == 48
 }
 
-fn lengths_refused(
+pub fn lengths_refused(
     memory: Memory,
     rom: usize,
     vram: usize,
@@ -85,7 +85,7 @@ pub fn read_refused(
     or_else(state, lengths)
 }
 
-fn log_refused(log: usize) -> u8
+pub fn log_refused(log: usize) -> u8
     ensures { λ r. ⌜ r ≡ logRefused log ⌝ }
 {
     if log <= LOG_LIMIT {
