@@ -17,7 +17,10 @@ use Rattle.memory.specs.Ranges.{inRange, stateInRange, banksInRange, hdmaInRang
 use Rattle.rules.proofs.Tests.{both-true}
 use Rattle.bus.specs.declared.Done.{Done}
 use Rattle.bus.specs.declared.Byte.{Byte}
+use Rattle.bus.specs.declared.Word.{Word}
 use Rattle.bus.specs.declared.Flag.{Flag}
+use Rattle.memory.specs.World.{World}
+use Rattle.bus.specs.Step.{Outcome, outcome, unless, wordGiven}
 use Rattle.bus.specs.declared.Waiting.{Waiting}
 use Rattle.bus.specs.Refusal.{orElse, stateRefused, cyclesRefused}
 use Rattle.bus.specs.State.{changed, byteGiven, flagGiven, waitingGiven, refusedState, onInterrupt}
@@ -31,6 +34,14 @@ module _ {n k : ℕ} (e : n ≡ k) where
     pub refused-byte : (v : ℕ) → record { number = n; value = 0 } ≡ byteGiven k v
     unfolding byteGiven
     refused-byte v = rw (← e, ne-eqb n 0 h)
+
+    pub refused-word : (v : ℕ) → record { number = n; value = 0 } ≡ wordGiven k v
+    unfolding wordGiven
+    refused-word v = rw (← e, ne-eqb n 0 h)
+
+    pub refused-outcome : (w : World) (o : Outcome) → outcome n 0 w ≡ unless k w o
+    unfolding unless
+    refused-outcome w o = rw (← e, ne-eqb n 0 h)
 
     pub refused-flag : (v : Bool) → record { number = n; value = false } ≡ flagGiven k v
     unfolding flagGiven
@@ -48,6 +59,14 @@ module _ {n k : ℕ} (e : n ≡ k) where
     pub accepted-byte : {b a : ℕ} → b ≡ a → record { number = 0; value = b } ≡ byteGiven k a
     unfolding byteGiven
     accepted-byte f = rw (← e, h, f)
+
+    pub accepted-word : {b a : ℕ} → b ≡ a → record { number = 0; value = b } ≡ wordGiven k a
+    unfolding wordGiven
+    accepted-word f = rw (← e, h, f)
+
+    pub accepted-outcome : (w : World) {o a : Outcome} → a ≡ o → a ≡ unless k w o
+    unfolding unless
+    accepted-outcome w f = rw (← e, h) f
 
     pub accepted-flag : {b a : Bool} → b ≡ a → record { number = 0; value = b } ≡ flagGiven k a
     unfolding flagGiven
@@ -121,3 +140,6 @@ module _ {n k : ℕ} (e : n ≡ k) (m : Memory) (v w : List ℕ) where
       → begun 0 b v′ w′ ≡ beginning k m v w
   unfolding beginning
   accepted-fresh h f p q = rw (← e, h, f, p, q)
+
+pub same-outcome : {a b : ℕ} (v : ℕ) {u w : World} → a ≡ b → u ≡ w → outcome a v u ≡ outcome b v w
+same-outcome v e f = rw (e, f)

@@ -1,3 +1,4 @@
 pub mod Fresh
 pub mod Refusal
 pub mod State
+pub mod Step

@@ -1,8 +1,11 @@
 // The public calls of the bus. None has a `requires`: a state, a length or a number that is out of range is refused by document 01's number, and a
 // refused call changes nothing and gives 0. Every contract cites specs/Step.antt, where the calls are one function on worlds.
+pub mod calls;
 pub mod fresh;
+pub mod reads;
 pub mod refusals;
 pub mod state;
+pub mod writes;
 
 use interrupt::Pending;
 use memory::Memory;

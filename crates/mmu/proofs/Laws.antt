@@ -1,0 +1,261 @@
+-- Every write leaves a world in which the next one can be made; and a copy and a write by cases, as the code makes them.
+use mathlib.Core.Path.{_≡_, refl, sym, ap, _∙_}
+use mathlib.Core.Bool.{true}
+use mathlib.Core.List.{List, []}
+use Prim.Native.Nat.{ℕ, zero, suc, _+_, _-_, _/_, _%_, _≤_}
+use native.Mathlib.Numerals.{add-one, sub-one}
+use native.Mathlib.Omega.{arith}
+use lib.Dec.{eqb, ltb, leb}
+use lib.ListN.{length, set, length-set, length-append, length-take, length-drop}
+use borrow.Author.Tests.{ltb-false, eqb-true, eq-eqb, ne-eqb, le-leb}
+use Rattle.rules.proofs.Tests.{both-true}
+use Rattle.mbc.proofs.Bools.{by-cond}
+use Rattle.mbc.proofs.Laws.{ram-len-after}
+use Rattle.mbc.specs.Mbc.{answer}
+use Rattle.mbc.specs.declared.mbc.Answer.{Answer}
+use Rattle.mbc.specs.declared.mbc.Answer.the-variants.{Stored, NotStored}
+use Rattle.memory.proofs.Laws.{used-range, mapper-kept}
+use Rattle.memory.specs.World.{World, world, Fixed}
+use Rattle.memory.specs.declared.Memory.{Memory}
+use Rattle.registers.proofs.Kept.{Kept, cond-both, oam-kept, write-kept, finished-kept}
+use Rattle.registers.specs.Transfers.{copyOf, finished}
+use Rattle.registers.specs.declared.transfers.Copy.{Copy}
+use Rattle.savelog.specs.Log.{width, bytesOf, recordBytes, appended, useInRange}
+use Rattle.mmu.specs.PanDocs.{echo, vramAt, wramAt}
+use Rattle.mmu.specs.Access.{Holds, Ready, readIn, mapperPut, saved, savePut, inState, inVram, inWram, putAt, put}
+use Rattle.mmu.specs.Write.{copyBy, transferred, writeAt, wordAt}
+
+-- a record is put over as many bytes
+record-length : (at v : ℕ) → length (recordBytes at v) ≡ width
+unfolding recordBytes bytesOf
+record-length at v = refl
+
+pub appended-length : (l : List ℕ) (used at v : ℕ) → used + width ≤ length l → length (appended l used at v) ≡ length l
+unfolding appended
+appended-length l used at v h =
+    rw (length-append, length-append, length-take, record-length, length-drop) (omega arith)
+
+-- a use in range stays so with one record more, if there is room for it
+use-more : (used len : ℕ) → used + width ≤ len → useInRange used len ≡ true → useInRange (used + width) len ≡ true
+unfolding useInRange
+use-more used len room e =
+    let k = eqb-true (used % width) 0 (both-true (eqb (used % width) 0) (leb used len) e .0) in
+    rw (eq-eqb ((used + width) % width) 0 (omega arith), le-leb (used + width) len room)
+
+-- what a write leaves: a world that holds, of the same kind and cartridge, with a log use in range where it was
+pub record Stays (w u : World) : Type 0 where
+  pub holds : Holds u
+  pub colour : u .state .banks .colour ≡ w .state .banks .colour
+  pub cartridge : u .state .cartridge ≡ w .state .cartridge
+  pub used : useInRange (w .state .used) (length (w .log)) ≡ true → useInRange (u .state .used) (length (u .log)) ≡ true
+
+pub stays-refl : (w : World) → Holds w → Stays w w
+stays-refl w h = record { holds = h; colour = refl; cartridge = refl; used = λ e. e }
+
+pub stays-trans : {w u y : World} → Stays w u → Stays u y → Stays w y
+stays-trans s t =
+    record {
+      holds = t .holds;
+      colour = t .colour ∙ s .colour;
+      cartridge = t .cartridge ∙ s .cartridge;
+      used = λ e. t .used (s .used e);
+    }
+
+module _ (w : World) (h : Holds w) where
+  pub kept-stays : (n : Memory) → Kept (w .state) n → Stays w (inState w n)
+  kept-stays n k =
+      record {
+        holds = record {
+          state = k .range (h .state);
+          vram = rw (k .colour) (h .vram);
+          wram = rw (k .colour) (h .wram);
+          save = rw (k .cartridge, k .mapper) (h .save);
+          log = h .log;
+        };
+        colour = k .colour;
+        cartridge = k .cartridge;
+        used = λ e. rw (k .used) e;
+      }
+
+  mapper-stays : (i v : ℕ) → Stays w (inState w (mapperPut (w .state) i v))
+  mapper-stays i v =
+      record {
+        holds = record {
+          state = mapper-kept (w .state) (h .state) i v;
+          vram = h .vram;
+          wram = h .wram;
+          save = h .save ∙ sym (ram-len-after (w .state .cartridge) (w .state .mapper) i v);
+          log = h .log;
+        };
+        colour = refl;
+        cartridge = refl;
+        used = λ e. e;
+      }
+
+  vram-stays : (at v : ℕ) → Stays w (inVram w (set (w .vram) at v))
+  vram-stays at v =
+      record {
+        holds = record {
+          state = h .state;
+          vram = length-set (w .vram) at v ∙ h .vram;
+          wram = h .wram;
+          save = h .save;
+          log = h .log;
+        };
+        colour = refl;
+        cartridge = refl;
+        used = λ e. e;
+      }
+
+  wram-stays : (at v : ℕ) → Stays w (inWram w (set (w .wram) at v))
+  wram-stays at v =
+      record {
+        holds = record {
+          state = h .state;
+          vram = h .vram;
+          wram = length-set (w .wram) at v ∙ h .wram;
+          save = h .save;
+          log = h .log;
+        };
+        colour = refl;
+        cartridge = refl;
+        used = λ e. e;
+      }
+
+  saved-stays : (a : Answer) → w .state .used + width ≤ length (w .log) → Stays w (saved a w)
+  saved-stays (Stored at v) room =
+      let l = appended-length (w .log) (w .state .used) at v room in
+      record {
+        holds = record {
+          state = used-range (w .state) (w .state .used + width) ∙ h .state;
+          vram = h .vram;
+          wram = h .wram;
+          save = length-set (w .save) at v ∙ h .save;
+          log = rw l (h .log);
+        };
+        colour = refl;
+        cartridge = refl;
+        used = λ e. rw l (use-more (w .state .used) (length (w .log)) room e);
+      }
+  saved-stays NotStored room = stays-refl w h
+
+  save-stays : (i v : ℕ) → Stays w (savePut w i v)
+  unfolding savePut
+  save-stays i v =
+      let a = answer (w .state .cartridge) (w .state .mapper) i v in
+      by-cond (Stays w) (ltb (length (w .log)) (w .state .used + width)) w (saved a w) (λ t. stays-refl w h)
+      (λ f. saved-stays a (ltb-false (length (w .log)) (w .state .used + width) f))
+
+  put-at-stays : (i v : ℕ) → Stays w (putAt w i v)
+  unfolding putAt
+  put-at-stays i v =
+      cond-both (Stays w) (ltb i 0x8000) (mapper-stays i v)
+      (cond-both (Stays w) (ltb i 0xA000) (vram-stays (vramAt (w .state .banks .vram) i) v)
+      (cond-both (Stays w) (ltb i 0xC000) (save-stays i v)
+      (cond-both (Stays w) (ltb i 0xE000) (wram-stays (wramAt (w .state .banks .wram) i) v)
+      (cond-both (Stays w) (ltb i 0xFF00) (kept-stays _ (oam-kept (w .state) (set (w .state .oam) (i - 0xFE00) v)))
+      (kept-stays _ (write-kept (w .state) (i - 0xFF00) v))))))
+
+  pub put-stays : (index v : ℕ) → Stays w (put w index v)
+  put-stays index v = put-at-stays (echo index) v
+
+  pub put-holds : (index v : ℕ) → Holds (put w index v)
+  put-holds index v = put-stays index v .holds
+
+-- a copy leaves such a world if each of its writes does, so a transfer does, and so does a write at any depth
+
+abbrev pub Keeps : (World → ℕ → ℕ → World) → Type 0
+Keeps f = (w : World) → Holds w → (index v : ℕ) → Stays w (f w index v)
+
+module _ (x : Fixed) where
+  pub copy-stays : (f : World → ℕ → ℕ → World) → Keeps f → (source destination n : ℕ) (w : World) → Holds w
+      → Stays w (copyBy x f source destination n w)
+  unfolding copyBy
+  copy-stays f k source destination zero w h = stays-refl w h
+  copy-stays f k source destination (suc n) w h =
+      let s = copy-stays f k source destination n w h in
+      stays-trans s (k _ (s .holds) _ _)
+
+  pub transfer-stays : (f : World → ℕ → ℕ → World) → Keeps f → (c : Copy) (v : ℕ) (w : World) → Holds w
+      → Stays w (transferred x f c v w)
+  transfer-stays f k c v w h =
+      let u = copyBy x f (c .source) (c .destination) (c .count) w in
+      let s = copy-stays f k (c .source) (c .destination) (c .count) w h in
+      stays-trans s (kept-stays u (s .holds) (finished (u .state) (c .finish) v) (finished-kept (u .state) (c .finish) v))
+
+  pub write-stays : (d : ℕ) → Keeps (writeAt x d)
+  unfolding writeAt
+  write-stays zero w h index v = put-stays w h index v
+  write-stays (suc d) w h index v =
+      let s = put-stays w h index v in
+      stays-trans s (transfer-stays (writeAt x d) (write-stays d) (copyOf (w .state) index v) v (put w index v) (s .holds))
+
+  pub word-stays : (w : World) → Holds w → (index v : ℕ) → Stays w (wordAt x w index v)
+  unfolding wordAt
+  word-stays w h index v =
+      let s = write-stays 2 w h index (v % 256) in
+      stays-trans s (write-stays 2 (writeAt x 2 w index (v % 256)) (s .holds) ((index + 1) % 65536) (v / 256))
+
+  -- with what is lent for reading alone
+
+  pub stays-ready : (w u : World) → Ready x w → Stays w u → Ready x u
+  stays-ready w u r s = record { holds = s .holds; rom = rw (s .cartridge) (r .rom); sound = r .sound }
+
+  pub put-ready : (w : World) → Ready x w → (index v : ℕ) → Ready x (put w index v)
+  put-ready w r index v = stays-ready w (put w index v) r (put-stays w (r .holds) index v)
+
+  pub write-ready : (d : ℕ) (w : World) → Ready x w → (index v : ℕ) → Ready x (writeAt x d w index v)
+  write-ready d w r index v = stays-ready w (writeAt x d w index v) r (write-stays d w (r .holds) index v)
+
+  -- a read needs no log
+  pub read-ready : (w : World) → Ready x w → Ready x (world (w .state) (w .vram) (w .wram) (w .save) [])
+  read-ready w r =
+      record {
+        holds = record {
+          state = r .holds .state;
+          vram = r .holds .vram;
+          wram = r .holds .wram;
+          save = r .holds .save;
+          log = omega arith;
+        };
+        rom = r .rom;
+        sound = r .sound;
+      }
+
+-- a copy: no byte, one byte more; and with it its registers
+
+module _ (x : Fixed) (f : World → ℕ → ℕ → World) where
+  pub copy-none : (source destination : ℕ) (w : World) → copyBy x f source destination 0 w ≡ w
+  unfolding copyBy
+  copy-none source destination w = refl
+
+  pub copy-more : (source destination n : ℕ) (w u : World) → u ≡ copyBy x f source destination n w
+      → f u (destination + n) (readIn x u ((source + n) % 65536)) ≡ copyBy x f source destination (n + 1) w
+  unfolding copyBy
+  copy-more source destination n w u e =
+      rw (add-one n) (ap (λ (u : World). f u (destination + n) (readIn x u ((source + n) % 65536))) e)
+
+  pub transfer-done : (c : Copy) (v : ℕ) (w : World) {k : Copy} {p u : World} {r : Memory} → k ≡ c → p ≡ w
+      → u ≡ copyBy x f (k .source) (k .destination) (k .count) p → r ≡ finished (u .state) (k .finish) v
+      → inState u r ≡ transferred x f c v w
+  transfer-done c v w a b e q = rw (q, e, a, b)
+
+-- a write by cases
+
+module _ (x : Fixed) (w : World) where
+  pub write-none : (d index v : ℕ) → d ≡ 0 → writeAt x d w index v ≡ put w index v
+  unfolding writeAt
+  write-none d index v e = rw e
+
+  pub write-plain : (d index v : ℕ) → (index ≡ 0xFF46 → ⊥) → (index ≡ 0xFF55 → ⊥) → writeAt x d w index v ≡ put w index v
+  unfolding writeAt copyOf copyBy finished
+  write-plain zero index v a b = refl
+  write-plain (suc d) index v a b = rw (ne-eqb index 0xFF46 a, ne-eqb index 0xFF55 b)
+
+  pub write-transfer : (d index v : ℕ) {k : Copy} {p u : World} {r : Memory} → (d ≡ 0 → ⊥) → k ≡ copyOf (w .state) index v
+      → p ≡ put w index v → u ≡ copyBy x (writeAt x (d - 1)) (k .source) (k .destination) (k .count) p
+      → r ≡ finished (u .state) (k .finish) v → inState u r ≡ writeAt x d w index v
+  unfolding writeAt
+  write-transfer zero index v z a b e q = absurd (z refl)
+  write-transfer (suc d) index v z a b e q =
+      transfer-done x (writeAt x d) (copyOf (w .state) index v) v (put w index v) a b (rw sub-one at e) q

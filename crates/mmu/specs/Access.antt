@@ -1,0 +1,98 @@
+-- A byte read, and a byte write without the copying that it may start (document 01, "The bus" and "Save log and state image").
+use mathlib.Core.Bool.{true, cond}
+use mathlib.Core.List.{List}
+use mathlib.Core.Path.{_≡_}
+use Prim.Native.Nat.{ℕ, _+_, _*_, _-_, _%_, _≤_}
+use lib.Dec.{ltb}
+use lib.ListN.{length, getD, set}
+use Rattle.mbc.specs.Mbc.{romLen, ramLen, readAt, after, answer}
+use Rattle.mbc.specs.declared.mbc.Answer.{Answer}
+use Rattle.mbc.specs.declared.mbc.Answer.the-variants.{Stored, NotStored}
+use Rattle.memory.specs.Ranges.{stateInRange, vramLen, wramLen, soundLen}
+use Rattle.memory.specs.World.{World, world, Fixed, withOam, withMapper, withUsed}
+use Rattle.memory.specs.declared.Memory.{Memory}
+use Rattle.registers.specs.Page.{readRegister, writeRegister}
+use Rattle.savelog.specs.Log.{width, logLimit, appended}
+use Rattle.mmu.specs.PanDocs.{echo, vramAt, wramAt}
+
+-- a state in range, with memories of the lengths that it needs
+pub record Holds (w : World) : Type 0 where
+  pub state : stateInRange (w .state) ≡ true
+  pub vram : length (w .vram) ≡ vramLen (w .state .banks .colour)
+  pub wram : length (w .wram) ≡ wramLen (w .state .banks .colour)
+  pub save : length (w .save) ≡ ramLen (w .state .cartridge) (w .state .mapper)
+  pub log : length (w .log) ≤ logLimit
+
+pub record Ready (x : Fixed) (w : World) : Type 0 where
+  pub holds : Holds w
+  pub rom : length (x .rom) ≡ romLen (w .state .cartridge)
+  pub sound : length (x .sound) ≡ soundLen
+
+-- the byte at an index that is no echo
+unfoldable pub byteAt : Fixed → Memory → List ℕ → List ℕ → List ℕ → ℕ → ℕ
+byteAt x m v w s i =
+    cond (ltb i 0x8000) (readAt (m .cartridge) (m .mapper) (x .rom) s i)
+    (cond (ltb i 0xA000) (getD v (vramAt (m .banks .vram) i) 0)
+    (cond (ltb i 0xC000) (readAt (m .cartridge) (m .mapper) (x .rom) s i)
+    (cond (ltb i 0xE000) (getD w (wramAt (m .banks .wram) i) 0)
+    (cond (ltb i 0xFF00) (getD (m .oam) (i - 0xFE00) 0)
+    (readRegister m (x .sound) (i - 0xFF00))))))
+
+abbrev pub readByte : Fixed → Memory → List ℕ → List ℕ → List ℕ → ℕ → ℕ
+readByte x m v w s index = byteAt x m v w s (echo index)
+
+-- a word read: low byte first; index + 1 wraps
+abbrev pub readWord : Fixed → Memory → List ℕ → List ℕ → List ℕ → ℕ → ℕ
+readWord x m v w s index = readByte x m v w s index + readByte x m v w s ((index + 1) % 65536) * 256
+
+abbrev pub readIn : Fixed → World → ℕ → ℕ
+readIn x w index = readByte x (w .state) (w .vram) (w .wram) (w .save) index
+
+-- a write below 8000 changes the mapper's registers
+abbrev pub mapperPut : Memory → ℕ → ℕ → Memory
+mapperPut m i v = withMapper m (after (m .cartridge) (m .mapper) i v)
+
+-- what the mapper answers is done: a stored byte goes to the save and, as one record, to the log, whose use rises by the record
+abbrev pub savedState : Answer → Memory → Memory
+savedState (Stored at v) m = withUsed m (m .used + width)
+savedState NotStored m = m
+
+abbrev pub savedSave : Answer → List ℕ → List ℕ
+savedSave (Stored at v) s = set s at v
+savedSave NotStored s = s
+
+abbrev pub savedLog : Answer → ℕ → List ℕ → List ℕ
+savedLog (Stored at v) used l = appended l used at v
+savedLog NotStored used l = l
+
+abbrev pub saved : Answer → World → World
+saved a w =
+    world (savedState a (w .state)) (w .vram) (w .wram) (savedSave a (w .save)) (savedLog a (w .state .used) (w .log))
+
+-- a write in A000..BFFF: without room in the log nothing is stored (a public call is then refused by 2)
+unfoldable pub savePut : World → ℕ → ℕ → World
+savePut w i v =
+    cond (ltb (length (w .log)) (w .state .used + width)) w (saved (answer (w .state .cartridge) (w .state .mapper) i v) w)
+
+-- the world with its state, its video memory or its work memory changed
+abbrev pub inState : World → Memory → World
+inState w m = world m (w .vram) (w .wram) (w .save) (w .log)
+
+abbrev pub inVram : World → List ℕ → World
+inVram w v = world (w .state) v (w .wram) (w .save) (w .log)
+
+abbrev pub inWram : World → List ℕ → World
+inWram w l = world (w .state) (w .vram) l (w .save) (w .log)
+
+-- a byte write at an index that is no echo
+unfoldable pub putAt : World → ℕ → ℕ → World
+putAt w i v =
+    cond (ltb i 0x8000) (inState w (mapperPut (w .state) i v))
+    (cond (ltb i 0xA000) (inVram w (set (w .vram) (vramAt (w .state .banks .vram) i) v))
+    (cond (ltb i 0xC000) (savePut w i v)
+    (cond (ltb i 0xE000) (inWram w (set (w .wram) (wramAt (w .state .banks .wram) i) v))
+    (cond (ltb i 0xFF00) (inState w (withOam (w .state) (set (w .state .oam) (i - 0xFE00) v)))
+    (inState w (writeRegister (w .state) (i - 0xFF00) v))))))
+
+abbrev pub put : World → ℕ → ℕ → World
+put w index v = putAt w (echo index) v

@@ -1,0 +1,3 @@
+pub mod PanDocs
+pub mod Access
+pub mod Write

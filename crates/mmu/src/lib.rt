@@ -1,0 +1,283 @@
+// Reads and writes of the bus on lent memories, as the Rust's mmu/mod.rs: `read_byte`, `write_byte` and the transfers that a write starts.
+// These are the calls within: the state is in range and the lengths are right. The crate bus has the public ones, which see to that.
+ghost use mathlib.Core.List.{[]};
+ghost use mathlib.Core.Path.{_≡_};
+ghost use Prim.Native.Nat.{_+_, _<_, _≤_};
+ghost use Rattle.memory.specs.World.{world, fixed};
+ghost use Rattle.registers.specs.Transfers.{oamCopy, blockCopy, Bounded};
+ghost use Rattle.mmu.specs.Access.{Holds, Ready, readByte, readWord, put};
+ghost use Rattle.mmu.specs.Write.{copyBy, transferred, writeAt, wordAt};
+use memory::Memory;
+
+pub mod regions;
+
+use regions::lowered;
+use regions::put_mapper;
+use regions::put_save;
+use regions::read_cgb_lcd_ram;
+use regions::read_cgb_wram;
+use regions::write_cgb_lcd_ram;
+use regions::write_cgb_wram;
+use registers::transfers::Copy;
+
+pub fn read_byte(
+    memory: Memory,
+    rom: &[u8],
+    vram: &[u8],
+    wram: &[u8],
+    save: &[u8],
+    sound: &[u8],
+    index: u16,
+) -> u8
+    requires { ⌜ Ready (fixed (now rom) (now sound)) (world memory (now vram) (now wram) (now save) []) ⌝ }
+    ensures { λ r. ⌜ r ≡ readByte (fixed (now (rom .entry)) (now (sound .entry))) memory (now (vram .entry)) (now (wram .entry)) (now (save .entry)) index ⌝ }
+{
+    let at = lowered(index);
+    let banks = memory.banks;
+    let mapper = memory.mapper;
+    let cartridge = memory.cartridge;
+    if at < 0x8000 {
+        return mapper.read(cartridge, rom, save, at);
+    }
+    if at < 0xA000 {
+        return read_cgb_lcd_ram(vram, banks.vram, at);
+    }
+    if at < 0xC000 {
+        return mapper.read(cartridge, rom, save, at);
+    }
+    if at < 0xE000 {
+        return read_cgb_wram(wram, banks.wram, at);
+    }
+    if at < 0xFF00 {
+        let i = (at - 0xFE00) as usize;
+        return memory.oam[i];
+    }
+    registers::page::read(memory, sound, (at - 0xFF00) as u8)
+}
+
+// A byte write without the copying that it may start.
+pub fn put_byte(
+    memory: Memory,
+    vram: &mut [u8],
+    wram: &mut [u8],
+    save: &mut [u8],
+    log: &mut [u8],
+    index: u16,
+    value: u8,
+) -> Memory
+    requires { ⌜ Holds (world memory (now vram) (now wram) (now save) (now log)) ⌝ }
+    ensures { λ r. ⌜ world r (now (vram .exit)) (now (wram .exit)) (now (save .exit)) (now (log .exit)) ≡ put (world memory (now (vram .entry)) (now (wram .entry)) (now (save .entry)) (now (log .entry))) index value ⌝ }
+{
+    let at = lowered(index);
+    let banks = memory.banks;
+    if at < 0x8000 {
+        return put_mapper(memory, at, value);
+    }
+    if at < 0xA000 {
+        write_cgb_lcd_ram(vram, banks.vram, at, value);
+        return memory;
+    }
+    if at < 0xC000 {
+        return put_save(memory, save, log, at, value);
+    }
+    if at < 0xE000 {
+        write_cgb_wram(wram, banks.wram, at, value);
+        return memory;
+    }
+    if at < 0xFF00 {
+        let i = (at - 0xFE00) as usize;
+        let mut next = memory;
+        next.oam[i] = value;
+        return next;
+    }
+    registers::page::write(memory, (at - 0xFF00) as u8, value)
+}
+
+// A byte write. The writes of a transfer that it starts stand one lower; at depth 0 none is started.
+pub fn write_byte(
+    depth: u8,
+    memory: Memory,
+    rom: &[u8],
+    vram: &mut [u8],
+    wram: &mut [u8],
+    save: &mut [u8],
+    log: &mut [u8],
+    sound: &[u8],
+    index: u16,
+    value: u8,
+) -> Memory
+    requires { ⌜ Ready (fixed (now rom) (now sound)) (world memory (now vram) (now wram) (now save) (now log)) ⌝ }
+    ensures { λ r. ⌜ world r (now (vram .exit)) (now (wram .exit)) (now (save .exit)) (now (log .exit)) ≡ writeAt (fixed (now (rom .entry)) (now (sound .entry))) depth (world memory (now (vram .entry)) (now (wram .entry)) (now (save .entry)) (now (log .entry))) index value ⌝ }
+{
+    let next = put_byte(memory, vram, wram, save, log, index, value);
+    if depth == 0 {
+        return next;
+    }
+    if index != 0xFF46 {
+        if index != 0xFF55 {
+            return next;
+        }
+    }
+    let copy = registers::transfers::copy_of(memory, index, value);
+    let moved = copy_bytes(
+        depth - 1,
+        next,
+        rom,
+        vram,
+        wram,
+        save,
+        log,
+        sound,
+        copy.source,
+        copy.destination,
+        copy.count,
+    );
+    let finish = copy.finish;
+    registers::transfers::end_copy(moved, finish, value)
+}
+
+// The bytes of a transfer in rising order, each by a byte write, so that later reads see earlier writes. The source wraps.
+pub fn copy_bytes(
+    depth: u8,
+    memory: Memory,
+    rom: &[u8],
+    vram: &mut [u8],
+    wram: &mut [u8],
+    save: &mut [u8],
+    log: &mut [u8],
+    sound: &[u8],
+    source: u16,
+    destination: u16,
+    count: u16,
+) -> Memory
+    requires { ⌜ Ready (fixed (now rom) (now sound)) (world memory (now vram) (now wram) (now save) (now log)) × (destination + count ≤ 0xFEA0) ⌝ }
+    ensures { λ r. ⌜ world r (now (vram .exit)) (now (wram .exit)) (now (save .exit)) (now (log .exit)) ≡ copyBy (fixed (now (rom .entry)) (now (sound .entry))) (writeAt (fixed (now (rom .entry)) (now (sound .entry))) depth) source destination count (world memory (now (vram .entry)) (now (wram .entry)) (now (save .entry)) (now (log .entry))) ⌝ }
+{
+    let mut next = memory;
+    let mut i: u16 = 0;
+    while i < count {
+        let from = std::num::wrapping_add_u16(source, i);
+        let byte = read_byte(next, rom, vram, wram, save, sound, from);
+        next = write_byte(
+            depth,
+            next,
+            rom,
+            vram,
+            wram,
+            save,
+            log,
+            sound,
+            destination + i,
+            byte,
+        );
+        i += 1;
+    }
+    next
+}
+
+// Low byte first; FFFF is followed by 0000.
+pub fn read_word(
+    memory: Memory,
+    rom: &[u8],
+    vram: &[u8],
+    wram: &[u8],
+    save: &[u8],
+    sound: &[u8],
+    index: u16,
+) -> u16
+    requires { ⌜ Ready (fixed (now rom) (now sound)) (world memory (now vram) (now wram) (now save) []) ⌝ }
+    ensures { λ r. ⌜ r ≡ readWord (fixed (now (rom .entry)) (now (sound .entry))) memory (now (vram .entry)) (now (wram .entry)) (now (save .entry)) index ⌝ }
+{
+    let low = read_byte(memory, rom, vram, wram, save, sound, index);
+    let above = std::num::wrapping_add_u16(index, 1);
+    let high = read_byte(memory, rom, vram, wram, save, sound, above);
+    low as u16 + high as u16 * 256
+}
+
+// Two byte writes, low byte first.
+pub fn write_word(
+    memory: Memory,
+    rom: &[u8],
+    vram: &mut [u8],
+    wram: &mut [u8],
+    save: &mut [u8],
+    log: &mut [u8],
+    sound: &[u8],
+    index: u16,
+    value: u16,
+) -> Memory
+    requires { ⌜ Ready (fixed (now rom) (now sound)) (world memory (now vram) (now wram) (now save) (now log)) ⌝ }
+    ensures { λ r. ⌜ world r (now (vram .exit)) (now (wram .exit)) (now (save .exit)) (now (log .exit)) ≡ wordAt (fixed (now (rom .entry)) (now (sound .entry))) (world memory (now (vram .entry)) (now (wram .entry)) (now (save .entry)) (now (log .entry))) index value ⌝ }
+{
+    let low = (value % 256) as u8;
+    let high = (value / 256) as u8;
+    let half = write_byte(2, memory, rom, vram, wram, save, log, sound, index, low);
+    let above = std::num::wrapping_add_u16(index, 1);
+    write_byte(2, half, rom, vram, wram, save, log, sound, above, high)
+}
+
+// A transfer that no write starts: its bytes, and then its registers.
+fn transfer(
+    memory: Memory,
+    rom: &[u8],
+    vram: &mut [u8],
+    wram: &mut [u8],
+    save: &mut [u8],
+    log: &mut [u8],
+    sound: &[u8],
+    copy: Copy,
+) -> Memory
+    requires { ⌜ Ready (fixed (now rom) (now sound)) (world memory (now vram) (now wram) (now save) (now log)) × Bounded copy ⌝ }
+    ensures { λ r. ⌜ world r (now (vram .exit)) (now (wram .exit)) (now (save .exit)) (now (log .exit)) ≡ transferred (fixed (now (rom .entry)) (now (sound .entry))) (writeAt (fixed (now (rom .entry)) (now (sound .entry))) 1) copy 0 (world memory (now (vram .entry)) (now (wram .entry)) (now (save .entry)) (now (log .entry))) ⌝ }
+{
+    let moved = copy_bytes(
+        1,
+        memory,
+        rom,
+        vram,
+        wram,
+        save,
+        log,
+        sound,
+        copy.source,
+        copy.destination,
+        copy.count,
+    );
+    let finish = copy.finish;
+    registers::transfers::end_copy(moved, finish, 0)
+}
+
+// OAM DMA as the host calls it: FF46 stays as it is.
+pub fn do_dma_transfer(
+    memory: Memory,
+    rom: &[u8],
+    vram: &mut [u8],
+    wram: &mut [u8],
+    save: &mut [u8],
+    log: &mut [u8],
+    sound: &[u8],
+    page: u8,
+) -> Memory
+    requires { ⌜ Ready (fixed (now rom) (now sound)) (world memory (now vram) (now wram) (now save) (now log)) ⌝ }
+    ensures { λ r. ⌜ world r (now (vram .exit)) (now (wram .exit)) (now (save .exit)) (now (log .exit)) ≡ transferred (fixed (now (rom .entry)) (now (sound .entry))) (writeAt (fixed (now (rom .entry)) (now (sound .entry))) 1) (oamCopy page) 0 (world memory (now (vram .entry)) (now (wram .entry)) (now (save .entry)) (now (log .entry))) ⌝ }
+{
+    let copy = registers::transfers::oam_copy(page);
+    transfer(memory, rom, vram, wram, save, log, sound, copy)
+}
+
+// One HDMA block, enabled or not.
+pub fn do_hdma(
+    memory: Memory,
+    rom: &[u8],
+    vram: &mut [u8],
+    wram: &mut [u8],
+    save: &mut [u8],
+    log: &mut [u8],
+    sound: &[u8],
+) -> Memory
+    requires { ⌜ Ready (fixed (now rom) (now sound)) (world memory (now vram) (now wram) (now save) (now log)) ⌝ }
+    ensures { λ r. ⌜ world r (now (vram .exit)) (now (wram .exit)) (now (save .exit)) (now (log .exit)) ≡ transferred (fixed (now (rom .entry)) (now (sound .entry))) (writeAt (fixed (now (rom .entry)) (now (sound .entry))) 1) (blockCopy memory) 0 (world memory (now (vram .entry)) (now (wram .entry)) (now (save .entry)) (now (log .entry))) ⌝ }
+{
+    let copy = registers::transfers::block_copy(memory);
+    transfer(memory, rom, vram, wram, save, log, sound, copy)
+}

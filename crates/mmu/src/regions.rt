@@ -1,0 +1,118 @@
+// The regions of the address space, one function each.
+ghost use mathlib.Core.Bool.{true};
+ghost use mathlib.Core.List.{[]};
+ghost use mathlib.Core.Path.{_≡_};
+ghost use Prim.Native.Nat.{_+_, _*_, _<_, _≤_};
+ghost use lib.Dec.{ltb};
+ghost use lib.ListN.{length, getD, set};
+ghost use Rattle.mbc.specs.Mbc.{inRange, ramLen};
+ghost use Rattle.memory.specs.World.{world};
+ghost use Rattle.savelog.specs.Log.{width, logLimit};
+ghost use Rattle.mmu.specs.PanDocs.{echo, vramAt, wramAt};
+ghost use Rattle.mmu.specs.Access.{mapperPut, savePut};
+use mbc::Answer;
+use memory::Memory;
+
+// E000..FDFF is the same byte as 2000 hex lower.
+pub fn lowered(index: u16) -> u16
+    ensures { λ r. ⌜ (r ≡ echo index) × (0xE000 ≤ r → 0xFE00 ≤ r) ⌝ }
+{
+    if index < 0xE000 {
+        return index;
+    }
+    if index < 0xFE00 {
+        return index - 0x2000;
+    }
+    index
+}
+
+// Where an index of video memory lies.
+fn vram_at(bank: u8, index: u16) -> usize
+    requires { ⌜ 0x8000 ≤ index ⌝ }
+    ensures { λ r. ⌜ r ≡ vramAt bank index ⌝ }
+{
+    (index - 0x8000) as usize + bank as usize * 0x2000
+}
+
+// Where an index of work memory lies.
+fn wram_at(bank: u8, index: u16) -> usize
+    requires { ⌜ 0xC000 ≤ index ⌝ }
+    ensures { λ r. ⌜ r ≡ wramAt bank index ⌝ }
+{
+    if index < 0xD000 {
+        return (index - 0xC000) as usize;
+    }
+    (index - 0xD000) as usize + bank as usize * 0x1000
+}
+
+pub fn read_cgb_lcd_ram(vram: &[u8], bank: u8, index: u16) -> u8
+    requires { ⌜ ((0x8000 ≤ index) × (index < 0xA000)) × (bank * 0x2000 + 0x2000 ≤ length (now vram)) ⌝ }
+    ensures { λ r. ⌜ r ≡ getD (now (vram .entry)) (vramAt bank index) 0 ⌝ }
+{
+    let at = vram_at(bank, index);
+    vram[at]
+}
+
+pub fn write_cgb_lcd_ram(vram: &mut [u8], bank: u8, index: u16, value: u8)
+    requires { ⌜ ((0x8000 ≤ index) × (index < 0xA000)) × (bank * 0x2000 + 0x2000 ≤ length (now vram)) ⌝ }
+    ensures { λ _. ⌜ now (vram .exit) ≡ set (now (vram .entry)) (vramAt bank index) value ⌝ }
+{
+    let at = vram_at(bank, index);
+    vram[at] = value;
+}
+
+pub fn read_cgb_wram(wram: &[u8], bank: u8, index: u16) -> u8
+    requires { ⌜ ((0xC000 ≤ index) × (index < 0xE000)) × ((0x1000 ≤ length (now wram)) × (bank * 0x1000 + 0x1000 ≤ length (now wram))) ⌝ }
+    ensures { λ r. ⌜ r ≡ getD (now (wram .entry)) (wramAt bank index) 0 ⌝ }
+{
+    let at = wram_at(bank, index);
+    wram[at]
+}
+
+pub fn write_cgb_wram(wram: &mut [u8], bank: u8, index: u16, value: u8)
+    requires { ⌜ ((0xC000 ≤ index) × (index < 0xE000)) × ((0x1000 ≤ length (now wram)) × (bank * 0x1000 + 0x1000 ≤ length (now wram))) ⌝ }
+    ensures { λ _. ⌜ now (wram .exit) ≡ set (now (wram .entry)) (wramAt bank index) value ⌝ }
+{
+    let at = wram_at(bank, index);
+    wram[at] = value;
+}
+
+// A write below 8000: the mapper's registers.
+pub fn put_mapper(memory: Memory, index: u16, value: u8) -> Memory
+    requires { ⌜ (index < 0x8000) × (inRange (memory .cartridge) (memory .mapper) ≡ true) ⌝ }
+    ensures { λ r. ⌜ r ≡ mapperPut memory index value ⌝ }
+{
+    let mapper = memory.mapper;
+    let cartridge = memory.cartridge;
+    let written = mapper.write(cartridge, index, value);
+    let after = written.mapper;
+    memory::with_mapper(memory, after)
+}
+
+// Whether a log of `len` bytes has no room for one more record.
+pub fn full(len: usize, used: u16) -> bool
+    ensures { λ r. ⌜ r ≡ ltb len (used + width) ⌝ }
+{
+    len < used as usize + 3
+}
+
+// A write in A000..BFFF: the mapper answers, the bus stores the byte and records it. A log without room records nothing, and nothing is stored.
+pub fn put_save(memory: Memory, save: &mut [u8], log: &mut [u8], index: u16, value: u8) -> Memory
+    requires { ⌜ ((0xA000 ≤ index) × (index < 0xC000)) × ((inRange (memory .cartridge) (memory .mapper) ≡ true) × ((length (now save) ≡ ramLen (memory .cartridge) (memory .mapper)) × (length (now log) ≤ logLimit))) ⌝ }
+    ensures { λ r. ⌜ world r [] [] (now (save .exit)) (now (log .exit)) ≡ savePut (world memory [] [] (now (save .entry)) (now (log .entry))) index value ⌝ }
+{
+    let used = memory.used;
+    if full(log.len(), used) {
+        return memory;
+    }
+    let mapper = memory.mapper;
+    let cartridge = memory.cartridge;
+    let written = mapper.write(cartridge, index, value);
+    let answer = written.answer;
+    let Answer::Stored { at, value: byte } = answer else {
+        return memory;
+    };
+    save[at] = byte;
+    let next = savelog::append(log, used, at, byte);
+    memory::with_used(memory, next)
+}
