@@ -14,5 +14,6 @@ pub use mbc::ReadByte;
 pub use mbc::Source;
 pub use mbc::WriteByte;
 pub use mbc::Written;
+pub use mbc::is_mapped;
 pub use mbc1::Mbc1;
 pub use mbc2::Mbc2;

@@ -1,0 +1,210 @@
+// What our calls answer to a line's input, in bytes as a line has them. The mappers' are in mapper.rt.
+ghost use mathlib.Core.Path.{_≡_};
+ghost use Prim.Native.Nat.{_+_, _*_, _≤_};
+use crate::letter::Letter;
+use crate::mapper;
+use interrupt::Pending;
+use joypad::Controller;
+use joypad::Pressed;
+use timer::Timer;
+
+// `number` is 0 where every call took its input.
+pub struct Ours {
+    pub number: u8,
+    pub bytes: [u8; 12],
+}
+
+// An input that is not one of ours.
+pub fn refused() -> Ours {
+    Ours {
+        number: numbers::OUTSIDE,
+        bytes: [0; 12],
+    }
+}
+
+// A number of two bytes.
+pub fn word(high: u8, low: u8) -> u16
+    ensures { λ r. ⌜ r ≡ high * 256 + low ⌝ }
+{
+    high as u16 * 256 + low as u16
+}
+
+fn long(high: u16, low: u16) -> u32
+    ensures { λ r. ⌜ r ≡ high * 65536 + low ⌝ }
+{
+    high as u32 * 65536 + low as u32
+}
+
+// True is 01.
+pub fn flag(set: bool) -> u8 {
+    if set {
+        return 1;
+    }
+    0
+}
+
+fn bits(given: &[u8; 12]) -> Ours {
+    let tested = bit_utils::is_set(given[0], given[1]);
+    let set = bit_utils::set_bit(given[0], given[1]);
+    let unset = bit_utils::unset_bit(given[0], given[1]);
+    let mut bytes = [0u8; 12];
+    bytes[0] = flag(tested.set);
+    bytes[1] = set.byte;
+    bytes[2] = unset.byte;
+    Ours {
+        number: tested.number | set.number | unset.number,
+        bytes: bytes,
+    }
+}
+
+fn timer_of(given: &[u8; 12]) -> Timer {
+    Timer {
+        div: given[0],
+        tima: given[1],
+        tma: given[2],
+        tac: given[3],
+        flags: given[4],
+        div_cycles: given[5],
+        tima_cycles: word(given[6], given[7]),
+    }
+}
+
+fn update_timer(given: &[u8; 12]) -> Ours {
+    let before = timer_of(given);
+    let cycles = long(word(given[8], given[9]), word(given[10], given[11]));
+    let updated = timer::update(before, cycles);
+    let after = updated.timer;
+    let mut bytes = [0u8; 12];
+    bytes[0] = after.div;
+    bytes[1] = after.tima;
+    bytes[2] = after.tma;
+    bytes[3] = after.tac;
+    bytes[4] = after.flags;
+    bytes[5] = after.div_cycles;
+    bytes[6] = (after.tima_cycles / 256) as u8;
+    bytes[7] = (after.tima_cycles % 256) as u8;
+    Ours {
+        number: updated.number,
+        bytes: bytes,
+    }
+}
+
+// The controller of P and L, which have no joypad_state.
+fn controller_of(given: &[u8; 12]) -> Controller {
+    Controller {
+        released: given[0],
+        action: given[1] == 1,
+        direction: given[2] == 1,
+        state: 0,
+    }
+}
+
+fn pressed(after: Pressed) -> Ours {
+    let controller = after.controller;
+    let mut bytes = [0u8; 12];
+    bytes[0] = controller.released;
+    bytes[1] = flag(controller.action);
+    bytes[2] = flag(controller.direction);
+    Ours {
+        number: after.number | controller.state,
+        bytes: bytes,
+    }
+}
+
+fn press(given: &[u8; 12]) -> Ours {
+    let before = controller_of(given);
+    pressed(before.press(given[3]))
+}
+
+fn release(given: &[u8; 12]) -> Ours {
+    let before = controller_of(given);
+    pressed(before.release(given[3]))
+}
+
+fn poll(given: &[u8; 12]) -> Ours {
+    let before = Controller {
+        released: given[2],
+        action: given[3] == 1,
+        direction: given[4] == 1,
+        state: given[1],
+    };
+    let polled = before.update(given[0], given[5]);
+    let after = polled.controller;
+    let mut bytes = [0u8; 12];
+    bytes[0] = given[0];
+    bytes[1] = after.state;
+    bytes[2] = after.released;
+    bytes[3] = flag(after.action);
+    bytes[4] = flag(after.direction);
+    bytes[5] = polled.flags;
+    Ours {
+        number: numbers::DONE,
+        bytes: bytes,
+    }
+}
+
+fn pad(given: &[u8; 12]) -> Ours {
+    let mut bytes = [0u8; 12];
+    bytes[0] = joypad::read(given[0], given[1]);
+    bytes[1] = flag(joypad::are_action_keys_enabled(given[0]));
+    bytes[2] = flag(joypad::are_direction_keys_enabled(given[0]));
+    Ours {
+        number: numbers::DONE,
+        bytes: bytes,
+    }
+}
+
+// What waits, 5 for nothing.
+fn pending(first: Pending) -> u8 {
+    match first {
+        Pending::Some(interrupt) => interrupt::bit(interrupt),
+        Pending::None => 5,
+    }
+}
+
+fn interrupts(given: &[u8; 12]) -> Ours {
+    let named = interrupt::from_number(given[2]);
+    let Pending::Some(known) = named else {
+        return refused();
+    };
+    let mut bytes = [0u8; 12];
+    bytes[0] = pending(interrupt::get_interrupts(given[0], given[1]));
+    bytes[1] = interrupt::request(given[1], known);
+    bytes[2] = interrupt::remove(given[1], known);
+    Ours {
+        number: numbers::DONE,
+        bytes: bytes,
+    }
+}
+
+pub fn give(letter: Letter, given: &[u8; 12], rom: &[u8], save: &[u8]) -> Ours {
+    match letter {
+        Letter::Bits => bits(given),
+        Letter::Timer => update_timer(given),
+        Letter::Press => press(given),
+        Letter::Release => release(given),
+        Letter::Poll => poll(given),
+        Letter::Pad => pad(given),
+        Letter::Write => mapper::write(given),
+        Letter::Read => mapper::read(given, rom, save),
+        Letter::Interrupts => interrupts(given),
+    }
+}
+
+// Whether the first n bytes are the Rust's.
+pub fn same(ours: Ours, answer: &[u8; 12], n: usize) -> bool
+    requires { ⌜ n ≤ 12 ⌝ }
+{
+    if ours.number != numbers::DONE {
+        return false;
+    }
+    let bytes = ours.bytes;
+    let mut i = 0;
+    while i < n {
+        if bytes[i] != answer[i] {
+            return false;
+        }
+        i += 1;
+    }
+    true
+}

@@ -1,0 +1,229 @@
+// The letters W and R: a mapper's write, and its read over the contents of pattern.rt.
+use crate::answer::Ours;
+use crate::answer::flag;
+use crate::answer::refused;
+use crate::answer::word;
+use crate::pattern;
+use mbc::Answer;
+use mbc::Cartridge;
+use mbc::Mapper;
+use mbc::Mbc1;
+use mbc::Mbc2;
+use mbc::Source;
+
+pub enum Made {
+    Some(Mapper),
+    None,
+}
+
+// A mapper as a line has it: what it lacks has its starting value.
+pub struct Registers {
+    pub kind: u8,
+    pub rom: u8,
+    pub ram: u8,
+    pub mode: u8,
+    pub enabled: u8,
+    pub high: u8,
+}
+
+// N by its logarithm; 0, which no cartridge has, for another.
+fn banks(log: u8) -> u16 {
+    match log {
+        1 => 2,
+        2 => 4,
+        3 => 8,
+        4 => 16,
+        5 => 32,
+        6 => 64,
+        7 => 128,
+        _ => 0,
+    }
+}
+
+fn cartridge_of(given: &[u8; 12]) -> Cartridge {
+    Cartridge {
+        banks: banks(given[1]),
+        code: given[2],
+    }
+}
+
+fn built(given: &[u8; 12]) -> Made {
+    let kind = given[0];
+    match kind {
+        0 => Made::Some(Mapper::RomOnly),
+        1 => Made::Some(Mapper::Mbc1(Mbc1 {
+            rom: given[3],
+            ram: given[4],
+            mode: given[5] == 1,
+            enabled: given[6] == 1,
+            high: given[7],
+        })),
+        2 => Made::Some(Mapper::Mbc2(Mbc2 {
+            rom: given[3],
+            enabled: given[6] == 1,
+        })),
+        _ => Made::None,
+    }
+}
+
+fn registers_of(mapper: Mapper) -> Registers {
+    match mapper {
+        Mapper::RomOnly => Registers {
+            kind: 0,
+            rom: 1,
+            ram: 0,
+            mode: 0,
+            enabled: 0,
+            high: 0,
+        },
+        Mapper::Mbc1(m) => Registers {
+            kind: 1,
+            rom: m.rom,
+            ram: m.ram,
+            mode: flag(m.mode),
+            enabled: flag(m.enabled),
+            high: m.high,
+        },
+        Mapper::Mbc2(m) => Registers {
+            kind: 2,
+            rom: m.rom,
+            ram: 0,
+            mode: 0,
+            enabled: flag(m.enabled),
+            high: 0,
+        },
+    }
+}
+
+// Whether the line says no more than the mapper holds.
+fn whole(mapper: Mapper, given: &[u8; 12]) -> bool {
+    let held = registers_of(mapper);
+    if held.rom != given[3] {
+        return false;
+    }
+    if held.ram != given[4] {
+        return false;
+    }
+    if held.mode != given[5] {
+        return false;
+    }
+    if held.enabled != given[6] {
+        return false;
+    }
+    held.high == given[7]
+}
+
+// The mapper of a line.
+fn mapper_of(given: &[u8; 12]) -> Made {
+    let made = built(given);
+    let Made::Some(mapper) = made else {
+        return Made::None;
+    };
+    if whole(mapper, given) {
+        return made;
+    }
+    Made::None
+}
+
+// What a write asks of the save, behind the mapper's five bytes.
+fn with_answer(number: u8, registers: [u8; 12], answer: Answer) -> Ours {
+    let mut bytes = registers;
+    let Answer::Stored { at, value } = answer else {
+        return Ours {
+            number: number,
+            bytes: bytes,
+        };
+    };
+    if 65535 < at {
+        return refused();
+    }
+    bytes[5] = 1;
+    bytes[6] = (at / 256) as u8;
+    bytes[7] = (at % 256) as u8;
+    bytes[8] = value;
+    Ours {
+        number: number,
+        bytes: bytes,
+    }
+}
+
+pub fn write(given: &[u8; 12]) -> Ours {
+    let made = mapper_of(given);
+    let Made::Some(mapper) = made else {
+        return refused();
+    };
+    let index = word(given[8], given[9]);
+    let wrote = mapper.write_byte(cartridge_of(given), index, given[10]);
+    let next = wrote.mapper;
+    let after = registers_of(next);
+    if after.kind != given[0] {
+        return refused();
+    }
+    let mut bytes = [0u8; 12];
+    bytes[0] = after.rom;
+    bytes[1] = after.ram;
+    bytes[2] = after.mode;
+    bytes[3] = after.enabled;
+    bytes[4] = after.high;
+    let answer = wrote.answer;
+    with_answer(wrote.number, bytes, answer)
+}
+
+// The byte at a place.
+fn byte_at(source: Source) -> u8 {
+    match source {
+        Source::Rom(at) => pattern::rom_byte(at),
+        Source::Save(at) => pattern::save_byte(at),
+        Source::Half(at) => pattern::save_byte(at) % 16,
+        Source::Fixed(byte) => byte,
+    }
+}
+
+// Whether the public read gives that byte too. A ROM longer than the one at hand is read by its places only.
+fn reads(
+    mapper: Mapper,
+    cartridge: Cartridge,
+    rom: &[u8],
+    save: &[u8],
+    index: u16,
+    byte: u8,
+) -> bool {
+    let banked = cartridge.rom_len();
+    let saved = mapper.ram_len(cartridge);
+    if rom.len() < banked {
+        return true;
+    }
+    if save.len() < saved {
+        return false;
+    }
+    let read = mapper.read_byte(cartridge, &rom[..banked], &save[..saved], index);
+    if read.number != numbers::DONE {
+        return false;
+    }
+    read.value == byte
+}
+
+pub fn read(given: &[u8; 12], rom: &[u8], save: &[u8]) -> Ours {
+    let made = mapper_of(given);
+    let Made::Some(mapper) = made else {
+        return refused();
+    };
+    let cartridge = cartridge_of(given);
+    let index = word(given[8], given[9]);
+    if !mapper.in_range(cartridge) {
+        return refused();
+    }
+    if !mbc::is_mapped(index) {
+        return refused();
+    }
+    let byte = byte_at(mapper.source(cartridge, index));
+    if !reads(mapper, cartridge, rom, save, index, byte) {
+        return refused();
+    }
+    let mut bytes = [0u8; 12];
+    bytes[0] = byte;
+    Ours {
+        number: numbers::DONE,
+        bytes: bytes,
+    }
+}
