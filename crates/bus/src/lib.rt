@@ -1,5 +1,5 @@
 // The public calls of the bus. None has a `requires`: a state, a length or a number that is out of range is refused by document 01's number, and a
-// refused call changes nothing and gives 0. Every contract cites specs/Step.antt, where the calls are one function on worlds.
+// refused call changes nothing and gives 0. Contracts cite specs/State.antt, specs/Step.antt and specs/Fresh.antt.
 pub mod calls;
 pub mod fresh;
 pub mod reads;

@@ -3,7 +3,7 @@ use mathlib.Core.Bool.{cond}
 use Prim.Native.Nat.{ℕ, _+_, _*_, _/_, _%_}
 use lib.Dec.{eqb}
 
--- FF4D: bit 7 the speed, read-only; bit 0 armed. The other bits read 1
+-- FF4D: bit 7 the speed, read-only; bit 0 armed. That the other bits are stored as 1 (7E) is the Rust's
 abbrev pub speedOf : ℕ → ℕ → ℕ
 speedOf current value = current / 128 * 128 + value % 2 + 126
 
