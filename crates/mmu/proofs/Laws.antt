@@ -20,6 +20,7 @@ use Rattle.memory.specs.declared.Memory.{Memory}
 use Rattle.registers.proofs.Kept.{Kept, cond-both, oam-kept, write-kept, finished-kept}
 use Rattle.registers.specs.Transfers.{copyOf, finished}
 use Rattle.registers.specs.declared.transfers.Copy.{Copy}
+use Rattle.registers.specs.declared.transfers.Finish.{Finish}
 use Rattle.savelog.specs.Log.{width, bytesOf, recordBytes, appended, useInRange}
 use Rattle.mmu.specs.PanDocs.{echo, vramAt, wramAt}
 use Rattle.mmu.specs.Access.{Holds, Ready, readIn, mapperPut, saved, savePut, inState, inVram, inWram, putAt, put}
@@ -162,40 +163,54 @@ module _ (w : World) (h : Holds w) where
   pub put-holds : (index v : ℕ) → Holds (put w index v)
   put-holds index v = put-stays index v .holds
 
--- a copy leaves such a world if each of its writes does, so a transfer does, and so does a write at any depth
+-- What each byte write and each end of a transfer keeps, every write keeps: an induction over the bytes of a copy and the depth
 
-abbrev pub Keeps : (World → ℕ → ℕ → World) → Type 0
-Keeps f = (w : World) → Holds w → (index v : ℕ) → Stays w (f w index v)
+module _ (x : Fixed) (P : World → Type 0) (each : (w : World) → P w → (index v : ℕ) → P (put w index v))
+    (ends : (w : World) → P w → (k : Finish) (v : ℕ) → P (inState w (finished (w .state) k v))) where
+  copy-keeps : (f : World → ℕ → ℕ → World) → ((w : World) → P w → (index v : ℕ) → P (f w index v)) → (source destination n : ℕ) (w : World)
+      → P w → P (copyBy x f source destination n w)
+  unfolding copyBy
+  copy-keeps f k source destination zero w p = p
+  copy-keeps f k source destination (suc n) w p = k _ (copy-keeps f k source destination n w p) _ _
+
+  after-copy : (f : World → ℕ → ℕ → World) → ((w : World) → P w → (index v : ℕ) → P (f w index v)) → (c : Copy) (v : ℕ) (w : World) → P w
+      → P (transferred x f c v w)
+  after-copy f k c v w p =
+      ends (copyBy x f (c .source) (c .destination) (c .count) w)
+      (copy-keeps f k (c .source) (c .destination) (c .count) w p) (c .finish) v
+
+  pub write-keeps : (d : ℕ) (w : World) → P w → (index v : ℕ) → P (writeAt x d w index v)
+  unfolding writeAt
+  write-keeps zero w p index v = each w p index v
+  write-keeps (suc d) w p index v = after-copy (writeAt x d) (write-keeps d) (copyOf (w .state) index v) v (put w index v) (each w p index v)
+
+  pub transfer-keeps : (d : ℕ) (c : Copy) (v : ℕ) (w : World) → P w → P (transferred x (writeAt x d) c v w)
+  transfer-keeps d c v w p = after-copy (writeAt x d) (write-keeps d) c v w p
+
+  pub word-keeps : (w : World) → P w → (index v : ℕ) → P (wordAt x w index v)
+  unfolding wordAt
+  word-keeps w p index v =
+      write-keeps 2 (writeAt x 2 w index (v % 256)) (write-keeps 2 w p index (v % 256)) ((index + 1) % 65536) (v / 256)
+
+-- so every write leaves a world that holds
+
+module _ (x : Fixed) (w : World) (h : Holds w) where
+  stays-put : (u : World) → Stays w u → (index v : ℕ) → Stays w (put u index v)
+  stays-put u s index v = stays-trans s (put-stays u (s .holds) index v)
+
+  stays-end : (u : World) → Stays w u → (k : Finish) (v : ℕ) → Stays w (inState u (finished (u .state) k v))
+  stays-end u s k v = stays-trans s (kept-stays u (s .holds) (finished (u .state) k v) (finished-kept (u .state) k v))
+
+  pub write-stays : (d index v : ℕ) → Stays w (writeAt x d w index v)
+  write-stays d index v = write-keeps x (Stays w) stays-put stays-end d w (stays-refl w h) index v
+
+  pub transfer-stays : (d : ℕ) (c : Copy) (v : ℕ) → Stays w (transferred x (writeAt x d) c v w)
+  transfer-stays d c v = transfer-keeps x (Stays w) stays-put stays-end d c v w (stays-refl w h)
+
+  pub word-stays : (index v : ℕ) → Stays w (wordAt x w index v)
+  word-stays index v = word-keeps x (Stays w) stays-put stays-end w (stays-refl w h) index v
 
 module _ (x : Fixed) where
-  pub copy-stays : (f : World → ℕ → ℕ → World) → Keeps f → (source destination n : ℕ) (w : World) → Holds w
-      → Stays w (copyBy x f source destination n w)
-  unfolding copyBy
-  copy-stays f k source destination zero w h = stays-refl w h
-  copy-stays f k source destination (suc n) w h =
-      let s = copy-stays f k source destination n w h in
-      stays-trans s (k _ (s .holds) _ _)
-
-  pub transfer-stays : (f : World → ℕ → ℕ → World) → Keeps f → (c : Copy) (v : ℕ) (w : World) → Holds w
-      → Stays w (transferred x f c v w)
-  transfer-stays f k c v w h =
-      let u = copyBy x f (c .source) (c .destination) (c .count) w in
-      let s = copy-stays f k (c .source) (c .destination) (c .count) w h in
-      stays-trans s (kept-stays u (s .holds) (finished (u .state) (c .finish) v) (finished-kept (u .state) (c .finish) v))
-
-  pub write-stays : (d : ℕ) → Keeps (writeAt x d)
-  unfolding writeAt
-  write-stays zero w h index v = put-stays w h index v
-  write-stays (suc d) w h index v =
-      let s = put-stays w h index v in
-      stays-trans s (transfer-stays (writeAt x d) (write-stays d) (copyOf (w .state) index v) v (put w index v) (s .holds))
-
-  pub word-stays : (w : World) → Holds w → (index v : ℕ) → Stays w (wordAt x w index v)
-  unfolding wordAt
-  word-stays w h index v =
-      let s = write-stays 2 w h index (v % 256) in
-      stays-trans s (write-stays 2 (writeAt x 2 w index (v % 256)) (s .holds) ((index + 1) % 65536) (v / 256))
-
   -- with what is lent for reading alone
 
   pub stays-ready : (w u : World) → Ready x w → Stays w u → Ready x u
@@ -205,7 +220,7 @@ module _ (x : Fixed) where
   put-ready w r index v = stays-ready w (put w index v) r (put-stays w (r .holds) index v)
 
   pub write-ready : (d : ℕ) (w : World) → Ready x w → (index v : ℕ) → Ready x (writeAt x d w index v)
-  write-ready d w r index v = stays-ready w (writeAt x d w index v) r (write-stays d w (r .holds) index v)
+  write-ready d w r index v = stays-ready w (writeAt x d w index v) r (write-stays x w (r .holds) d index v)
 
   -- a read needs no log
   pub read-ready : (w : World) → Ready x w → Ready x (world (w .state) (w .vram) (w .wram) (w .save) [])

@@ -34,15 +34,22 @@ fn vram_at(bank: u8, index: u16) -> usize
     (index - 0x8000) as usize + bank as usize * 0x2000
 }
 
+// A place in a bank of work memory.
+fn banked(bank: u8, offset: u16) -> usize
+    ensures { λ r. ⌜ r ≡ offset + bank * 0x1000 ⌝ }
+{
+    offset as usize + bank as usize * 0x1000
+}
+
 // Where an index of work memory lies.
 fn wram_at(bank: u8, index: u16) -> usize
     requires { ⌜ 0xC000 ≤ index ⌝ }
     ensures { λ r. ⌜ r ≡ wramAt bank index ⌝ }
 {
     if index < 0xD000 {
-        return (index - 0xC000) as usize;
+        return banked(0, index - 0xC000);
     }
-    (index - 0xD000) as usize + bank as usize * 0x1000
+    banked(bank, index - 0xD000)
 }
 
 pub fn read_cgb_lcd_ram(vram: &[u8], bank: u8, index: u16) -> u8

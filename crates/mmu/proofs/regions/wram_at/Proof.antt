@@ -1,34 +1,32 @@
--- By the half that the index lies in.
+-- By the half that the index lies in; C000..CFFF is bank 0.
+use mathlib.Core.Path.{_≡_, sym, _∙_}
+use Prim.Native.Nat.{_-_}
+use native.Mathlib.Omega.{arith}
+use borrow.Author.Tests.{lt-ltb, le-ltb}
+use Rattle.rules.proofs.Tests.{cond-true, cond-false}
 use Rattle.mmu.specs.PanDocs.{wramAt}
-use Rattle.rules.proofs.Tests.{tests}
 use borrow.Author.Needs.{needs}
 use Rattle.mmu.proofs.regions.wram_at.Statement.{statement}
 use Rattle.mmu.proofs.regions.wram_at.Tie as tie
 
-sub-result : tie.Need-sub-result
-sub-result c = search needs
+sub-banked : tie.Need-sub-banked
+sub-banked c = search needs
 
-cast-result : tie.Need-cast-result
-cast-result c = search needs
+banked-requires : tie.Need-banked-requires
+banked-requires c κs = search needs
 
 returns : tie.Need-returns
 unfolding wramAt
-returns c = search tests
+returns c =
+    let e : c .banked .result ≡ c .before .before .args .index - 0xC000 = omega (arith, c .banked .ensures) in
+    e ∙ sym (cond-true _ _ _ (lt-ltb _ _ (c .before .if1 .taken)))
 
-cast-result-2 : tie.Need-cast-result-2
-cast-result-2 c = search needs
-
-mul-result : tie.Need-mul-result
-mul-result c = search needs
-
-add-result : tie.Need-add-result
-add-result c = search needs
+banked-requires-2 : tie.Need-banked-requires-2
+banked-requires-2 c κs = search needs
 
 returns-2 : tie.Need-returns-2
 unfolding wramAt
-returns-2 c = search tests
+returns-2 c = c .banked2 .ensures ∙ sym (cond-false _ _ _ (le-ltb _ _ (c .before .if1 .left)))
 
 pub wram-at-spec : {M : Type 1} → statement M
-wram-at-spec =
-    tie.close
-    (tie.spec sub-result cast-result returns cast-result-2 mul-result add-result returns-2)
+wram-at-spec = tie.close (tie.spec sub-banked banked-requires returns banked-requires-2 returns-2)
