@@ -26,6 +26,8 @@ use Rattle.memory.specs.declared.Memory.{Memory}
 use Rattle.bus.specs.declared.calls.Performed.{Performed}
 use Rattle.bus.specs.declared.calls.Call.{Call}
 use Rattle.bus.specs.declared.calls.Call.the-variants as call
+use Rattle.bus.specs.declared.calls.StateCall.{StateCall}
+use Rattle.bus.specs.declared.calls.StateCall.the-variants as on
 
 -- the number of a call, the value that it gives, and what it leaves
 pub record Outcome : Type 0 where
@@ -79,24 +81,11 @@ doDmaTransferCall x w page =
 abbrev pub doHdmaCall : Fixed → World → Outcome
 doHdmaCall x w = unless (refusedWrite x w) w (outcome done 36 (transferred x (writeAt x 1) (blockCopy (w .state)) 0 w))
 
--- What the answers of the other calls mean on worlds
-
-abbrev pub ofDone : World → Done → Outcome
-ofDone w d = outcome (d .number) 0 (inState w (d .memory))
-
-abbrev pub ofByte : World → Byte → Outcome
-ofByte w b = outcome (b .number) (b .value) w
-
-abbrev pub ofWord : World → Word → Outcome
-ofWord w b = outcome (b .number) (b .value) w
+-- What the dispatch answers: a flag is 0 or 1, an interrupt its bit, none 5
 
 abbrev pub flagNumber : Bool → ℕ
 flagNumber b = cond b 1 0
 
-abbrev pub ofFlag : World → Flag → Outcome
-ofFlag w b = outcome (b .number) (flagNumber (b .value)) w
-
--- an interrupt as its number; none is 5
 abbrev pub pendingNumber : Pending → ℕ
 pendingNumber (pending.Some i) = bitOf i
 pendingNumber pending.None = 5
@@ -105,48 +94,55 @@ pendingNumber pending.None = 5
 abbrev pub waitingNumber : Waiting → ℕ
 waitingNumber p = cond (eqb (p .number) done) (pendingNumber (p .pending)) 0
 
-abbrev pub ofWaiting : World → Waiting → Outcome
-ofWaiting w p = outcome (p .number) (waitingNumber p) w
-
--- the dispatch's own answer
 abbrev pub performed : ℕ → ℕ → Memory → Performed
 performed n v m = record { number = n; value = v; memory = m }
 
 abbrev pub performedDone : Done → Performed
 performedDone d = performed (d .number) 0 (d .memory)
 
--- the calls
+abbrev pub performedFlag : Memory → Flag → Performed
+performedFlag m b = performed (b .number) (flagNumber (b .value)) m
+
+-- a call on the state alone leaves the lent memories
+abbrev pub inWorld : World → Performed → Outcome
+inWorld w p = outcome (p .number) (p .value) (inState w (p .memory))
+
+-- the calls on the state alone
+unfoldable pub stateStep : Memory → StateCall → Performed
+stateStep m (on.Load i) = performed (state.loadCall m i .number) (state.loadCall m i .value) m
+stateStep m (on.Store i v) = performedDone (state.storeCall m i v)
+stateStep m (on.SetJoypadState s) = performedDone (state.setJoypadStateCall m s)
+stateStep m on.AreActionKeysEnabled = performedFlag m (state.actionKeysCall m)
+stateStep m on.AreDirectionKeysEnabled = performedFlag m (state.directionKeysCall m)
+stateStep m (on.DoLcdControlWrite v) = performedDone (state.controlCall m v)
+stateStep m (on.DoLcdStatusWrite v) = performedDone (state.statusCall m v)
+stateStep m (on.DoScanlineWrite v) = performedDone (state.scanlineCall m v)
+stateStep m (on.DoLycWrite v) = performedDone (state.lycCall m v)
+stateStep m on.CompareLyToLyc = performedDone (state.compareCall m)
+stateStep m on.EnableScreen = performedDone (state.enableCall m)
+stateStep m on.DisableScreen = performedDone (state.disableCall m)
+stateStep m on.ResetWindowLine = performedDone (state.windowCall m)
+stateStep m on.GetInterrupts = performed (state.getInterruptsCall m .number) (waitingNumber (state.getInterruptsCall m)) m
+stateStep m (on.RequestInterrupt n) = performedDone (state.requestCall m n)
+stateStep m (on.RemoveInterrupt n) = performedDone (state.removeCall m n)
+stateStep m on.IsHdmaEnabled = performedFlag m (state.hdmaEnabledCall m)
+stateStep m (on.UpdateTimer c) = performedDone (state.updateTimerCall m c)
+stateStep m (on.Press b) = performedDone (state.pressCall m b)
+stateStep m (on.Release b) = performedDone (state.releaseCall m b)
+stateStep m on.UpdateJoypad = performedDone (state.updateJoypadCall m)
+stateStep m on.ClearLog = performedDone (state.clearLogCall m)
+stateStep m (on.Host lcd) = performedDone (state.hostCall m lcd)
+
+-- all calls, on a world
 unfoldable pub step : Fixed → World → Call → Outcome
-step x w (call.ReadByte i) = ofByte w (readByteCall x w i)
-step x w (call.ReadWord i) = ofWord w (readWordCall x w i)
+step x w (call.ReadByte i) = outcome (readByteCall x w i .number) (readByteCall x w i .value) w
+step x w (call.ReadWord i) = outcome (readWordCall x w i .number) (readWordCall x w i .value) w
+step x w (call.ReadCgbLcdRam i bank) = outcome (readCgbLcdRamCall w i bank .number) (readCgbLcdRamCall w i bank .value) w
 step x w (call.WriteByte i v) = writeByteCall x w i v
 step x w (call.WriteWord i v) = writeWordCall x w i v
-step x w (call.Load i) = ofByte w (state.loadCall (w .state) i)
-step x w (call.Store i v) = ofDone w (state.storeCall (w .state) i v)
-step x w (call.ReadCgbLcdRam i bank) = ofByte w (readCgbLcdRamCall w i bank)
-step x w (call.SetJoypadState s) = ofDone w (state.setJoypadStateCall (w .state) s)
-step x w call.AreActionKeysEnabled = ofFlag w (state.actionKeysCall (w .state))
-step x w call.AreDirectionKeysEnabled = ofFlag w (state.directionKeysCall (w .state))
-step x w (call.DoLcdControlWrite v) = ofDone w (state.controlCall (w .state) v)
-step x w (call.DoLcdStatusWrite v) = ofDone w (state.statusCall (w .state) v)
-step x w (call.DoScanlineWrite v) = ofDone w (state.scanlineCall (w .state) v)
-step x w (call.DoLycWrite v) = ofDone w (state.lycCall (w .state) v)
 step x w (call.DoDmaTransfer page) = doDmaTransferCall x w page
-step x w call.CompareLyToLyc = ofDone w (state.compareCall (w .state))
-step x w call.EnableScreen = ofDone w (state.enableCall (w .state))
-step x w call.DisableScreen = ofDone w (state.disableCall (w .state))
-step x w call.ResetWindowLine = ofDone w (state.windowCall (w .state))
 step x w call.DoHdma = doHdmaCall x w
-step x w call.GetInterrupts = ofWaiting w (state.getInterruptsCall (w .state))
-step x w (call.RequestInterrupt n) = ofDone w (state.requestCall (w .state) n)
-step x w (call.RemoveInterrupt n) = ofDone w (state.removeCall (w .state) n)
-step x w call.IsHdmaEnabled = ofFlag w (state.hdmaEnabledCall (w .state))
-step x w (call.UpdateTimer c) = ofDone w (state.updateTimerCall (w .state) c)
-step x w (call.Press b) = ofDone w (state.pressCall (w .state) b)
-step x w (call.Release b) = ofDone w (state.releaseCall (w .state) b)
-step x w call.UpdateJoypad = ofDone w (state.updateJoypadCall (w .state))
-step x w call.ClearLog = ofDone w (state.clearLogCall (w .state))
-step x w (call.Host lcd) = ofDone w (state.hostCall (w .state) lcd)
+step x w (call.State c) = inWorld w (stateStep (w .state) c)
 
 -- a list of calls, each on what the last one left
 unfoldable pub run : Fixed → World → List Call → World
