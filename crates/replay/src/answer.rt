@@ -43,6 +43,14 @@ pub fn flag(set: bool) -> u8 {
     0
 }
 
+// Whether two bytes are flags.
+fn are_flags(a: u8, b: u8) -> bool {
+    if 1 < a {
+        return false;
+    }
+    b < 2
+}
+
 fn bits(given: &[u8; 12]) -> Ours {
     let tested = bit_utils::is_set(given[0], given[1]);
     let set = bit_utils::set_bit(given[0], given[1]);
@@ -112,16 +120,25 @@ fn pressed(after: Pressed) -> Ours {
 }
 
 fn press(given: &[u8; 12]) -> Ours {
+    if !are_flags(given[1], given[2]) {
+        return refused();
+    }
     let before = controller_of(given);
     pressed(before.press(given[3]))
 }
 
 fn release(given: &[u8; 12]) -> Ours {
+    if !are_flags(given[1], given[2]) {
+        return refused();
+    }
     let before = controller_of(given);
     pressed(before.release(given[3]))
 }
 
 fn poll(given: &[u8; 12]) -> Ours {
+    if !are_flags(given[3], given[4]) {
+        return refused();
+    }
     let before = Controller {
         released: given[2],
         action: given[3] == 1,
