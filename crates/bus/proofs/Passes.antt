@@ -14,8 +14,8 @@ use Rattle.memory.specs.declared.Memory.{Memory}
 use Rattle.mmu.specs.Access.{Ready}
 use Rattle.rules.proofs.Tests.{both-true}
 use Rattle.savelog.specs.Log.{logLimit}
-use Rattle.bus.specs.Refusal.{lengthsFit, lengthsRefused, logRefused, readRefused, writeRefused, vramLengthRefused, vramRefused, hasBank}
-use Rattle.bus.proofs.Answers.{both-pass, state-passes, range-state}
+use Rattle.refusals.specs.Refusal.{lengthsFit, lengthsRefused, logRefused, readRefused, writeRefused, vramLengthRefused, vramRefused, hasBank}
+use Rattle.refusals.proofs.Answers.{both-pass, state-passes, range-state}
 
 -- a test whose failure would have been a number other than 0
 passes : (b : Bool) (k : ℕ) → 0 < k → _≡_ {A = ℕ} (cond b 0 k) 0 → b ≡ true

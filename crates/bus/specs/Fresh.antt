@@ -8,7 +8,7 @@ use Rattle.mbc.specs.Mbc.{fresh}
 use Rattle.memory.specs.Start.{zeroed, started}
 use Rattle.memory.specs.declared.Memory.{Memory}
 use Rattle.numbers.specs.Numbers.{done}
-use Rattle.bus.specs.Refusal.{orElse, lengthsRefused, logRefused}
+use Rattle.refusals.specs.Refusal.{orElse, lengthsRefused, logRefused}
 
 -- the number, the state, and video and work memory as they are left; ROM, save, log and sound window are lent for reading
 pub record Begun : Type 0 where

@@ -1,4 +1,2 @@
+pub mod Calls
 pub mod Fresh
-pub mod Refusal
-pub mod State
-pub mod Step

@@ -2,10 +2,9 @@
 ghost use mathlib.Core.Path.{_≡_};
 ghost use lib.ListN.{length, replicate};
 ghost use Rattle.bus.specs.Fresh.{freshRefused, freshCall, begun};
-use crate::Done;
-use crate::refusals;
 use mbc::Mapper;
 use memory::Memory;
+use refusals::Done;
 
 fn zero_bytes(bytes: &mut [u8])
     ensures { λ _. ⌜ now (bytes .exit) ≡ replicate (length (now (bytes .entry))) 0 ⌝ }

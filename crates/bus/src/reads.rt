@@ -2,11 +2,10 @@
 ghost use mathlib.Core.List.{[]};
 ghost use mathlib.Core.Path.{_≡_};
 ghost use Rattle.memory.specs.World.{world, fixed};
-ghost use Rattle.bus.specs.Step.{readByteCall, readWordCall, readCgbLcdRamCall};
-use crate::Byte;
-use crate::Word;
-use crate::refusals;
+ghost use Rattle.bus.specs.Calls.{readByteCall, readWordCall, readCgbLcdRamCall};
 use memory::Memory;
+use refusals::Byte;
+use refusals::Word;
 
 pub fn read_byte(
     memory: Memory,
@@ -76,7 +75,7 @@ pub fn read_word(
 pub fn read_cgb_lcd_ram(memory: Memory, vram: &[u8], index: u16, bank: u8) -> Byte
     ensures { λ r. ⌜ r ≡ readCgbLcdRamCall (world memory (now (vram .entry)) [] [] []) index bank ⌝ }
 {
-    let state = refusals::state_refused(memory, refusals::LOG_LIMIT);
+    let state = refusals::refused(memory);
     let length = refusals::vram_length_refused(memory, vram.len());
     let rest = refusals::or_else(length, refusals::vram_refused(memory, index, bank));
     let number = refusals::or_else(state, rest);

@@ -1,10 +1,9 @@
 // The calls that write what is lent. What refuses them is asked of the state and the lengths before anything is touched.
 ghost use mathlib.Core.Path.{_≡_};
 ghost use Rattle.memory.specs.World.{world, fixed};
-ghost use Rattle.bus.specs.Step.{outcome, writeByteCall, writeWordCall, doDmaTransferCall, doHdmaCall};
-use crate::Done;
-use crate::refusals;
+ghost use Rattle.bus.specs.Calls.{outcome, writeByteCall, writeWordCall, doDmaTransferCall, doHdmaCall};
 use memory::Memory;
+use refusals::Done;
 
 // The number, the answer of do_hdma, and the state after the call.
 pub struct Moved {

@@ -1,5 +1,5 @@
 -- Refused, or done: the description first, then the lengths.
-use Rattle.bus.proofs.Answers.{refused-fresh, accepted-fresh}
+use Rattle.bus.proofs.Outcomes.{refused-fresh, accepted-fresh}
 use borrow.Author.Needs.{needs}
 use Rattle.bus.proofs.fresh.fresh.Statement.{statement}
 use Rattle.bus.proofs.fresh.fresh.Tie as tie

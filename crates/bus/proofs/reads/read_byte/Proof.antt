@@ -1,6 +1,6 @@
 -- Refused, or read within.
 use Rattle.bus.proofs.Passes.{read-passes}
-use Rattle.bus.proofs.Answers.{refused-byte, accepted-byte}
+use Rattle.refusals.proofs.Answers.{refused-byte, accepted-byte}
 use mathlib.Core.Path.{sym, _∙_}
 use borrow.Author.Needs.{needs}
 use Rattle.bus.proofs.reads.read_byte.Statement.{statement}

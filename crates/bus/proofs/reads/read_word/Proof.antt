@@ -1,6 +1,6 @@
 -- Refused, or read within.
 use Rattle.bus.proofs.Passes.{read-passes}
-use Rattle.bus.proofs.Answers.{refused-word, accepted-word}
+use Rattle.refusals.proofs.Answers.{refused-word, accepted-word}
 use mathlib.Core.Path.{sym, _∙_}
 use borrow.Author.Needs.{needs}
 use Rattle.bus.proofs.reads.read_word.Statement.{statement}

@@ -1,6 +1,6 @@
 -- Refused, or transferred within.
 use Rattle.bus.proofs.Passes.{write-passes}
-use Rattle.bus.proofs.Answers.{refused-outcome, accepted-outcome, same-outcome}
+use Rattle.bus.proofs.Outcomes.{refused-outcome, accepted-outcome, same-outcome}
 use mathlib.Core.Path.{refl, sym, _∙_}
 use borrow.Author.Needs.{needs}
 use Rattle.bus.proofs.writes.do_dma_transfer.Statement.{statement}

@@ -1,6 +1,7 @@
 -- Refused, or written within.
 use Rattle.bus.proofs.Passes.{write-passes}
-use Rattle.bus.proofs.Answers.{refused-outcome, accepted-outcome, same-outcome, both-pass}
+use Rattle.bus.proofs.Outcomes.{refused-outcome, accepted-outcome, same-outcome}
+use Rattle.refusals.proofs.Answers.{both-pass}
 use mathlib.Core.Path.{sym, _∙_}
 use borrow.Author.Needs.{needs}
 use Rattle.bus.proofs.writes.write_byte.Statement.{statement}

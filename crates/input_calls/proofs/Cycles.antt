@@ -1,0 +1,28 @@
+-- What the timer asks for: cycles that are not refused, and `tima_cycles` of a state in range.
+use mathlib.Core.Bool.{Bool, true, false, cond}
+use mathlib.Core.Path.{_≡_, refl}
+use Prim.Native.Nat.{ℕ, _<_, _≤_}
+use native.Mathlib.Omega.{arith}
+use lib.Dec.{leb}
+use borrow.Author.Tests.{leb-true}
+use Rattle.memory.specs.Ranges.{stateInRange, banksInRange, hdmaInRange}
+use Rattle.memory.specs.declared.Memory.{Memory}
+use Rattle.refusals.specs.Refusal.{cyclesRefused}
+use Rattle.rules.proofs.Tests.{both-true}
+
+pub cycles-pass : (c : ℕ) → cyclesRefused c ≡ 0 → c ≤ 65536
+unfolding cyclesRefused
+cycles-pass c h = leb-true c 65536 (passes (leb c 65536) h)
+  where
+    passes : (b : Bool) → _≡_ {A = ℕ} (cond b 0 5) 0 → b ≡ true
+    passes true h = refl
+    passes false h = absurd (omega arith)
+
+-- `tima_cycles` of a state in range
+pub tima-below : (m : Memory) → stateInRange m ≡ true → m .clock .tima < 1024
+unfolding stateInRange
+tima-below m h =
+    let a = both-true (banksInRange (m .banks)) _ h in
+    let b = both-true (hdmaInRange (m .hdma) (m .banks .colour)) _ (a .1) in
+    let c = both-true (leb (m .clock .tima) 1023) _ (b .1) in
+    omega (arith, leb-true (m .clock .tima) 1023 (c .0))

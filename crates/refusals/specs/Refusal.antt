@@ -1,0 +1,106 @@
+-- When a call is refused, and by which number (document 01, "Numbers a call gives back"; the order 3, 4, 5, 7, 6, 2).
+use mathlib.Core.Bool.{Bool, true, false, cond, _&&_, _||_}
+use Prim.Native.Nat.{ℕ, _+_, _%_}
+use lib.Dec.{eqb, ltb, leb}
+use lib.ListN.{length}
+use Rattle.mbc.specs.Mbc.{romLen, ramLen}
+use Rattle.memory.specs.Ranges.{inRange, vramLen, wramLen, soundLen}
+use Rattle.memory.specs.World.{World, Fixed}
+use Rattle.memory.specs.declared.Memory.{Memory}
+use Rattle.numbers.specs.Numbers.{done, owed, noRoom, outOfRange, wrongLength, tooManyCycles, outside}
+use Rattle.savelog.specs.Log.{width, logLimit}
+
+-- the first refusal of two that is due; 0 where none is
+unfoldable pub orElse : ℕ → ℕ → ℕ
+orElse n next = cond (eqb n done) next n
+
+-- 3: the state is out of range; the log use is within the lent log, or within 65,535 bytes where none is lent
+unfoldable pub stateRefused : Memory → ℕ → ℕ
+stateRefused m limit = cond (inRange m limit) done outOfRange
+
+-- 3 where no log is lent: its use is held to 65,535
+abbrev pub refusedState : Memory → ℕ
+refusedState m = stateRefused m logLimit
+
+-- 4: a lent length other than the state asks for
+unfoldable pub lengthsFit : Memory → ℕ → ℕ → ℕ → ℕ → ℕ → Bool
+lengthsFit m rom vram wram save sound =
+    eqb rom (romLen (m .cartridge))
+    && (eqb vram (vramLen (m .banks .colour))
+    && (eqb wram (wramLen (m .banks .colour))
+    && (eqb save (ramLen (m .cartridge) (m .mapper)) && eqb sound soundLen)))
+
+unfoldable pub lengthsRefused : Memory → ℕ → ℕ → ℕ → ℕ → ℕ → ℕ
+lengthsRefused m rom vram wram save sound = cond (lengthsFit m rom vram wram save sound) done wrongLength
+
+-- a call that reads the lent memories
+unfoldable pub readRefused : Memory → ℕ → ℕ → ℕ → ℕ → ℕ → ℕ
+readRefused m rom vram wram save sound = orElse (stateRefused m logLimit) (lengthsRefused m rom vram wram save sound)
+
+-- a log of 0 to 65,535 bytes
+unfoldable pub logRefused : ℕ → ℕ
+logRefused log = cond (leb log logLimit) done wrongLength
+
+-- a call that writes them: the log is lent too
+unfoldable pub writeRefused : Memory → ℕ → ℕ → ℕ → ℕ → ℕ → ℕ → ℕ
+writeRefused m rom vram wram save sound log =
+    orElse (stateRefused m log) (orElse (lengthsRefused m rom vram wram save sound) (logRefused log))
+
+-- an index of the save's window, A000..BFFF
+unfoldable pub inSave : ℕ → Bool
+inSave i = leb 0xA000 i && ltb i 0xC000
+
+-- an index of the sound window, FF10..FF3F
+unfoldable pub inSound : ℕ → Bool
+inSound i = leb 0xFF10 i && ltb i 0xFF40
+
+-- word calls: index + 1 wraps
+abbrev pub nextIndex : ℕ → ℕ
+nextIndex i = (i + 1) % 65536
+
+-- 2: a byte write in A000..BFFF with under 3 log bytes free; a word write with either index there, under 6 free
+unfoldable pub byteRoom : ℕ → ℕ → ℕ → ℕ
+byteRoom used log i = cond (inSave i && ltb log (used + width)) noRoom done
+
+unfoldable pub eitherInSave : ℕ → Bool
+eitherInSave i = inSave i || inSave (nextIndex i)
+
+unfoldable pub wordRoom : ℕ → ℕ → ℕ → ℕ
+wordRoom used log i = cond (eitherInSave i && ltb log (used + (width + width))) noRoom done
+
+-- 1: done, and the host owes the sound write
+unfoldable pub byteOwed : ℕ → ℕ
+byteOwed i = cond (inSound i) owed done
+
+unfoldable pub wordOwed : ℕ → ℕ
+wordOwed i = cond (inSound i || inSound (nextIndex i)) owed done
+
+-- 7: a raw load or store below FF00
+unfoldable pub rawRefused : ℕ → ℕ
+rawRefused i = cond (ltb i 0xFF00) outside done
+
+-- 5: cycles over 65,536
+unfoldable pub cyclesRefused : ℕ → ℕ
+cyclesRefused c = cond (leb c 65536) done tooManyCycles
+
+-- 4: the length of video memory, where it alone is lent
+unfoldable pub vramLengthRefused : Memory → ℕ → ℕ
+vramLengthRefused m vram = cond (eqb vram (vramLen (m .banks .colour))) done wrongLength
+
+-- a VRAM bank is 0 or 1, and 1 in colour alone
+unfoldable pub hasBank : Memory → ℕ → Bool
+hasBank m bank = cond (eqb bank 0) true (cond (eqb bank 1) (m .banks .colour) false)
+
+-- 7: a VRAM bank that the machine lacks, or an index outside 8000..9FFF
+unfoldable pub vramRefused : Memory → ℕ → ℕ → ℕ
+vramRefused m i bank = cond (hasBank m bank) (cond (leb 0x8000 i && ltb i 0xA000) done outside) outside
+
+-- the refusals over a world
+abbrev pub refusedRead : Fixed → World → ℕ
+refusedRead x w =
+    readRefused (w .state) (length (x .rom)) (length (w .vram)) (length (w .wram)) (length (w .save)) (length (x .sound))
+
+abbrev pub refusedWrite : Fixed → World → ℕ
+refusedWrite x w =
+    writeRefused (w .state) (length (x .rom)) (length (w .vram)) (length (w .wram)) (length (w .save)) (length (x .sound))
+    (length (w .log))
