@@ -1,4 +1,4 @@
-// Test, set and clear one bit of a byte, as the Rust's bit_utils.rs. A bit over 7, which the Rust shifts out of the byte, is refused by 7.
+// Test, set and clear one bit of a byte, as the Rust's bit_utils.rs. A bit over 7, for which the Rust takes another bit, is refused by 7.
 ghost use mathlib.Core.Path.{_≡_};
 ghost use Rattle.bit_utils.specs.Bits.{tested, changed, setBit, unsetBit};
 

@@ -63,7 +63,7 @@ numbersOff l = numbersOf true 0 0 0 (l .delay) (pos 0) (pos 0) (l .window)
 abbrev pub screenDisabled : Screen → Screen
 screenDisabled s = with-status (with-lcd s (numbersOff (s .lcd))) (s .status / 4 % 32 * 4)
 
--- `reset_window_line`: window line 0, on a visible line below FF4A
+-- `reset_window_line`: window line 0, on a visible line past the one in FF4A
 unfoldable pub windowLineReset : Screen → Screen
 windowLineReset s =
     cond (eqb (ofZ w32 (s .lcd .window)) 0)

@@ -1,4 +1,5 @@
--- A byte read, and a byte write without the copying that it may start (document 01, "The bus" and "Save log and state image").
+-- A byte read, and a byte write without the copying that it may start (document 01, "The bus" and "Save log and state image";
+-- the ends of the regions are Pan Docs', "Memory Map").
 use mathlib.Core.Bool.{true, cond}
 use mathlib.Core.List.{List}
 use mathlib.Core.Path.{_≡_}

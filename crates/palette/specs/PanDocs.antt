@@ -1,4 +1,4 @@
--- From Pan Docs, "LCD Color Palettes (CGB only)": a palette memory of 64 bytes holds eight palettes of four colours.
+-- From Pan Docs, "Palettes (CGB)": a palette memory of 64 bytes holds eight palettes of four colours.
 use mathlib.Core.Bool.{Bool, cond}
 use mathlib.Core.List.{List}
 use Prim.Native.Nat.{ℕ, _+_, _*_, _/_, _%_}

@@ -1,5 +1,5 @@
--- Registers that only a colour machine has (document 01, "The bus": "Colour only (monochrome just stores)": FF4D, FF4F, FF70, and the palettes' FF68..FF6B).
--- The stored bytes of FF4F (bit 0) and FF70 (bits 2..0) are the Rust's.
+-- Registers that only a colour machine has (document 01, "The bus": "Colour only (monochrome just stores)": FF4D, FF4F, FF70).
+-- The stored bytes of FF4F (bit 0) and FF70 (bits 2..0), and that the palettes' FF68..FF6B are colour only too, are the Rust's.
 use mathlib.Core.Bool.{cond}
 use Prim.Native.Nat.{ℕ, _%_}
 use lib.ListN.{set}

@@ -9,6 +9,7 @@ use Rattle.joypad.specs.Joypad.{padRead}
 use Rattle.lcd.specs.Lcd.{scanlineWritten, lycWritten, controlWritten, statusWritten}
 use Rattle.memory.specs.declared.Memory.{Memory}
 use Rattle.registers.specs.Colour.{speedPut, vramBankPut, wramBankPut, backgroundIndexPut, backgroundDataPut, spriteIndexPut, spriteDataPut}
+use Rattle.registers.specs.PanDocs.{flagsOnes, statusOnes, vramBankOnes, divReset}
 use Rattle.registers.specs.State.{loaded, stored, onScreen}
 use Rattle.registers.specs.Transfers.{sourceHighPut, sourceLowPut, destinationHighPut, destinationLowPut, startPut}
 
@@ -34,11 +35,11 @@ readRegister m sound at =
     (cond (eqb at 0x03) 0xFF
     (cond (eqb at 0x07) (forced m 0x07 0xF8)
     (cond (eqb at 0x0E) 0xFF
-    (cond (eqb at 0x0F) (forced m 0x0F 0xE0)
-    (cond (eqb at 0x41) (forced m 0x41 0x80)
+    (cond (eqb at 0x0F) (forced m 0x0F flagsOnes)
+    (cond (eqb at 0x41) (forced m 0x41 statusOnes)
     (cond (eqb at 0x44) (lineRead m)
     (cond (eqb at 0x4C) 0xFF
-    (cond (eqb at 0x4F) (forced m 0x4F 0xFE)
+    (cond (eqb at 0x4F) (forced m 0x4F vramBankOnes)
     (cond (eqb at 0x68) (byKind m (forced m 0x68 0x40) 0xC0)
     (cond (eqb at 0x69) (byKind m (forced m 0x69 0xF8) 0xFF)
     (cond (eqb at 0x6A) (byKind m (forced m 0x6A 0x40) 0xC0)
@@ -54,7 +55,7 @@ plainWrite m at v = cond (ltb at 0x10) (stored m at v) (cond (ltb at 0x40) m (st
 
 unfoldable pub writeRegister : Memory → ℕ → ℕ → Memory
 writeRegister m at v =
-    cond (eqb at 0x04) (stored m 0x04 0)
+    cond (eqb at 0x04) (stored m 0x04 divReset)
     (cond (eqb at 0x0F) (stored m 0x0F (v % 32))
     (cond (eqb at 0x40) (onScreen (λ s. controlWritten s v) m)
     (cond (eqb at 0x41) (onScreen (λ s. statusWritten s v) m)

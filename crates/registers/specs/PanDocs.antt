@@ -1,4 +1,4 @@
--- From Pan Docs, "CGB Registers": what FF4D, FF4F and FF70 keep and select.
+-- From Pan Docs: what FF4D, FF4F and FF70 keep and select ("CGB Registers"), which bits read 1, and the ends of OAM DMA and of video memory.
 use mathlib.Core.Bool.{cond}
 use Prim.Native.Nat.{ℕ, _+_, _*_, _/_, _%_}
 use lib.Dec.{eqb}
@@ -14,6 +14,21 @@ vramBankOf value = value % 2
 -- FF70: bits 2..0 select the bank of work memory at D000; 0 selects 1
 unfoldable pub wramBankOf : ℕ → ℕ
 wramBankOf value = cond (eqb (value % 8) 0) 1 (value % 8)
+
+-- Bits that read 1: FF0F's upper three ("Interrupts"), FF41's bit 7 ("LCD Status Registers"), FF4F's bits 7..1 ("CGB Registers")
+
+abbrev pub flagsOnes : ℕ
+flagsOnes = 0xE0
+
+abbrev pub statusOnes : ℕ
+statusOnes = 0x80
+
+abbrev pub vramBankOnes : ℕ
+vramBankOnes = 0xFE
+
+-- Timer and Divider Registers: a write of any value sets DIV to 00
+abbrev pub divReset : ℕ
+divReset = 0x00
 
 -- OAM DMA Transfer: XX00..XX9F to FE00..FE9F
 abbrev pub oamBytes : ℕ
