@@ -1,0 +1,10 @@
+-- The laws are those of proofs/Round.antt.
+use Rattle.image.proofs.Round.{state-back, image-back}
+use Rattle.image.proofs.laws_hold.Statement.{statement}
+use Rattle.image.proofs.laws_hold.Tie as tie
+
+returns : tie.Need-returns
+returns c = (state-back, image-back)
+
+pub laws-hold-spec : {M : Type 1} → statement M
+laws-hold-spec = tie.close (tie.spec returns)

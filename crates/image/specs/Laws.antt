@@ -1,0 +1,44 @@
+-- "Image and state go round exactly" (document 01, "Save log and state image"): `laws_hold` has these as its contract.
+use mathlib.Core.Bool.{true}
+use mathlib.Core.Path.{_≡_}
+use mathlib.Core.List.{List}
+use Prim.Native.Nat.{ℕ, _<_}
+use lib.ListN.{length}
+use mir.Syntax.{w32}
+use mir.Val.{SFits}
+use Rattle.packing.specs.Packing.{Below}
+use Rattle.numbers.specs.Numbers.{done}
+use Rattle.memory.specs.declared.Memory.{Memory}
+use Rattle.image.specs.Layout.{imageLen, imageOf}
+use Rattle.image.specs.Load.{storable, loaded, loadCall}
+
+-- what a `Memory` of the code has by its types: the ranges say the rest
+pub record Typed (m : Memory) : Type 0 where
+  pub oam : (length (m .oam) ≡ 256) × Below 256 (m .oam)
+  pub page : (length (m .page) ≡ 256) × Below 256 (m .page)
+  pub background : length (m .background) ≡ 32
+  pub sprites : length (m .sprites) ≡ 32
+  pub released : m .joypad .released < 256
+  pub state : m .joypad .state < 256
+  pub line : m .lcd .line < 256
+  pub signal : m .lcd .signal < 256
+  pub mode : m .lcd .mode < 256
+  pub delay : SFits w32 (m .lcd .delay)
+  pub counter : SFits w32 (m .lcd .counter)
+  pub aux : SFits w32 (m .lcd .aux)
+  pub window : SFits w32 (m .lcd .window)
+  pub div : m .clock .div < 256
+  pub source : m .hdma .source < 65536
+  pub destination : m .hdma .destination < 65536
+
+-- A state in range has an image of 665 bytes, and loading that gives the state back.
+abbrev pub StateBack : Type 0
+StateBack =
+    (m : Memory) → Typed m → storable m ≡ true
+    → (length (imageOf m) ≡ imageLen) × (Below 256 (imageOf m) × (loadCall (imageOf m) ≡ loaded done m))
+
+-- An image that is loaded is the image of what it gave, and that is in range: nothing else is accepted.
+abbrev pub ImageBack : Type 0
+ImageBack =
+    (l : List ℕ) → Below 256 l → loadCall l .number ≡ done
+    → (storable (loadCall l .state) ≡ true) × (imageOf (loadCall l .state) ≡ l)

@@ -1,0 +1,4 @@
+pub mod Layout
+pub mod Load
+pub mod Words
+pub mod Laws

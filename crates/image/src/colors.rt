@@ -1,0 +1,63 @@
+// The colours: 32 of them as 96 channels, red, green, blue.
+use palette::Color;
+ghost use mathlib.Core.Path.{_≡_};
+ghost use mathlib.Core.Bool.{true};
+ghost use lib.ListN.{length};
+ghost use Rattle.packing.specs.Packing.{repacked, eights, fives};
+ghost use Rattle.palette.specs.Palette.{colorsInRange};
+ghost use Rattle.image.specs.Layout.{channels};
+ghost use Rattle.image.specs.Load.{colorsOf};
+
+fn channels_of(colors: [Color; 32]) -> [u8; 96]
+    ensures { λ r. ⌜ r ≡ channels colors ⌝ }
+{
+    let mut out = [0u8; 96];
+    let mut i = 0;
+    while i < 32 {
+        let c = colors[i];
+        let o = i * 3;
+        out[o] = c.red;
+        out[o + 1] = c.green;
+        out[o + 2] = c.blue;
+        i += 1;
+    }
+    out
+}
+
+fn colors_of(channels: [u8; 96]) -> [Color; 32]
+    ensures { λ r. ⌜ r ≡ colorsOf channels ⌝ }
+{
+    let black = Color {
+        red: 0,
+        green: 0,
+        blue: 0,
+    };
+    let mut out = [black; 32];
+    let mut i = 0;
+    while i < 32 {
+        let o = i * 3;
+        let c = Color {
+            red: channels[o],
+            green: channels[o + 1],
+            blue: channels[o + 2],
+        };
+        out[i] = c;
+        i += 1;
+    }
+    out
+}
+
+// 32 colours in 60 bytes, and back.
+pub fn bytes_of(colors: [Color; 32]) -> [u8; 60]
+    requires { ⌜ colorsInRange colors ≡ true ⌝ }
+    ensures { λ r. ⌜ r ≡ repacked (fives 96) (eights 60) (channels colors) ⌝ }
+{
+    packing::pack_channels(channels_of(colors))
+}
+
+pub fn colors_at(bytes: &[u8]) -> [Color; 32]
+    requires { ⌜ length (now bytes) ≡ 60 ⌝ }
+    ensures { λ r. ⌜ r ≡ colorsOf (repacked (eights 60) (fives 96) (now (bytes .entry))) ⌝ }
+{
+    colors_of(packing::unpack_channels(bytes))
+}

@@ -1,0 +1,137 @@
+// The state image: a state as 665 bytes, and back. specs/Layout.antt has the bytes, specs/Load.antt the two calls, specs/Laws.antt that they
+// go round. Each part has its own function, so that a caller who needs one part takes that alone.
+ghost use mathlib.Core.Path.{_≡_};
+ghost use mathlib.Core.Bool.{true};
+ghost use Prim.Native.Nat.{_+_, _≤_};
+ghost use lib.ListN.{length};
+ghost use Rattle.image.specs.Layout.{imageOf};
+ghost use Rattle.image.specs.Load.{storable, stored, storeCall, loaded, stateOf, loadCall};
+ghost use Rattle.image.specs.Words.{wordsIn};
+ghost use Rattle.image.specs.Laws.{Typed, StateBack, ImageBack};
+ghost use Rattle.memory.specs.Start.{zeroed};
+
+mod colors;
+mod fields;
+
+pub use fields::Registers;
+pub use fields::Words;
+use memory::Memory;
+
+const LENGTH: usize = 665;
+
+const NO_LOG: usize = 65535;
+
+// The number, and the state that an image gave.
+pub struct Loaded {
+    pub number: u8,
+    pub state: Memory,
+}
+
+// What the types of a state say.
+fn typed(memory: Memory)
+    ensures { λ _. ⌜ Typed memory ⌝ }
+{}
+
+// The image of a state in range, into the bytes of an image.
+pub fn store(memory: Memory, image: &mut [u8])
+    requires { ⌜ (length (now image) ≡ 665) × (storable memory ≡ true) ⌝ }
+    ensures { λ _. ⌜ now (image .exit) ≡ imageOf memory ⌝ }
+{
+    typed(memory);
+    let oam = memory.oam;
+    let page = memory.page;
+    let b = memory.background;
+    let background = colors::bytes_of(b);
+    let s = memory.sprites;
+    let sprites = colors::bytes_of(s);
+    let words = fields::words_of(memory);
+    let bytes = fields::bytes_of(words);
+    packing::put(image, 0, &oam);
+    packing::put(image, 256, &page);
+    packing::put(image, 512, &background);
+    packing::put(image, 572, &sprites);
+    packing::put(image, 632, &bytes);
+}
+
+// The state's image; 4 for a length other than 665, 3 for a state out of range, and then nothing is changed.
+pub fn encode(memory: Memory, image: &mut [u8]) -> u8
+    ensures { λ r. ⌜ stored r (now (image .exit)) ≡ storeCall memory (now (image .entry)) ⌝ }
+{
+    if image.len() != LENGTH {
+        return numbers::WRONG_LENGTH;
+    }
+    if !memory::in_range(memory, NO_LOG) {
+        return numbers::OUT_OF_RANGE;
+    }
+    store(memory, image);
+    numbers::DONE
+}
+
+// The state that an image's bytes hold.
+fn state_of(image: &[u8], words: Words) -> Memory
+    requires { ⌜ (length (now image) ≡ 665) × (words ≡ wordsIn (now image)) ⌝ }
+    ensures { λ r. ⌜ r ≡ stateOf (now (image .entry)) ⌝ }
+{
+    let oam = packing::part(image, 0);
+    let page = packing::part(image, 256);
+    let background = colors::colors_at(&image[512..572]);
+    let sprites = colors::colors_at(&image[572..632]);
+    let banks = fields::banks_of(words);
+    let lcd = fields::lcd_of(words);
+    let hdma = fields::hdma_of(words);
+    let joypad = fields::joypad_of(words);
+    let clock = fields::clock_of(words);
+    let cartridge = fields::cartridge_of(words);
+    let mapper = fields::mapper_of(words);
+    Memory {
+        oam: oam,
+        page: page,
+        background: background,
+        sprites: sprites,
+        banks: banks,
+        lcd: lcd,
+        hdma: hdma,
+        joypad: joypad,
+        clock: clock,
+        cartridge: cartridge,
+        mapper: mapper,
+        used: fields::used_of(words),
+    }
+}
+
+// A refused load gives the all-zero state.
+fn refused(number: u8) -> Loaded
+    ensures { λ r. ⌜ r ≡ loaded number zeroed ⌝ }
+{
+    let state = memory::zero();
+    Loaded {
+        number: number,
+        state: state,
+    }
+}
+
+// The state of an image; 4 for a length other than 665, 3 for an image that no state in range has.
+pub fn decode(image: &[u8]) -> Loaded
+    ensures { λ r. ⌜ r ≡ loadCall (now (image .entry)) ⌝ }
+{
+    if image.len() != LENGTH {
+        return refused(numbers::WRONG_LENGTH);
+    }
+    let words = fields::words_at(image);
+    if !fields::is_sound(words) {
+        return refused(numbers::OUT_OF_RANGE);
+    }
+    let state = state_of(image, words);
+    if !memory::in_range(state, NO_LOG) {
+        return refused(numbers::OUT_OF_RANGE);
+    }
+    Loaded {
+        number: numbers::DONE,
+        state: state,
+    }
+}
+
+// The laws of specs/Laws.antt, as a contract: its proof hands them over.
+pub fn laws_hold()
+    ensures { λ _. ⌜ StateBack × ImageBack ⌝ }
+{}
