@@ -1,0 +1,150 @@
+-- The copies: each is whole records, and read back they are the admitted writes, all sound; so the law of crate savelog on cut copies applies.
+use mathlib.Core.Bool.{Bool, true, false, cond}
+use mathlib.Core.List.{List, [], _∷_, _++_}
+use mathlib.Core.Path.{_≡_, refl, ap, sym, _∙_}
+use Prim.Native.Nat.{ℕ, _*_, _%_, _<_, _≤_}
+use native.Mathlib.Omega.{arith}
+use lib.Dec.{eqb, ltb}
+use lib.ListN.{length, length-append}
+use lib.Seq.{take-at, drop-at, length-take-le}
+use borrow.Author.Tests.{eq-eqb, lt-ltb}
+use Rattle.mbc.proofs.Laws.{stored-within, ram-len-after}
+use Rattle.mbc.specs.Mbc.{ramBanks, ramLen, answer}
+use Rattle.mbc.specs.declared.cartridge.Cartridge.{Cartridge}
+use Rattle.mbc.specs.declared.mbc.Mapper.{Mapper}
+use Rattle.mbc.specs.declared.mbc.Mapper.the-variants.{RomOnly, Mbc1, Mbc2}
+use Rattle.mbc.specs.declared.mbc.Answer.{Answer}
+use Rattle.mbc.specs.declared.mbc.Answer.the-variants.{Stored, NotStored}
+use Rattle.memory.specs.World.{World, Fixed}
+use Rattle.registers.proofs.Kept.{cond-both}
+use Rattle.rules.proofs.Tests.{both-true}
+use Rattle.savelog.proofs.Laws.{round, records-cons, records-none}
+use Rattle.savelog.proofs.Prefix.{records-append}
+use Rattle.savelog.specs.Laws.{Copies, none, more}
+use Rattle.savelog.specs.Log.{Rec, width, addressEnd, recordBytes, stored, records, soundRecord, allSound, joined, logLimit, saveLengths, oneOf}
+use Rattle.promise.specs.Bus.{step, Call, inSave}
+use Rattle.promise.specs.Calls.{ByteWrite, refused, Kind, Reading, Clearing, Other, kindOf}
+use Rattle.promise.specs.Admitted.{granted, grantedAll, mapperAfter, answered, letIn, letInAll, recordsOf}
+use Rattle.promise.specs.Promise.{Bytes, Typed}
+use Rattle.promise.specs.Runs.{usedBytes, copiedBefore, copiesFrom}
+use Rattle.promise.proofs.Writes.{record-length}
+use Rattle.promise.proofs.Lists.{Good, good-use}
+use Rattle.promise.proofs.Steps.{moved}
+
+-- Records that a log for a save of `ram` bytes holds
+
+abbrev pub Fit : ℕ → List Rec → Type 0
+Fit ram [] = Unit {0}
+Fit ram (r ∷ rs) = ((r .mark ≡ 1) × (r .address < ram) × (r .value < 256)) × Fit ram rs
+
+fit-append : (ram : ℕ) (a b : List Rec) → Fit ram a → Fit ram b → Fit ram (a ++ b)
+fit-append ram [] b f g = g
+fit-append ram (r ∷ a) b f g = (f .0, fit-append ram a b (f .1) g)
+
+pub fit-sound : (ram : ℕ) (rs : List Rec) → Fit ram rs → allSound ram rs ≡ true
+unfolding allSound
+fit-sound ram [] f = refl
+fit-sound ram (r ∷ rs) f = rw (eq-eqb (r .mark) 1 (f .0 .0), lt-ltb (r .address) ram (f .0 .1)) (fit-sound ram rs (f .1))
+
+record-first : (a v : ℕ) (l : List ℕ) → v < 256 → a < addressEnd → records (recordBytes a v ++ l) ≡ stored a v ∷ records l
+record-first a v l h k =
+    let b = record-length a v in
+    let n : width ≤ length (recordBytes a v ++ l) = rw length-append (omega arith) in
+    rw (records-cons (recordBytes a v ++ l) n, take-at (recordBytes a v) l width b, drop-at (recordBytes a v) l width b, round a v h k)
+
+pub fit-read : (ram : ℕ) → ram ≤ addressEnd → (rs : List Rec) → Fit ram rs → records (recordsOf rs) ≡ rs
+unfolding recordsOf
+fit-read ram h [] f = records-none [] (omega arith)
+fit-read ram h (r ∷ rs) f =
+    let a : r .address < addressEnd = omega (arith, f .0 .1) in
+    record-first (r .address) (r .value) (recordsOf rs) (f .0 .2) a
+    ∙ ap (λ (l : List Rec). stored (r .address) (r .value) ∷ l) (fit-read ram h rs (f .1))
+    ∙ ap (λ (k : ℕ). record { mark = k; address = r .address; value = r .value } ∷ rs) (sym (f .0 .0))
+
+-- what a mapper lets in fits, whatever was written before
+
+answered-fit : (c : Cartridge) (m : Mapper) (i v : ℕ) → v < 256 → (a : Answer) → answer c m i v ≡ a → Fit (ramLen c m) (answered a)
+answered-fit c m i v h (Stored at b) e = let s = stored-within c m i v at b h e in ((refl, s .0, s .1 .1), tt)
+answered-fit c m i v h NotStored e = tt
+
+ram-after : (c : Cartridge) (m : Mapper) (b : ByteWrite) → ramLen c (mapperAfter c m b) ≡ ramLen c m
+unfolding mapperAfter
+ram-after c m b = cond-both (λ (k : Mapper). ramLen c k ≡ ramLen c m) (ltb (b .index) 0x8000) (ram-len-after c m (b .index) (b .value)) refl
+
+pub let-fit : (c : Cartridge) (m : Mapper) (bs : List ByteWrite) → Bytes bs → Fit (ramLen c m) (letInAll c m bs)
+unfolding letInAll letIn
+let-fit c m [] h = tt
+let-fit c m (b ∷ bs) h =
+    fit-append (ramLen c m) (letIn c m b) (letInAll c (mapperAfter c m b) bs)
+    (cond-both (Fit (ramLen c m)) (inSave (b .index)) (answered-fit c m (b .index) (b .value) (h .0) _ refl) tt)
+    (rw (ram-after c m b) at (let-fit c (mapperAfter c m b) bs (h .1)))
+
+bytes-append : (a b : List ByteWrite) → Bytes a → Bytes b → Bytes (a ++ b)
+bytes-append [] b f g = g
+bytes-append (w ∷ a) b f g = (f .0, bytes-append a b (f .1) g)
+
+pub granted-bytes : (ns : List ℕ) (cs : List Call) → Typed cs → Bytes (grantedAll ns cs)
+unfolding grantedAll granted
+granted-bytes [] cs t = tt
+granted-bytes (n ∷ ns) [] t = tt
+granted-bytes (n ∷ ns) (c ∷ cs) t =
+    bytes-append (granted n c) (grantedAll ns cs) (cond-both Bytes (refused n) tt (t .0)) (granted-bytes ns cs (t .1))
+
+-- A save's length is one that recovery takes
+
+banks-taken : (a b : Bool) → oneOf (cond a 1 (cond b 4 0) * 0x2000) saveLengths ≡ true
+unfolding oneOf saveLengths
+banks-taken true b = refl
+banks-taken false true = refl
+banks-taken false false = refl
+
+pub ram-taken : (c : Cartridge) (m : Mapper) → oneOf (ramLen c m) saveLengths ≡ true
+unfolding ramLen ramBanks oneOf saveLengths
+ram-taken c RomOnly = banks-taken (eqb (c .code) 2) (eqb (c .code) 3)
+ram-taken c (Mbc1 m) = banks-taken (eqb (c .code) 2) (eqb (c .code) 3)
+ram-taken c (Mbc2 m) = refl
+
+-- The copies are whole records, and short
+
+abbrev WholeCopy : List ℕ → Type 0
+WholeCopy l = (length l % width ≡ 0) × (length l ≤ logLimit)
+
+abbrev Wholes : List (List ℕ) → Type 0
+Wholes [] = Unit {0}
+Wholes (l ∷ ls) = WholeCopy l × Wholes ls
+
+used-whole : (x : Fixed) (w : World) → Good x w → WholeCopy (usedBytes w)
+used-whole x w g =
+    let u = good-use g in
+    let e = length-take-le (w .state .used) (w .log) (u .1) in
+    (rw e (u .0), rw e (omega (arith, u .1, g .ready .holds .log)))
+
+before-whole : (k : Kind) (n : ℕ) (w : World) (ls : List (List ℕ)) → WholeCopy (usedBytes w) → Wholes ls → Wholes (copiedBefore k n w ++ ls)
+before-whole Reading n w ls h t = t
+before-whole Clearing n w ls h t =
+    cond-both (λ (ks : List (List ℕ)). Wholes (ks ++ ls)) (refused n) t (h, t)
+before-whole Other n w ls h t = t
+
+pub copies-whole : (x : Fixed) (w : World) (cs : List Call) → Good x w → Wholes (copiesFrom x w cs)
+unfolding copiesFrom
+copies-whole x w [] g = (used-whole x w g, tt)
+copies-whole x w (c ∷ cs) g =
+    before-whole (kindOf c) (step x w c .number) w (copiesFrom x (step x w c .after) cs) (used-whole x w g)
+    (copies-whole x (step x w c .after) cs (moved x w g c .good))
+
+-- and sound, if what they say together is
+
+sound-split : (ram : ℕ) (a b : List Rec) → allSound ram (a ++ b) ≡ true → (allSound ram a ≡ true) × (allSound ram b ≡ true)
+unfolding allSound
+sound-split ram [] b h = (refl, h)
+sound-split ram (r ∷ a) b h =
+    let t = both-true (soundRecord ram r) (allSound ram (a ++ b)) h in
+    let s = sound-split ram a b (t .1) in
+    (rw (t .0, s .0), s .1)
+
+pub copies-sound : (ram : ℕ) (ls : List (List ℕ)) → Wholes ls → allSound ram (records (joined ls)) ≡ true → Copies ram ls
+unfolding joined
+copies-sound ram [] h s = none
+copies-sound ram (l ∷ ls) h s =
+    let t = sound-split ram (records l) (records (joined ls)) (rw (records-append l (joined ls) (h .0 .0)) at s) in
+    more (record { whole = h .0 .0; short = h .0 .1; sound = t .0 }) (copies-sound ram ls (h .1) (t .1))

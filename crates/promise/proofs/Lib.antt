@@ -1,0 +1,14 @@
+pub mod Bus
+pub mod Mappers
+pub mod Writes
+pub mod Lists
+pub mod Numbered
+pub mod States
+pub mod Steps
+pub mod Runs
+pub mod Starts
+pub mod Cuts
+pub mod Each
+pub mod Promise
+pub mod One
+pub mod Room

@@ -1,0 +1,101 @@
+-- Lists of byte writes: what they leave together, and the laws of the promise's lists.
+use mathlib.Core.Bool.{true}
+use mathlib.Core.List.{List, [], _∷_, _++_, append-assoc, append-nil}
+use mathlib.Core.Path.{_≡_, refl, sym, _∙_}
+use Prim.Native.Nat.{ℕ, _%_, _≤_}
+use lib.Dec.{eqb, leb}
+use lib.ListN.{length}
+use borrow.Author.Tests.{eqb-true, leb-true}
+use Rattle.mbc.specs.declared.cartridge.Cartridge.{Cartridge}
+use Rattle.mbc.specs.declared.mbc.Mapper.{Mapper}
+use Rattle.memory.specs.World.{World, Fixed}
+use Rattle.mmu.proofs.Laws.{Stays, stays-refl, stays-trans, stays-ready}
+use Rattle.mmu.proofs.Saves.{Spares}
+use Rattle.mmu.specs.Access.{Holds, Ready}
+use Rattle.rules.proofs.Tests.{both-true}
+use Rattle.savelog.proofs.Prefix.{applyAll-append}
+use Rattle.savelog.specs.Log.{Rec, width, applyAll, joined, useInRange}
+use Rattle.promise.specs.Calls.{ByteWrite}
+use Rattle.promise.specs.Admitted.{mapperAfter, letIn, letInAll, recordsOf}
+use Rattle.promise.specs.Runs.{usedBytes}
+use Rattle.promise.proofs.Mappers.{SameMapper}
+use Rattle.promise.proofs.Writes.{Stores}
+
+-- the mapper after byte writes
+unfoldable pub mappersAfter : Cartridge → Mapper → List ByteWrite → Mapper
+mappersAfter c m [] = m
+mappersAfter c m (b ∷ bs) = mappersAfter c (mapperAfter c m b) bs
+
+pub let-append : (c : Cartridge) (m : Mapper) (a b : List ByteWrite) → letInAll c m (a ++ b) ≡ letInAll c m a ++ letInAll c (mappersAfter c m a) b
+unfolding letInAll mappersAfter
+let-append c m [] b = refl
+let-append c m (w ∷ a) b = rw (let-append c (mapperAfter c m w) a b, append-assoc)
+
+pub records-join : (a b : List Rec) → recordsOf (a ++ b) ≡ recordsOf a ++ recordsOf b
+unfolding recordsOf
+records-join [] b = refl
+records-join (r ∷ a) b = rw (records-join a b, append-assoc)
+
+pub joined-append : (a b : List (List ℕ)) → joined (a ++ b) ≡ joined a ++ joined b
+unfolding joined
+joined-append [] b = refl
+joined-append (c ∷ a) b = rw (joined-append a b, append-assoc)
+
+-- a bus on which every call can be made
+pub record Good (x : Fixed) (w : World) : Type 0 where
+  pub ready : Ready x w
+  pub used : useInRange (w .state .used) (length (w .log)) ≡ true
+
+pub good-use : {x : Fixed} {w : World} → Good x w → (w .state .used % width ≡ 0) × (w .state .used ≤ length (w .log))
+unfolding useInRange
+good-use {x} {w} g =
+    let b = both-true (eqb (w .state .used % width) 0) (leb (w .state .used) (length (w .log))) (g .used) in
+    (eqb-true (w .state .used % width) 0 (b .0), leb-true (w .state .used) (length (w .log)) (b .1))
+
+pub stays-good : (x : Fixed) (w u : World) → Good x w → Stays w u → Good x u
+stays-good x w u g s = record { ready = stays-ready x w u (g .ready) s; used = s .used (g .used) }
+
+-- no byte write reached the mapper or the save
+pub record Quiet (w u : World) : Type 0 where
+  pub stays : Stays w u
+  pub spares : Spares w u
+  pub mapper : SameMapper w u
+
+pub quiet-refl : (w : World) → Holds w → Quiet w w
+quiet-refl w h = record { stays = stays-refl w h; spares = record { save = refl; log = refl; used = refl }; mapper = refl }
+
+-- one byte write, and then a list of them
+pub record Made (b : ByteWrite) (w u : World) : Type 0 where
+  pub stays : Stays w u
+  pub mapper : u .state .mapper ≡ mapperAfter (w .state .cartridge) (w .state .mapper) b
+  pub stores : Stores (letIn (w .state .cartridge) (w .state .mapper) b) w u
+
+pub record Left (bs : List ByteWrite) (w u : World) : Type 0 where
+  pub stays : Stays w u
+  pub mapper : u .state .mapper ≡ mappersAfter (w .state .cartridge) (w .state .mapper) bs
+  pub save : u .save ≡ applyAll (w .save) (letInAll (w .state .cartridge) (w .state .mapper) bs)
+  pub log : usedBytes u ≡ usedBytes w ++ recordsOf (letInAll (w .state .cartridge) (w .state .mapper) bs)
+
+pub left-none : (w u : World) → Quiet w u → Left [] w u
+unfolding mappersAfter letInAll applyAll recordsOf
+left-none w u q =
+    record {
+      stays = q .stays;
+      mapper = q .mapper;
+      save = q .spares .save;
+      log = rw (q .spares .used, q .spares .log, append-nil);
+    }
+
+pub left-more : {b : ByteWrite} {bs : List ByteWrite} {w u y : World} → Made b w u → Left bs u y → Left (b ∷ bs) w y
+unfolding mappersAfter letInAll
+left-more {b} {bs} {w} {u} {y} m l =
+    let c = w .state .cartridge in
+    let k = letIn c (w .state .mapper) b in
+    let ks = letInAll c (mapperAfter c (w .state .mapper) b) bs in
+    let e : letInAll (u .state .cartridge) (u .state .mapper) bs ≡ ks = rw (m .stays .cartridge, m .mapper) in
+    record {
+      stays = stays-trans (m .stays) (l .stays);
+      mapper = l .mapper ∙ rw (m .stays .cartridge, m .mapper);
+      save = l .save ∙ (rw (e, m .stores .save) (sym (applyAll-append (w .save) k ks)));
+      log = l .log ∙ (rw (e, m .stores .log, records-join k ks, append-assoc));
+    }

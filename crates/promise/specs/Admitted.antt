@@ -1,0 +1,47 @@
+-- Which byte writes are let in, and as what: from the mapper's rules (crate mbc), the calls, and each call's number alone. No memory of the bus is asked.
+use mathlib.Core.Bool.{cond}
+use mathlib.Core.List.{List, [], _∷_, _++_}
+use Prim.Native.Nat.{ℕ}
+use lib.Dec.{ltb}
+use Rattle.mbc.specs.Mbc.{after, answer}
+use Rattle.mbc.specs.declared.cartridge.Cartridge.{Cartridge}
+use Rattle.mbc.specs.declared.mbc.Mapper.{Mapper}
+use Rattle.mbc.specs.declared.mbc.Answer.{Answer}
+use Rattle.mbc.specs.declared.mbc.Answer.the-variants.{Stored, NotStored}
+use Rattle.savelog.specs.Log.{Rec, stored, recordBytes}
+use Rattle.promise.specs.Bus.{Call, inSave}
+use Rattle.promise.specs.Calls.{ByteWrite, refused, writesOf}
+
+-- "that were not refused": the byte writes of the calls that were done, by the number that each call gave
+unfoldable pub granted : ℕ → Call → List ByteWrite
+granted n c = cond (refused n) [] (writesOf c)
+
+unfoldable pub grantedAll : List ℕ → List Call → List ByteWrite
+grantedAll [] cs = []
+grantedAll (n ∷ ns) [] = []
+grantedAll (n ∷ ns) (c ∷ cs) = granted n c ++ grantedAll ns cs
+
+-- "after the earlier writes": a byte write in 0000..7FFF changes the mapper's registers, no other does
+unfoldable pub mapperAfter : Cartridge → Mapper → ByteWrite → Mapper
+mapperAfter c m b = cond (ltb (b .index) 0x8000) (after c m (b .index) (b .value)) m
+
+-- "byte writes to A000..BFFF that the mapper's rules let in, each at the address and with the value that those rules give"
+abbrev pub answered : Answer → List Rec
+answered (Stored at v) = stored at v ∷ []
+answered NotStored = []
+
+unfoldable pub letIn : Cartridge → Mapper → ByteWrite → List Rec
+letIn c m b = cond (inSave (b .index)) (answered (answer c m (b .index) (b .value))) []
+
+unfoldable pub letInAll : Cartridge → Mapper → List ByteWrite → List Rec
+letInAll c m [] = []
+letInAll c m (b ∷ bs) = letIn c m b ++ letInAll c (mapperAfter c m b) bs
+
+-- the admitted writes of a list of calls, from the cartridge, the mapper as it is before them, and their numbers
+abbrev pub admittedBy : Cartridge → Mapper → List ℕ → List Call → List Rec
+admittedBy c m ns cs = letInAll c m (grantedAll ns cs)
+
+-- their records, byte by byte
+unfoldable pub recordsOf : List Rec → List ℕ
+recordsOf [] = []
+recordsOf (r ∷ rs) = recordBytes (r .address) (r .value) ++ recordsOf rs

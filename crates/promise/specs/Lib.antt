@@ -1,0 +1,7 @@
+pub mod Bus
+pub mod Calls
+pub mod Admitted
+pub mod Runs
+pub mod Promise
+pub mod Each
+pub mod One

@@ -1,0 +1,65 @@
+-- Demand 3, over every list of calls: `promise_holds` has it as its contract.
+use mathlib.Core.Bool.{cond, _&&_, _||_}
+use mathlib.Core.List.{List, [], _∷_, _++_}
+use mathlib.Core.Path.{_≡_}
+use Prim.Native.Nat.{ℕ, _-_, _/_, _<_}
+use lib.Dec.{ltb}
+use lib.ListN.{length, take}
+use Rattle.mbc.specs.Mbc.{cartridgeOf, start as mapperOf}
+use Rattle.memory.specs.World.{World}
+use Rattle.numbers.specs.Numbers.{done, noRoom}
+use Rattle.savelog.specs.Log.{stored, records, applyAll, recoverAll, joined, cutCopies}
+use Rattle.promise.specs.Bus.{inSave, nextIndex, byteOwed, wordOwed, step, Call}
+use Rattle.promise.specs.Bus.call as call
+use Rattle.promise.specs.Bus.on as on
+use Rattle.promise.specs.Calls.{ByteWrite, byte, writesOf}
+use Rattle.promise.specs.Admitted.{letInAll, recordsOf}
+use Rattle.promise.specs.Runs.{Lent, Fitting, start, read, after, admitted, copies}
+
+-- A number of this language has no bound; a byte write's value is a u8, and the halves of a word write's are u8 too
+abbrev pub Bytes : List ByteWrite → Type 0
+Bytes [] = Unit {0}
+Bytes (b ∷ bs) = (b .value < 256) × Bytes bs
+
+abbrev pub Typed : List Call → Type 0
+Typed [] = Unit {0}
+Typed (c ∷ cs) = Bytes (writesOf c) × Typed cs
+
+-- the bytes of the log that are free
+abbrev pub free : World → ℕ
+free w = length (w .log) - w .state .used
+
+pub record Kept (l : Lent) (cs : List Call) : Type 0 where
+  -- "The save is that image with exactly those byte writes applied"
+  pub save : after l cs .save ≡ applyAll (l .image) (admitted l cs)
+  -- "the log names them in order, address and value": the joined copies are their records, byte for byte
+  pub log : joined (copies l cs) ≡ recordsOf (admitted l cs)
+  -- and these are read back as they were written
+  pub names : Typed cs → records (joined (copies l cs)) ≡ admitted l cs
+  -- "If only the log's first n bytes survive, for any n": what is left of the copies
+  pub first : (n : ℕ) → joined (cutCopies n (copies l cs)) ≡ take n (joined (copies l cs))
+  -- "recovery over the image, copy by copy, gives the save as it stood right after the last write whose record is whole, or the image if none is"
+  pub cut : Typed cs → (n : ℕ) → recoverAll (l .image) (cutCopies n (copies l cs)) ≡ applyAll (l .image) (take (n / 3) (admitted l cs))
+  -- for so it stood: if other calls follow, the writes of these come first among the admitted ones
+  pub stood : (later : List Call) → after l cs .save ≡ applyAll (l .image) (take (length (admitted l cs)) (admitted l (cs ++ later)))
+  -- "that were not refused": no write is refused but for room, "byte write in A000..BFFF, under 3 log bytes free; word write with either index
+  -- there, under 6 free", and no clearing at all
+  pub bytes : (i v : ℕ) → step (read l) (after l cs) (call.WriteByte i v) .number
+      ≡ cond (inSave i && ltb (free (after l cs)) 3) noRoom (byteOwed i)
+  pub words : (i v : ℕ) → step (read l) (after l cs) (call.WriteWord i v) .number
+      ≡ cond ((inSave i || inSave (nextIndex i)) && ltb (free (after l cs)) 6) noRoom (wordOwed i)
+  pub clears : step (read l) (after l cs) (call.State on.ClearLog) .number ≡ done
+
+-- "Take a fresh bus over a save image and any list of bus calls"
+abbrev pub Promise : Type 0
+Promise = (l : Lent) (cs : List Call) → start l .number ≡ done → Kept l cs
+
+-- and there are such: a description and lengths as document 01 has them are not refused
+abbrev pub Begins : Type 0
+Begins = (l : Lent) → Fitting l → start l .number ≡ done
+
+-- an example, Mbc2: RAM is off and lets nothing in; 0000 given 0A enables it; A000 given AB stores 0B (corner 11); A200 has no RAM
+abbrev pub Example : Type 0
+Example =
+    letInAll (cartridgeOf 2 0) (mapperOf 2) (byte 0xA000 0x55 ∷ byte 0x0000 0x0A ∷ byte 0xA000 0xAB ∷ byte 0xA200 0x12 ∷ [])
+    ≡ stored 0 0x0B ∷ []

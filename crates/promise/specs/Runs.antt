@@ -1,0 +1,80 @@
+-- A fresh bus over a save image, and a list of calls on it (demand 3): who is refused, what is admitted, what is copied off.
+-- They speak of `freshCall`, which `fresh::fresh` is, and of `step`, which `dispatch::perform` is for every call.
+use mathlib.Core.Bool.{Bool, true, cond}
+use mathlib.Core.List.{List, [], _∷_, _++_}
+use mathlib.Core.Path.{_≡_}
+use Prim.Native.Nat.{ℕ, _≤_}
+use lib.ListN.{length, take}
+use Rattle.mbc.specs.Mbc.{romLen, ramLen, described, cartridgeOf, start as mapperOf}
+use Rattle.memory.specs.Ranges.{vramLen, wramLen}
+use Rattle.memory.specs.World.{World, world, Fixed, fixed}
+use Rattle.savelog.specs.Log.{Rec}
+use Rattle.promise.specs.Bus.{Begun, freshCall, step, run, Call}
+use Rattle.promise.specs.Calls.{refused, Kind, Reading, Clearing, Other, kindOf}
+use Rattle.promise.specs.Admitted.{admittedBy}
+
+-- "A fresh bus over a save image": what the host lends it
+
+pub record Lent : Type 0 where
+  pub kind : ℕ
+  pub banks : ℕ
+  pub code : ℕ
+  pub colour : Bool
+  pub rom : List ℕ
+  pub vram : List ℕ
+  pub wram : List ℕ
+  pub image : List ℕ
+  pub log : List ℕ
+  pub sound : List ℕ
+
+abbrev pub start : Lent → Begun
+start l =
+    freshCall (l .kind) (l .banks) (l .code) (l .colour) (length (l .rom)) (l .vram) (l .wram) (length (l .image))
+    (length (l .log)) (length (l .sound))
+
+abbrev pub read : Lent → Fixed
+read l = fixed (l .rom) (l .sound)
+
+abbrev pub begin : Lent → World
+begin l = world (start l .state) (start l .vram) (start l .wram) (l .image) (l .log)
+
+-- a description and lengths as document 01 has them ("Cartridge and buffers"): such a fresh bus is not refused
+pub record Fitting (l : Lent) : Type 0 where
+  pub kind : l .kind ≤ 2
+  pub described : described (cartridgeOf (l .banks) (l .code)) (mapperOf (l .kind)) ≡ true
+  pub rom : length (l .rom) ≡ romLen (cartridgeOf (l .banks) (l .code))
+  pub vram : length (l .vram) ≡ vramLen (l .colour)
+  pub wram : length (l .wram) ≡ wramLen (l .colour)
+  pub image : length (l .image) ≡ ramLen (cartridgeOf (l .banks) (l .code)) (mapperOf (l .kind))
+  pub log : length (l .log) ≤ 65535
+  pub sound : length (l .sound) ≡ 48
+
+-- "any list of bus calls, refused ones too, each on the state and buffers the last one left"
+abbrev pub after : Lent → List Call → World
+after l cs = run (read l) (begin l) cs
+
+-- the number of each call, which tells the refused ones
+unfoldable pub numbers : Fixed → World → List Call → List ℕ
+numbers x w [] = []
+numbers x w (c ∷ cs) = step x w c .number ∷ numbers x (step x w c .after) cs
+
+-- the admitted writes: from the cartridge's description, the calls, and their numbers
+abbrev pub admitted : Lent → List Call → List Rec
+admitted l cs = admittedBy (cartridgeOf (l .banks) (l .code)) (mapperOf (l .kind)) (numbers (read l) (begin l) cs) cs
+
+-- "The log's used bytes are copied off before each clearing and at the end": a clearing that is refused clears nothing, and nothing is copied
+
+abbrev pub usedBytes : World → List ℕ
+usedBytes w = take (w .state .used) (w .log)
+
+abbrev pub copiedBefore : Kind → ℕ → World → List (List ℕ)
+copiedBefore Reading n w = []
+copiedBefore Clearing n w = cond (refused n) [] (usedBytes w ∷ [])
+copiedBefore Other n w = []
+
+unfoldable pub copiesFrom : Fixed → World → List Call → List (List ℕ)
+copiesFrom x w [] = usedBytes w ∷ []
+copiesFrom x w (c ∷ cs) = copiedBefore (kindOf c) (step x w c .number) w ++ copiesFrom x (step x w c .after) cs
+
+abbrev pub copies : Lent → List Call → List (List ℕ)
+copies l cs = copiesFrom (read l) (begin l) cs
