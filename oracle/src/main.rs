@@ -2,7 +2,7 @@
 //!
 //!     oracle leaves SEED COUNT   corners, edges, then COUNT random inputs a letter
 //!     oracle bus SEED COUNT      corners, edges, then COUNT random lists of calls
-//!     oracle record leaves|bus   the sample that crates/replay/stdin, recorded-bus.txt holds
+//!     oracle record leaves|bus   the sample that crates/replay/stdin, crates/replay_bus/stdin holds
 //!     oracle check FILE          makes the calls of such lists anew and compares
 //!
 //! A further list is a further module beside `leaves` and `bus`.

@@ -1,47 +1,17 @@
 // What our calls answer to a line's input, in bytes as a line has them. The mappers' are in mapper.rt.
-ghost use mathlib.Core.Path.{_≡_};
-ghost use Prim.Native.Nat.{_+_, _*_, _≤_};
 use crate::letter::Letter;
 use crate::mapper;
 use interrupt::Pending;
 use joypad::Controller;
 use joypad::Pressed;
+use lines::answer::Ours;
+use lines::answer::refused;
+use lines::number::flag;
+use lines::number::high;
+use lines::number::long;
+use lines::number::low;
+use lines::number::word;
 use timer::Timer;
-
-// `number` is 0 where every call took its input.
-pub struct Ours {
-    pub number: u8,
-    pub bytes: [u8; 12],
-}
-
-// An input that is not one of ours.
-pub fn refused() -> Ours {
-    Ours {
-        number: numbers::OUTSIDE,
-        bytes: [0; 12],
-    }
-}
-
-// A number of two bytes.
-pub fn word(high: u8, low: u8) -> u16
-    ensures { λ r. ⌜ r ≡ high * 256 + low ⌝ }
-{
-    high as u16 * 256 + low as u16
-}
-
-fn long(high: u16, low: u16) -> u32
-    ensures { λ r. ⌜ r ≡ high * 65536 + low ⌝ }
-{
-    high as u32 * 65536 + low as u32
-}
-
-// True is 01.
-pub fn flag(set: bool) -> u8 {
-    if set {
-        return 1;
-    }
-    0
-}
 
 // Whether two bytes are flags.
 fn are_flags(a: u8, b: u8) -> bool {
@@ -89,8 +59,8 @@ fn update_timer(given: &[u8; 12]) -> Ours {
     bytes[3] = after.tac;
     bytes[4] = after.flags;
     bytes[5] = after.div_cycles;
-    bytes[6] = (after.tima_cycles / 256) as u8;
-    bytes[7] = (after.tima_cycles % 256) as u8;
+    bytes[6] = high(after.tima_cycles);
+    bytes[7] = low(after.tima_cycles);
     Ours {
         number: updated.number,
         bytes: bytes,
@@ -206,22 +176,4 @@ pub fn give(letter: Letter, given: &[u8; 12], rom: &[u8], save: &[u8]) -> Ours {
         Letter::Read => mapper::read(given, rom, save),
         Letter::Interrupts => interrupts(given),
     }
-}
-
-// Whether the first n bytes are the Rust's.
-pub fn same(ours: Ours, answer: &[u8; 12], n: usize) -> bool
-    requires { ⌜ n ≤ 12 ⌝ }
-{
-    if ours.number != numbers::DONE {
-        return false;
-    }
-    let bytes = ours.bytes;
-    let mut i = 0;
-    while i < n {
-        if bytes[i] != answer[i] {
-            return false;
-        }
-        i += 1;
-    }
-    true
 }

@@ -1,5 +1,5 @@
 // The letters, and how many bytes each takes and gives: oracle/README.md, "The parts".
-ghost use Prim.Native.Nat.{_≤_, _<_};
+ghost use Prim.Native.Nat.{_≤_};
 
 pub enum Letter {
     Bits,
@@ -37,23 +37,6 @@ pub fn from_byte(byte: u8) -> Known {
 }
 
 impl Letter {
-    // The place in NAMES.
-    pub fn place(self) -> usize
-        ensures { λ r. ⌜ r < 9 ⌝ }
-    {
-        match self {
-            Letter::Bits => 0,
-            Letter::Timer => 1,
-            Letter::Press => 2,
-            Letter::Release => 3,
-            Letter::Poll => 4,
-            Letter::Pad => 5,
-            Letter::Write => 6,
-            Letter::Read => 7,
-            Letter::Interrupts => 8,
-        }
-    }
-
     // The bytes of the input.
     pub fn takes(self) -> usize
         ensures { λ r. ⌜ r ≤ 12 ⌝ }

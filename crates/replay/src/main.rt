@@ -1,30 +1,25 @@
 // replay: reads lines of the Rust's answers from standard input (oracle/README.md, "The parts"), gives the input of each to our public calls, and
 // counts for each letter the answers and those that differ. A program has no exit status: what it prints is the verdict.
-ghost use Prim.Native.Nat.{_+_, _≤_};
 ghost use lib.ListN.{length};
+ghost use Rattle.lines.specs.Reader.{Inside};
 use letter::Known;
-use libc::STDIN_FILENO;
-use libc::STDOUT_FILENO;
-use tally::Tally;
+use lines::answer::same;
+use lines::line::parse;
+use lines::pattern;
+use lines::reader;
+use lines::reader::Found;
+use lines::reader::Reader;
+use lines::tally::Tally;
 
 mod answer;
 mod letter;
-mod line;
 mod mapper;
-mod pattern;
-mod tally;
 
-// What is counted, how much of a cut line stands at the buffer's front, and whether there may be more to read.
+// What is counted, where the reader stands, and whether there may be more lines.
 struct State {
     tally: Tally,
-    kept: usize,
+    reader: Reader,
     more: bool,
-}
-
-// What is counted, and where the line starts that is not whole.
-struct Counted {
-    tally: Tally,
-    rest: usize,
 }
 
 // Counts one line, without its line end.
@@ -38,99 +33,46 @@ fn count(tally: Tally, s: &[u8], rom: &[u8], save: &[u8]) -> Tally {
     };
     let mut given = [0u8; 12];
     let mut answer = [0u8; 12];
-    if !line::parse(s, letter.takes(), letter.gives(), &mut given, &mut answer) {
+    if !parse(s, letter.takes(), letter.gives(), &mut given, &mut answer) {
         return tally.strange();
     }
     let ours = answer::give(letter, &given, rom, save);
-    let same = answer::same(ours, &answer, letter.gives());
-    tally.counted(letter.place(), same)
+    tally.counted(s[0], same(ours, answer, letter.gives()))
 }
 
-// Counts every whole line of the first n bytes.
-fn count_lines(tally: Tally, s: &[u8], n: usize, rom: &[u8], save: &[u8]) -> Counted
-    requires { ⌜ n ≤ length (now s) ⌝ }
-    ensures { λ r. ⌜ r .rest ≤ n ⌝ }
+// One step of the reader.
+fn step(state: State, buf: &mut [u8], rom: &[u8], save: &[u8]) -> State
+    requires { ⌜ Inside (length (now buf)) (state .reader) ⌝ }
+    ensures { λ r. ⌜ Inside (length (now (buf .exit))) (r .reader) ⌝ }
 {
-    let mut next = tally;
-    let mut at = 0;
-    let mut end = bytes::scan::find(s, 0, n, b'\n');
-    while end < n {
-        next = count(next, &s[at..end], rom, save);
-        at = end + 1;
-        end = bytes::scan::find(s, at, n, b'\n');
-    }
-    Counted {
-        tally: next,
-        rest: at,
-    }
-}
-
-// Reads behind the first `kept` bytes: how many came, 0 at the end. A read that fails ends the input too, and is told.
-fn read_on(buf: &mut [u8], kept: usize) -> usize
-    requires { ⌜ kept ≤ length (now buf) ⌝ }
-    ensures { λ r. ⌜ kept + r ≤ length (now (buf .exit)) ⌝ }
-{
-    let got = libc::read(STDIN_FILENO, &mut buf[kept..]);
-    if got < 0 {
-        io::write_all(STDOUT_FILENO, b"the input could not be read to its end\n");
-        return 0;
-    }
-    io::count(got, &buf[kept..])
-}
-
-// Moves the bytes from `from` to `to` to the front.
-fn move_down(buf: &mut [u8], from: usize, to: usize)
-    requires { ⌜ (from ≤ to) × (to ≤ length (now buf)) ⌝ }
-{
-    let mut i = 0;
-    while i < to - from {
-        buf[i] = buf[from + i];
-        i += 1;
-    }
-}
-
-// The input's end: a last line may lack its line end.
-fn finish(tally: Tally, rest: &[u8], rom: &[u8], save: &[u8]) -> State {
-    if rest.len() == 0 {
-        return State {
-            tally: tally,
-            kept: 0,
-            more: false,
-        };
-    }
-    let last = count(tally, rest, rom, save);
-    State {
-        tally: last,
-        kept: 0,
-        more: false,
-    }
-}
-
-// Reads once and counts the lines that are whole. A line that does not fit the buffer is of no known form.
-fn step(state: State, buf: &mut [u8], rom: &[u8], save: &[u8]) -> State {
-    let kept = state.kept;
     let tally = state.tally;
-    if buf.len() <= kept {
-        let dropped = tally.strange();
-        return State {
-            tally: dropped,
-            kept: 0,
+    let reader = state.reader;
+    let read = reader::next(buf, reader);
+    let from = read.from;
+    let to = read.to;
+    let next = read.next;
+    let found = read.found;
+    match found {
+        Found::Line => State {
+            tally: count(tally, &buf[from..to], rom, save),
+            reader: next,
             more: true,
-        };
-    }
-    let n = read_on(buf, kept);
-    if n == 0 {
-        return finish(tally, &buf[..kept], rom, save);
-    }
-    let end = kept + n;
-    let counted = count_lines(tally, buf, end, rom, save);
-    let next = counted.tally;
-    let rest = counted.rest;
-    move_down(buf, rest, end);
-    State {
-        tally: next,
-        kept: end - rest,
-        more: true,
+        },
+        Found::Long => State {
+            tally: tally.strange(),
+            reader: next,
+            more: true,
+        },
+        Found::Read => State {
+            tally: tally,
+            reader: next,
+            more: true,
+        },
+        Found::End => State {
+            tally: tally,
+            reader: next,
+            more: false,
+        },
     }
 }
 
@@ -139,7 +81,7 @@ fn replay(rom: &[u8], save: &[u8]) -> Tally {
     let mut buf = io::large_buffer();
     let mut state = State {
         tally: Tally::new(),
-        kept: 0,
+        reader: reader::new(),
         more: true,
     };
     let mut turns = u64::MAX;
@@ -156,5 +98,5 @@ fn main() {
     let mut save = [0u8; 32768];
     pattern::fill_save(&mut save);
     let tally = replay(&rom, &save);
-    tally.report();
+    tally.report(&letter::NAMES);
 }

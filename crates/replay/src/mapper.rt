@@ -1,9 +1,10 @@
-// The letters W and R: a mapper's write, and its read over the contents of pattern.rt.
-use crate::answer::Ours;
-use crate::answer::flag;
-use crate::answer::refused;
-use crate::answer::word;
-use crate::pattern;
+// The letters W and R: a mapper's write, and its read over the contents of lines::pattern.
+use lines::answer::Ours;
+use lines::answer::refused;
+use lines::mapper::banks;
+use lines::mapper::registers_of;
+use lines::number::word;
+use lines::pattern;
 use mbc::Answer;
 use mbc::Cartridge;
 use mbc::Mapper;
@@ -14,30 +15,6 @@ use mbc::Source;
 pub enum Made {
     Some(Mapper),
     None,
-}
-
-// A mapper as a line has it: what it lacks has its starting value.
-pub struct Registers {
-    pub kind: u8,
-    pub rom: u8,
-    pub ram: u8,
-    pub mode: u8,
-    pub enabled: u8,
-    pub high: u8,
-}
-
-// N by its logarithm; 0, which no cartridge has, for another.
-fn banks(log: u8) -> u16 {
-    match log {
-        1 => 2,
-        2 => 4,
-        3 => 8,
-        4 => 16,
-        5 => 32,
-        6 => 64,
-        7 => 128,
-        _ => 0,
-    }
 }
 
 fn cartridge_of(given: &[u8; 12]) -> Cartridge {
@@ -63,35 +40,6 @@ fn built(given: &[u8; 12]) -> Made {
             enabled: given[6] == 1,
         })),
         _ => Made::None,
-    }
-}
-
-fn registers_of(mapper: Mapper) -> Registers {
-    match mapper {
-        Mapper::RomOnly => Registers {
-            kind: 0,
-            rom: 1,
-            ram: 0,
-            mode: 0,
-            enabled: 0,
-            high: 0,
-        },
-        Mapper::Mbc1(m) => Registers {
-            kind: 1,
-            rom: m.rom,
-            ram: m.ram,
-            mode: flag(m.mode),
-            enabled: flag(m.enabled),
-            high: m.high,
-        },
-        Mapper::Mbc2(m) => Registers {
-            kind: 2,
-            rom: m.rom,
-            ram: 0,
-            mode: 0,
-            enabled: flag(m.enabled),
-            high: 0,
-        },
     }
 }
 

@@ -1,12 +1,13 @@
--- The buffer keeps its length; the turns that are left fall.
+-- The buffer keeps its length, and the reader stands within it; the turns that are left fall.
 use mathlib.Core.Path.{_≡_}
 use lib.ListN.{length}
+use Rattle.lines.specs.Reader.{Inside}
 use borrow.Author.Needs.{needs}
 use Rattle.replay.proofs.replay.Statement.{statement}
 use Rattle.replay.proofs.replay.Tie as tie
 
 abbrev Inv-loop : tie.InvT-loop
-Inv-loop rom save buf₀ state₀ turns₀ buf state turns = 65536 ≡ length buf
+Inv-loop rom save buf₀ state₀ turns₀ buf state turns = (65536 ≡ length buf) × Inside 65536 (state .reader)
 
 abbrev μ-loop : tie.MeasureT-loop
 μ-loop rom save buf₀ state₀ turns₀ buf state turns = turns
@@ -16,6 +17,9 @@ large-buffer-requires c κs = search needs
 
 new-requires : tie.Need-new-requires Inv-loop μ-loop
 new-requires c κs = search needs
+
+new-requires-2 : tie.Need-new-requires-2 Inv-loop μ-loop
+new-requires-2 c κs = search needs
 
 loop-holds : tie.Need-loop-holds Inv-loop μ-loop
 loop-holds c = search needs
@@ -46,6 +50,7 @@ replay-spec =
     μ-loop
     large-buffer-requires
     new-requires
+    new-requires-2
     loop-holds
     slice-aggregate-step
     step-requires

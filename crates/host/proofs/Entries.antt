@@ -1,0 +1,159 @@
+-- How an entry answers, by what the image gave and what the call gave.
+use mathlib.Core.Bool.{cond}
+use mathlib.Core.List.{List, []}
+use mathlib.Core.Path.{_≡_, refl, ap, subst, _∙_}
+use Prim.Native.Nat.{ℕ, _<_, _≤_}
+use lib.Dec.{eqb, ltb}
+use lib.ListN.{length}
+use borrow.Author.Tests.{ne-eqb, lt-ltb, le-ltb}
+use Rattle.bus.specs.Calls.{Outcome, readByteCall, readWordCall, readCgbLcdRamCall}
+use Rattle.bus.specs.Fresh.{Begun, beginning}
+use Rattle.dispatch.specs.Step.{step, stateStep}
+use Rattle.dispatch.specs.declared.Call.{Call}
+use Rattle.dispatch.specs.declared.Call.the-variants as call
+use Rattle.dispatch.specs.declared.Performed.{Performed}
+use Rattle.dispatch.specs.declared.StateCall.{StateCall}
+use Rattle.image.specs.Layout.{imageOf}
+use Rattle.image.specs.Load.{loadCall}
+use Rattle.image.specs.declared.Loaded.{Loaded}
+use Rattle.mbc.proofs.Bools.{by-cond}
+use Rattle.memory.specs.World.{World, world, Fixed}
+use Rattle.memory.specs.declared.Memory.{Memory}
+use Rattle.promise.proofs.Each.{refused-promise}
+use Rattle.promise.proofs.Numbered.{by-unless}
+use Rattle.refusals.specs.declared.Byte.{Byte}
+use Rattle.refusals.specs.declared.Word.{Word}
+use Rattle.host.specs.Entry.{
+  changed,
+  encoded,
+  stateEntry,
+  given,
+  askEntry,
+  readEntry,
+  Left,
+  left,
+  encodedIn,
+  worldEntry,
+  fresh,
+  freshEntry,
+}
+
+module _ (i : List ℕ) {d : Loaded} (e : d ≡ loadCall i) where
+  -- an image that is refused
+  module _ (h : d .number ≡ 0 → ⊥) where
+    pub unloaded-state : (c : StateCall) → changed (d .number) i ≡ stateEntry i c
+    unfolding stateEntry
+    unloaded-state c = rw (← e, ne-eqb (d .number) 0 h)
+
+    pub unloaded-ask : (c : StateCall) → given (d .number) 0 ≡ askEntry i c
+    unfolding askEntry
+    unloaded-ask c = rw (← e, ne-eqb (d .number) 0 h)
+
+    pub unloaded-read : (x : Fixed) (v w s : List ℕ) (c : Call) → given (d .number) 0 ≡ readEntry x i v w s c
+    unfolding readEntry
+    unloaded-read x v w s c = rw (← e, ne-eqb (d .number) 0 h)
+
+    pub unloaded-bus : (x : Fixed) (v w s l : List ℕ) (c : Call) → left (d .number) 0 i v w s l ≡ worldEntry x i v w s l c
+    unfolding worldEntry
+    unloaded-bus x v w s l c = rw (← e, ne-eqb (d .number) 0 h)
+
+  -- one that is loaded
+  module _ (z : d .number ≡ 0) where
+    pub asked : (c : StateCall) {p : Performed} → p ≡ stateStep (d .state) c → given (p .number) (p .value) ≡ askEntry i c
+    unfolding askEntry
+    asked c f = rw (← e, z, ← f)
+
+    module _ (c : StateCall) {p : Performed} (f : p ≡ stateStep (d .state) c) where
+      pub refused-state : 1 < p .number → changed (p .number) i ≡ stateEntry i c
+      unfolding stateEntry encoded
+      refused-state h = rw (← e, z, ← f, lt-ltb 1 (p .number) h)
+
+      pub done-state : p .number ≤ 1 → {j : List ℕ} → j ≡ imageOf (p .memory) → changed (p .number) j ≡ stateEntry i c
+      unfolding stateEntry encoded
+      done-state h g = rw (← e, z, ← f, le-ltb 1 (p .number) h, g)
+
+    module _ (x : Fixed) (v w s : List ℕ) where
+      pub byte-read : (k : ℕ) {b : Byte} → b ≡ readByteCall x (world (d .state) v w s []) k
+          → given (b .number) (b .value) ≡ readEntry x i v w s (call.ReadByte k)
+      unfolding readEntry step
+      byte-read k f = rw (← e, z, f)
+
+      pub word-read : (k : ℕ) {b : Word} → b ≡ readWordCall x (world (d .state) v w s []) k
+          → given (b .number) (b .value) ≡ readEntry x i v w s (call.ReadWord k)
+      unfolding readEntry step
+      word-read k f = rw (← e, z, f)
+
+      pub lcd-ram-read : (k bank : ℕ) {b : Byte} → b ≡ readCgbLcdRamCall (world (d .state) v w s []) k bank
+          → given (b .number) (b .value) ≡ readEntry x i v w s (call.ReadCgbLcdRam k bank)
+      unfolding readEntry step
+      lcd-ram-read k bank f = rw (← e, z, f)
+
+    module _ (x : Fixed) (v w s l : List ℕ) (c : Call) {o : Outcome} (f : o ≡ step x (world (d .state) v w s l) c) where
+      pub refused-bus : 1 < o .number
+          → left (o .number) 0 i (o .after .vram) (o .after .wram) (o .after .save) (o .after .log) ≡ worldEntry x i v w s l c
+      unfolding worldEntry encodedIn
+      refused-bus h =
+          let r = refused-promise x (world (d .state) v w s l) c (rw (← f) (lt-ltb 1 (o .number) h)) in
+          let a : o .after ≡ world (d .state) v w s l = rw f (r .0) in
+          rw (← e, z, ← f, lt-ltb 1 (o .number) h, a)
+
+      pub done-bus : o .number ≤ 1 → {j : List ℕ} → j ≡ imageOf (o .after .state)
+          → left (o .number) (o .value) j (o .after .vram) (o .after .wram) (o .after .save) (o .after .log) ≡ worldEntry x i v w s l c
+      unfolding worldEntry encodedIn
+      done-bus h g = rw (← e, z, ← f, le-ltb 1 (o .number) h, g)
+
+-- a write gives no value
+
+pub with-zero : {n k : ℕ} {i v w s l : List ℕ} {r : Left} → left n k i v w s l ≡ r → r .value ≡ 0 → left n 0 i v w s l ≡ r
+with-zero {n} {k} {i} {v} {w} {s} {l} {r} e z =
+    let q : k ≡ 0 = ap (λ (a : Left). a .value) e ∙ z in
+    subst (λ (m : ℕ). left n m i v w s l ≡ r) q e
+
+module _ (x : Fixed) (i v w s l : List ℕ) where
+  abbrev NoValue : Call → Type 0
+  NoValue c = worldEntry x i v w s l c .value ≡ 0
+
+  no-value : (c : Call) → ((u : World) → step x u c .value ≡ 0) → NoValue c
+  unfolding worldEntry encodedIn
+  no-value c h =
+      by-cond (λ (a : Left). a .value ≡ 0) (eqb (loadCall i .number) 0) _ _
+      (λ t. by-cond (λ (a : Left). a .value ≡ 0) (ltb 1 (step x (world (loadCall i .state) v w s l) c .number)) _ _ (λ g. refl) (λ f. h _)) (λ f. refl)
+
+  pub byte-no-value : (k b : ℕ) → NoValue (call.WriteByte k b)
+  unfolding step
+  byte-no-value k b = no-value (call.WriteByte k b) (λ u. by-unless (λ (o : Outcome). o .value ≡ 0) _ u _ (λ z. refl) (λ h. refl))
+
+  pub word-no-value : (k b : ℕ) → NoValue (call.WriteWord k b)
+  unfolding step
+  word-no-value k b = no-value (call.WriteWord k b) (λ u. by-unless (λ (o : Outcome). o .value ≡ 0) _ u _ (λ z. refl) (λ h. refl))
+
+  pub transfer-no-value : (page : ℕ) → NoValue (call.DoDmaTransfer page)
+  unfolding step
+  transfer-no-value page = no-value (call.DoDmaTransfer page) (λ u. by-unless (λ (o : Outcome). o .value ≡ 0) _ u _ (λ z. refl) (λ h. refl))
+
+-- a fresh bus
+
+beginning-refused : (n : ℕ) (m : Memory) (v w : List ℕ) → (beginning n m v w .number ≡ 0 → ⊥)
+    → (beginning n m v w .vram ≡ v) × (beginning n m v w .wram ≡ w)
+unfolding beginning
+beginning-refused n m v w =
+    by-cond (λ (b : Begun). (b .number ≡ 0 → ⊥) → (b .vram ≡ v) × (b .wram ≡ w)) (eqb n 0) _ _ (λ t h. absurd (h refl)) (λ f h. (refl, refl))
+
+module _ (i v w : List ℕ) where
+  pub fresh-length : (b : Begun) → (length i ≡ 665 → ⊥) → fresh 4 i v w ≡ freshEntry i v w b
+  unfolding freshEntry
+  fresh-length b h = rw (ne-eqb (length i) 665 h)
+
+  module _ (h : length i ≡ 665) (n : ℕ) (m : Memory) {b : Begun} (e : b ≡ beginning n m v w) where
+    pub fresh-refused : (b .number ≡ 0 → ⊥) → fresh (b .number) i (b .vram) (b .wram) ≡ freshEntry i v w (beginning n m v w)
+    unfolding freshEntry
+    fresh-refused z =
+        let r = beginning-refused n m v w (λ k. z (ap (λ (a : Begun). a .number) e ∙ k)) in
+        let p : b .vram ≡ v = ap (λ (a : Begun). a .vram) e ∙ r .0 in
+        let q : b .wram ≡ w = ap (λ (a : Begun). a .wram) e ∙ r .1 in
+        rw (← e, h, ne-eqb (b .number) 0 z, p, q)
+
+    pub fresh-done : b .number ≡ 0 → {j : List ℕ} → j ≡ imageOf (b .state)
+        → fresh (b .number) j (b .vram) (b .wram) ≡ freshEntry i v w (beginning n m v w)
+    unfolding freshEntry
+    fresh-done z g = rw (← e, h, z, g)

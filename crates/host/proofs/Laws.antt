@@ -1,0 +1,135 @@
+-- What an entry needs: an image that was loaded has 665 bytes and a state in range, and every call leaves a state in range.
+use mathlib.Core.Bool.{Bool, true, false, cond, _&&_}
+use mathlib.Core.List.{List}
+use mathlib.Core.Path.{_≡_, refl, sym, ap, _∙_}
+use Prim.Native.Nat.{ℕ, _%_, _≤_}
+use native.Mathlib.Omega.{arith}
+use lib.Dec.{eqb, leb}
+use lib.ListN.{length}
+use borrow.Author.Tests.{eqb-true, leb-true, le-leb}
+use Rattle.bus.proofs.Passes.{write-passes}
+use Rattle.bus.specs.Calls.{Outcome}
+use Rattle.bus.specs.Fresh.{Begun, freshCall}
+use Rattle.dispatch.specs.Step.{step, stateStep}
+use Rattle.dispatch.specs.declared.Call.{Call}
+use Rattle.dispatch.specs.declared.Call.the-variants as call
+use Rattle.dispatch.specs.declared.Performed.{Performed}
+use Rattle.dispatch.specs.declared.StateCall.{StateCall}
+use Rattle.image.specs.Load.{storable, sound, fieldsIn, valuesOf, stateOf, loaded, loadCall}
+use Rattle.image.specs.declared.Loaded.{Loaded}
+use Rattle.mbc.proofs.Bools.{by-cond}
+use Rattle.memory.proofs.Laws.{used-range}
+use Rattle.memory.specs.Start.{zeroed}
+use Rattle.memory.specs.Ranges.{stateInRange, inRange}
+use Rattle.memory.specs.World.{World, Fixed, withUsed}
+use Rattle.memory.specs.declared.Memory.{Memory}
+use Rattle.mmu.proofs.Laws.{Stays, write-stays, word-stays, transfer-stays}
+use Rattle.mmu.specs.Access.{Ready, Holds}
+use Rattle.promise.proofs.Numbered.{by-unless}
+use Rattle.promise.proofs.Starts.{started}
+use Rattle.promise.proofs.States.{Answers, reads, changes, clears, state-answers}
+use Rattle.promise.specs.Calls.{Kind}
+use Rattle.promise.specs.Runs.{Lent, start}
+use Rattle.refusals.proofs.Answers.{both-pass, state-passes}
+use Rattle.refusals.specs.Answers.{changed}
+use Rattle.refusals.specs.Refusal.{refusedWrite, refusedState, writeRefused}
+use Rattle.refusals.specs.declared.Done.{Done}
+use Rattle.registers.proofs.Kept.{Kept}
+use Rattle.registers.specs.Transfers.{oamCopy, blockCopy}
+use Rattle.rules.proofs.Tests.{both-true}
+use Rattle.savelog.specs.Log.{width, logLimit, useInRange}
+
+-- an image that was loaded
+right : (l : List ℕ) → loadCall l .number ≡ 0 → (length l ≡ 665) × (storable (loadCall l .state) ≡ true)
+unfolding loadCall
+right l =
+    by-cond (λ (d : Loaded). d .number ≡ 0 → (length l ≡ 665) × (storable (d .state) ≡ true)) (eqb (length l) 665) _ _
+    (λ t.
+    by-cond (λ (d : Loaded). d .number ≡ 0 → (length l ≡ 665) × (storable (d .state) ≡ true))
+    (sound (fieldsIn (valuesOf l)) && storable (stateOf l)) (loaded 0 (stateOf l)) (loaded 3 zeroed)
+    (λ s e. (eqb-true (length l) 665 t, both-true (sound (fieldsIn (valuesOf l))) (storable (stateOf l)) s .1))
+    (λ f e. let z : _≡_ {A = ℕ} 3 0 = e in absurd (omega arith)))
+    (λ f e. let z : _≡_ {A = ℕ} 4 0 = e in absurd (omega arith))
+
+pub loaded-right : (l : List ℕ) {d : Loaded} → d ≡ loadCall l → d .number ≡ 0 → (length l ≡ 665) × (storable (d .state) ≡ true)
+loaded-right l {d} e z =
+    let r = right l (sym (ap (λ (a : Loaded). a .number) e) ∙ z) in
+    (r .0, ap (λ (a : Loaded). storable (a .state)) e ∙ r .1)
+
+-- a use within a log is within the longest one
+wider : (n len : ℕ) → len ≤ logLimit → useInRange n len ≡ true → useInRange n logLimit ≡ true
+unfolding useInRange
+wider n len h e =
+    let b = both-true (eqb (n % width) 0) (leb n len) e in
+    rw (b .0, le-leb n logLimit (omega (arith, h, leb-true n len (b .1))))
+
+-- a state in range is made of two
+parts : (m : Memory) → storable m ≡ true → (stateInRange m ≡ true) × (useInRange (m .used) logLimit ≡ true)
+unfolding storable inRange
+parts m h = both-true (stateInRange m) _ h
+
+joins : (m : Memory) → stateInRange m ≡ true → useInRange (m .used) logLimit ≡ true → storable m ≡ true
+unfolding storable inRange
+joins m a b = rw (a, b)
+
+kept-storable : {m n : Memory} → Kept m n → storable m ≡ true → storable n ≡ true
+kept-storable {m} {n} k h = let p = parts m h in joins n (k .range (p .0)) (rw (k .used) (p .1))
+
+changed-storable : (k : ℕ) (m n : Memory) → storable m ≡ true → storable n ≡ true → storable (changed k m n .memory) ≡ true
+unfolding changed
+changed-storable k m n h e = by-cond (λ (d : Done). storable (d .memory) ≡ true) (eqb k 0) _ _ (λ t. e) (λ f. h)
+
+cleared : (m : Memory) → storable m ≡ true → storable (withUsed m 0) ≡ true
+unfolding useInRange
+cleared m h = joins (withUsed m 0) (used-range m 0 ∙ parts m h .0) refl
+
+answers-storable : {m : Memory} {k : Kind} {p : Performed} → Answers m k p → storable m ≡ true → storable (p .memory) ≡ true
+answers-storable (reads n v z) h = h
+answers-storable {m} (changes n {next} k) h = changed-storable n m next h (kept-storable k h)
+answers-storable {m} clears h = changed-storable (refusedState m) m (withUsed m 0) h (cleared m h)
+
+pub state-storable : (m : Memory) (c : StateCall) → storable m ≡ true → storable (stateStep m c .memory) ≡ true
+state-storable m c = answers-storable (state-answers m c)
+
+module _ (x : Fixed) (w : World) (h : storable (w .state) ≡ true) where
+  abbrev Fine : Outcome → Type 0
+  Fine o = storable (o .after .state) ≡ true
+
+  stays-storable : useInRange (w .state .used) (length (w .log)) ≡ true → (u : World) → Stays w u → storable (u .state) ≡ true
+  stays-storable e u s = joins (u .state) (s .holds .state) (wider (u .state .used) (length (u .log)) (s .holds .log) (s .used e))
+
+  -- what is not refused is ready
+  ready : refusedWrite x w ≡ 0 → Ready x w
+  ready e = write-passes (x .rom) (x .sound) (w .state) (w .vram) (w .wram) (w .save) (w .log) e
+
+  in-log : refusedWrite x w ≡ 0 → useInRange (w .state .used) (length (w .log)) ≡ true
+  unfolding writeRefused inRange
+  in-log e = both-true (stateInRange (w .state)) _ (state-passes (w .state) (length (w .log)) (both-pass _ _ e .0)) .1
+
+  pub step-storable : (c : Call) → storable (step x w c .after .state) ≡ true
+  unfolding step
+  step-storable (call.ReadByte i) = h
+  step-storable (call.ReadWord i) = h
+  step-storable (call.ReadCgbLcdRam i bank) = h
+  step-storable (call.WriteByte i v) =
+      by-unless Fine _ w _
+      (λ z. let e = both-pass (refusedWrite x w) _ z .0 in stays-storable (in-log e) _ (write-stays x w (ready e .holds) 2 i v)) (λ f. h)
+  step-storable (call.WriteWord i v) =
+      by-unless Fine _ w _
+      (λ z. let e = both-pass (refusedWrite x w) _ z .0 in stays-storable (in-log e) _ (word-stays x w (ready e .holds) i v)) (λ f. h)
+  step-storable (call.DoDmaTransfer page) =
+      by-unless Fine _ w _ (λ e. stays-storable (in-log e) _ (transfer-stays x w (ready e .holds) 1 (oamCopy page) 0)) (λ f. h)
+  step-storable call.DoHdma =
+      by-unless Fine _ w _ (λ e. stays-storable (in-log e) _ (transfer-stays x w (ready e .holds) 1 (blockCopy (w .state)) 0)) (λ f. h)
+  step-storable (call.State c) = state-storable (w .state) c h
+
+-- a fresh bus that was begun
+pub fresh-storable : (kind banks code : ℕ) (colour : Bool) (rom v w save log sound : List ℕ) {b : Begun}
+    → b ≡ freshCall kind banks code colour (length rom) v w (length save) (length log) (length sound) → b .number ≡ 0 → storable (b .state) ≡ true
+fresh-storable kind banks code colour rom v w save log sound e z =
+    let l : Lent =
+    record { kind = kind; banks = banks; code = code; colour = colour; rom = rom; vram = v; wram = w; image = save; log = log; sound = sound } in
+    let s = started l (sym (ap (λ (a : Begun). a .number) e) ∙ z) in
+    let u = start l .state in
+    ap (λ (a : Begun). storable (a .state)) e
+    ∙ joins u (s .good .ready .holds .state) (wider (u .used) (length log) (s .good .ready .holds .log) (s .good .used))

@@ -1,0 +1,38 @@
+-- The call; it gives no value.
+use Rattle.host.proofs.Entries.{with-zero, transfer-no-value}
+use borrow.Author.Needs.{needs}
+use Rattle.host.proofs.lent.pouch_do_dma_transfer.Statement.{statement}
+use Rattle.host.proofs.lent.pouch_do_dma_transfer.Tie as tie
+
+on-bus-requires : tie.Need-on-bus-requires
+on-bus-requires c κs = search needs
+
+same-length : tie.Need-same-length
+same-length c = search needs
+
+same-length-2 : tie.Need-same-length-2
+same-length-2 c = search needs
+
+same-length-3 : tie.Need-same-length-3
+same-length-3 c = search needs
+
+same-length-4 : tie.Need-same-length-4
+same-length-4 c = search needs
+
+same-length-5 : tie.Need-same-length-5
+same-length-5 c = search needs
+
+returns : tie.Need-returns
+returns c = with-zero (c .before .before .before .before .before .before .before .before .before .before .on-bus .ensures) (transfer-no-value _ _ _ _ _ _ _)
+
+pub pouch-do-dma-transfer-spec : {M : Type 1} → statement M
+pouch-do-dma-transfer-spec =
+    tie.close
+    (tie.spec
+    on-bus-requires
+    same-length
+    same-length-2
+    same-length-3
+    same-length-4
+    same-length-5
+    returns)

@@ -1,0 +1,230 @@
+// Entries to which memories are lent.
+ghost use mathlib.Core.List.{[]};
+ghost use mathlib.Core.Path.{_≡_};
+ghost use Rattle.dispatch.specs.declared.Call.the-variants.{ReadByte, ReadWord, ReadCgbLcdRam, WriteByte, WriteWord, DoDmaTransfer, DoHdma};
+ghost use Rattle.memory.specs.World.{fixed};
+ghost use Rattle.savelog.specs.Log.{outcome, recovery};
+ghost use lib.ListN.{length};
+ghost use Rattle.bus.specs.Fresh.{freshCall};
+ghost use Rattle.host.specs.Entry.{given, readEntry, left, worldEntry, fresh, freshEntry, usedEntry};
+use crate::on_bus;
+use dispatch::Call;
+
+#[no_mangle]
+pub extern "C" fn pouch_read_byte(
+    image: &[u8],
+    rom: &[u8],
+    vram: &[u8],
+    wram: &[u8],
+    save: &[u8],
+    sound: &[u8],
+    index: u16,
+    value: &mut u8,
+) -> u8
+    ensures { λ r. ⌜ given r (now (value .exit)) ≡ readEntry (fixed (now (rom .entry)) (now (sound .entry))) (now (image .entry)) (now (vram .entry)) (now (wram .entry)) (now (save .entry)) (ReadByte index) ⌝ }
+{
+    let loaded = image::decode(image);
+    if loaded.number != 0 {
+        *value = 0;
+        return loaded.number;
+    }
+    let memory = loaded.state;
+    let read = bus::reads::read_byte(memory, rom, vram, wram, save, sound, index);
+    *value = read.value;
+    read.number
+}
+
+// Low byte first.
+#[no_mangle]
+pub extern "C" fn pouch_read_word(
+    image: &[u8],
+    rom: &[u8],
+    vram: &[u8],
+    wram: &[u8],
+    save: &[u8],
+    sound: &[u8],
+    index: u16,
+    value: &mut u16,
+) -> u8
+    ensures { λ r. ⌜ given r (now (value .exit)) ≡ readEntry (fixed (now (rom .entry)) (now (sound .entry))) (now (image .entry)) (now (vram .entry)) (now (wram .entry)) (now (save .entry)) (ReadWord index) ⌝ }
+{
+    let loaded = image::decode(image);
+    if loaded.number != 0 {
+        *value = 0;
+        return loaded.number;
+    }
+    let memory = loaded.state;
+    let read = bus::reads::read_word(memory, rom, vram, wram, save, sound, index);
+    *value = read.value;
+    read.number
+}
+
+// Video memory by its bank.
+#[no_mangle]
+pub extern "C" fn pouch_read_cgb_lcd_ram(
+    image: &[u8],
+    vram: &[u8],
+    index: u16,
+    bank: u8,
+    value: &mut u8,
+) -> u8
+    ensures { λ r. ⌜ given r (now (value .exit)) ≡ readEntry (fixed [] []) (now (image .entry)) (now (vram .entry)) [] [] (ReadCgbLcdRam index bank) ⌝ }
+{
+    let loaded = image::decode(image);
+    if loaded.number != 0 {
+        *value = 0;
+        return loaded.number;
+    }
+    let memory = loaded.state;
+    let read = bus::reads::read_cgb_lcd_ram(memory, vram, index, bank);
+    *value = read.value;
+    read.number
+}
+
+#[no_mangle]
+pub extern "C" fn pouch_write_byte(
+    image: &mut [u8],
+    rom: &[u8],
+    vram: &mut [u8],
+    wram: &mut [u8],
+    save: &mut [u8],
+    log: &mut [u8],
+    sound: &[u8],
+    index: u16,
+    byte: u8,
+) -> u8
+    ensures { λ r. ⌜ left r 0 (now (image .exit)) (now (vram .exit)) (now (wram .exit)) (now (save .exit)) (now (log .exit)) ≡ worldEntry (fixed (now (rom .entry)) (now (sound .entry))) (now (image .entry)) (now (vram .entry)) (now (wram .entry)) (now (save .entry)) (now (log .entry)) (WriteByte index byte) ⌝ }
+{
+    let done = on_bus(
+        image,
+        rom,
+        vram,
+        wram,
+        save,
+        log,
+        sound,
+        Call::WriteByte(index, byte),
+    );
+    done.number
+}
+
+// Low byte first.
+#[no_mangle]
+pub extern "C" fn pouch_write_word(
+    image: &mut [u8],
+    rom: &[u8],
+    vram: &mut [u8],
+    wram: &mut [u8],
+    save: &mut [u8],
+    log: &mut [u8],
+    sound: &[u8],
+    index: u16,
+    word: u16,
+) -> u8
+    ensures { λ r. ⌜ left r 0 (now (image .exit)) (now (vram .exit)) (now (wram .exit)) (now (save .exit)) (now (log .exit)) ≡ worldEntry (fixed (now (rom .entry)) (now (sound .entry))) (now (image .entry)) (now (vram .entry)) (now (wram .entry)) (now (save .entry)) (now (log .entry)) (WriteWord index word) ⌝ }
+{
+    let done = on_bus(
+        image,
+        rom,
+        vram,
+        wram,
+        save,
+        log,
+        sound,
+        Call::WriteWord(index, word),
+    );
+    done.number
+}
+
+#[no_mangle]
+pub extern "C" fn pouch_do_dma_transfer(
+    image: &mut [u8],
+    rom: &[u8],
+    vram: &mut [u8],
+    wram: &mut [u8],
+    save: &mut [u8],
+    log: &mut [u8],
+    sound: &[u8],
+    page: u8,
+) -> u8
+    ensures { λ r. ⌜ left r 0 (now (image .exit)) (now (vram .exit)) (now (wram .exit)) (now (save .exit)) (now (log .exit)) ≡ worldEntry (fixed (now (rom .entry)) (now (sound .entry))) (now (image .entry)) (now (vram .entry)) (now (wram .entry)) (now (save .entry)) (now (log .entry)) (DoDmaTransfer page) ⌝ }
+{
+    let done = on_bus(
+        image,
+        rom,
+        vram,
+        wram,
+        save,
+        log,
+        sound,
+        Call::DoDmaTransfer(page),
+    );
+    done.number
+}
+
+// One block of 16 bytes; the value is 36 when it is done.
+#[no_mangle]
+pub extern "C" fn pouch_do_hdma(
+    image: &mut [u8],
+    rom: &[u8],
+    vram: &mut [u8],
+    wram: &mut [u8],
+    save: &mut [u8],
+    log: &mut [u8],
+    sound: &[u8],
+    value: &mut u16,
+) -> u8
+    ensures { λ r. ⌜ left r (now (value .exit)) (now (image .exit)) (now (vram .exit)) (now (wram .exit)) (now (save .exit)) (now (log .exit)) ≡ worldEntry (fixed (now (rom .entry)) (now (sound .entry))) (now (image .entry)) (now (vram .entry)) (now (wram .entry)) (now (save .entry)) (now (log .entry)) DoHdma ⌝ }
+{
+    let done = on_bus(image, rom, vram, wram, save, log, sound, Call::DoHdma);
+    *value = done.value;
+    done.number
+}
+
+// `kind` 0 RomOnly, 1 Mbc1, 2 Mbc2; `banks` is N; `code` the RAM code.
+#[no_mangle]
+pub extern "C" fn pouch_fresh(
+    image: &mut [u8],
+    kind: u8,
+    banks: u16,
+    code: u8,
+    colour: bool,
+    rom: &[u8],
+    vram: &mut [u8],
+    wram: &mut [u8],
+    save: &[u8],
+    log: &[u8],
+    sound: &[u8],
+) -> u8
+    ensures { λ r. ⌜ fresh r (now (image .exit)) (now (vram .exit)) (now (wram .exit)) ≡ freshEntry (now (image .entry)) (now (vram .entry)) (now (wram .entry)) (freshCall kind banks code colour (length (now (rom .entry))) (now (vram .entry)) (now (wram .entry)) (length (now (save .entry))) (length (now (log .entry))) (length (now (sound .entry)))) ⌝ }
+{
+    if image.len() != 665 {
+        return numbers::WRONG_LENGTH;
+    }
+    let done = bus::fresh::fresh(kind, banks, code, colour, rom, vram, wram, save, log, sound);
+    if done.number != 0 {
+        return done.number;
+    }
+    let memory = done.memory;
+    image::store(memory, image);
+    done.number
+}
+
+// The log's records over a save; neither needs an image.
+#[no_mangle]
+pub extern "C" fn pouch_recover(save: &mut [u8], log: &[u8]) -> u8
+    ensures { λ r. ⌜ outcome r (now (save .exit)) ≡ recovery (now (save .entry)) (now (log .entry)) ⌝ }
+{
+    savelog::recover(save, log)
+}
+
+// Bytes of the log that are used.
+#[no_mangle]
+pub extern "C" fn pouch_log_used(image: &[u8], value: &mut u16) -> u8
+    ensures { λ r. ⌜ given r (now (value .exit)) ≡ usedEntry (now (image .entry)) ⌝ }
+{
+    let loaded = image::decode(image);
+    let memory = loaded.state;
+    *value = memory.used;
+    loaded.number
+}

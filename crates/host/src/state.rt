@@ -1,0 +1,206 @@
+// Entries on the state alone.
+ghost use mathlib.Core.Path.{_≡_};
+ghost use Rattle.dispatch.specs.declared.StateCall.the-variants.{Load, Store, SetJoypadState, AreActionKeysEnabled, AreDirectionKeysEnabled, DoLcdControlWrite, DoLcdStatusWrite, DoScanlineWrite, DoLycWrite, CompareLyToLyc, EnableScreen, DisableScreen, ResetWindowLine, GetInterrupts, RequestInterrupt, RemoveInterrupt, IsHdmaEnabled, UpdateTimer, Press, Release, UpdateJoypad, ClearLog, Host};
+ghost use Rattle.lcd.specs.Lcd.{numbersOf};
+ghost use Rattle.host.specs.Entry.{changed, stateEntry, given, askEntry};
+use crate::ask;
+use crate::on_state;
+use dispatch::StateCall;
+use lcd::Lcd;
+
+// Raw: the page, FF00..FFFF.
+#[no_mangle]
+pub extern "C" fn pouch_load(image: &[u8], index: u16, value: &mut u16) -> u8
+    ensures { λ r. ⌜ given r (now (value .exit)) ≡ askEntry (now (image .entry)) (Load index) ⌝ }
+{
+    let asked = ask(image, StateCall::Load(index));
+    *value = asked.value;
+    asked.number
+}
+
+#[no_mangle]
+pub extern "C" fn pouch_store(image: &mut [u8], index: u16, byte: u8) -> u8
+    ensures { λ r. ⌜ changed r (now (image .exit)) ≡ stateEntry (now (image .entry)) (Store index byte) ⌝ }
+{
+    on_state(image, StateCall::Store(index, byte))
+}
+
+#[no_mangle]
+pub extern "C" fn pouch_set_joypad_state(image: &mut [u8], state: u8) -> u8
+    ensures { λ r. ⌜ changed r (now (image .exit)) ≡ stateEntry (now (image .entry)) (SetJoypadState state) ⌝ }
+{
+    on_state(image, StateCall::SetJoypadState(state))
+}
+
+#[no_mangle]
+pub extern "C" fn pouch_are_action_keys_enabled(image: &[u8], value: &mut u16) -> u8
+    ensures { λ r. ⌜ given r (now (value .exit)) ≡ askEntry (now (image .entry)) AreActionKeysEnabled ⌝ }
+{
+    let asked = ask(image, StateCall::AreActionKeysEnabled);
+    *value = asked.value;
+    asked.number
+}
+
+#[no_mangle]
+pub extern "C" fn pouch_are_direction_keys_enabled(image: &[u8], value: &mut u16) -> u8
+    ensures { λ r. ⌜ given r (now (value .exit)) ≡ askEntry (now (image .entry)) AreDirectionKeysEnabled ⌝ }
+{
+    let asked = ask(image, StateCall::AreDirectionKeysEnabled);
+    *value = asked.value;
+    asked.number
+}
+
+#[no_mangle]
+pub extern "C" fn pouch_do_lcd_control_write(image: &mut [u8], byte: u8) -> u8
+    ensures { λ r. ⌜ changed r (now (image .exit)) ≡ stateEntry (now (image .entry)) (DoLcdControlWrite byte) ⌝ }
+{
+    on_state(image, StateCall::DoLcdControlWrite(byte))
+}
+
+#[no_mangle]
+pub extern "C" fn pouch_do_lcd_status_write(image: &mut [u8], byte: u8) -> u8
+    ensures { λ r. ⌜ changed r (now (image .exit)) ≡ stateEntry (now (image .entry)) (DoLcdStatusWrite byte) ⌝ }
+{
+    on_state(image, StateCall::DoLcdStatusWrite(byte))
+}
+
+#[no_mangle]
+pub extern "C" fn pouch_do_scanline_write(image: &mut [u8], byte: u8) -> u8
+    ensures { λ r. ⌜ changed r (now (image .exit)) ≡ stateEntry (now (image .entry)) (DoScanlineWrite byte) ⌝ }
+{
+    on_state(image, StateCall::DoScanlineWrite(byte))
+}
+
+#[no_mangle]
+pub extern "C" fn pouch_do_lyc_write(image: &mut [u8], byte: u8) -> u8
+    ensures { λ r. ⌜ changed r (now (image .exit)) ≡ stateEntry (now (image .entry)) (DoLycWrite byte) ⌝ }
+{
+    on_state(image, StateCall::DoLycWrite(byte))
+}
+
+#[no_mangle]
+pub extern "C" fn pouch_compare_ly_to_lyc(image: &mut [u8]) -> u8
+    ensures { λ r. ⌜ changed r (now (image .exit)) ≡ stateEntry (now (image .entry)) CompareLyToLyc ⌝ }
+{
+    on_state(image, StateCall::CompareLyToLyc)
+}
+
+#[no_mangle]
+pub extern "C" fn pouch_enable_screen(image: &mut [u8]) -> u8
+    ensures { λ r. ⌜ changed r (now (image .exit)) ≡ stateEntry (now (image .entry)) EnableScreen ⌝ }
+{
+    on_state(image, StateCall::EnableScreen)
+}
+
+#[no_mangle]
+pub extern "C" fn pouch_disable_screen(image: &mut [u8]) -> u8
+    ensures { λ r. ⌜ changed r (now (image .exit)) ≡ stateEntry (now (image .entry)) DisableScreen ⌝ }
+{
+    on_state(image, StateCall::DisableScreen)
+}
+
+#[no_mangle]
+pub extern "C" fn pouch_reset_window_line(image: &mut [u8]) -> u8
+    ensures { λ r. ⌜ changed r (now (image .exit)) ≡ stateEntry (now (image .entry)) ResetWindowLine ⌝ }
+{
+    on_state(image, StateCall::ResetWindowLine)
+}
+
+// The interrupt that is served first, by its bit; 5 for none.
+#[no_mangle]
+pub extern "C" fn pouch_get_interrupts(image: &[u8], value: &mut u16) -> u8
+    ensures { λ r. ⌜ given r (now (value .exit)) ≡ askEntry (now (image .entry)) GetInterrupts ⌝ }
+{
+    let asked = ask(image, StateCall::GetInterrupts);
+    *value = asked.value;
+    asked.number
+}
+
+#[no_mangle]
+pub extern "C" fn pouch_request_interrupt(image: &mut [u8], interrupt: u8) -> u8
+    ensures { λ r. ⌜ changed r (now (image .exit)) ≡ stateEntry (now (image .entry)) (RequestInterrupt interrupt) ⌝ }
+{
+    on_state(image, StateCall::RequestInterrupt(interrupt))
+}
+
+#[no_mangle]
+pub extern "C" fn pouch_remove_interrupt(image: &mut [u8], interrupt: u8) -> u8
+    ensures { λ r. ⌜ changed r (now (image .exit)) ≡ stateEntry (now (image .entry)) (RemoveInterrupt interrupt) ⌝ }
+{
+    on_state(image, StateCall::RemoveInterrupt(interrupt))
+}
+
+#[no_mangle]
+pub extern "C" fn pouch_is_hdma_enabled(image: &[u8], value: &mut u16) -> u8
+    ensures { λ r. ⌜ given r (now (value .exit)) ≡ askEntry (now (image .entry)) IsHdmaEnabled ⌝ }
+{
+    let asked = ask(image, StateCall::IsHdmaEnabled);
+    *value = asked.value;
+    asked.number
+}
+
+// The Rust's Timer::update.
+#[no_mangle]
+pub extern "C" fn pouch_update_timer(image: &mut [u8], cycles: u32) -> u8
+    ensures { λ r. ⌜ changed r (now (image .exit)) ≡ stateEntry (now (image .entry)) (UpdateTimer cycles) ⌝ }
+{
+    on_state(image, StateCall::UpdateTimer(cycles))
+}
+
+#[no_mangle]
+pub extern "C" fn pouch_press(image: &mut [u8], button: u8) -> u8
+    ensures { λ r. ⌜ changed r (now (image .exit)) ≡ stateEntry (now (image .entry)) (Press button) ⌝ }
+{
+    on_state(image, StateCall::Press(button))
+}
+
+#[no_mangle]
+pub extern "C" fn pouch_release(image: &mut [u8], button: u8) -> u8
+    ensures { λ r. ⌜ changed r (now (image .exit)) ≡ stateEntry (now (image .entry)) (Release button) ⌝ }
+{
+    on_state(image, StateCall::Release(button))
+}
+
+// The Rust's Controller::update.
+#[no_mangle]
+pub extern "C" fn pouch_update_joypad(image: &mut [u8]) -> u8
+    ensures { λ r. ⌜ changed r (now (image .exit)) ≡ stateEntry (now (image .entry)) UpdateJoypad ⌝ }
+{
+    on_state(image, StateCall::UpdateJoypad)
+}
+
+// The host has copied the log's used bytes off.
+#[no_mangle]
+pub extern "C" fn pouch_clear_log(image: &mut [u8]) -> u8
+    ensures { λ r. ⌜ changed r (now (image .exit)) ≡ stateEntry (now (image .entry)) ClearLog ⌝ }
+{
+    on_state(image, StateCall::ClearLog)
+}
+
+// The host sets the eight numbers of the screen, to any values.
+#[no_mangle]
+pub extern "C" fn pouch_host(
+    image: &mut [u8],
+    disabled: bool,
+    line: u8,
+    signal: u8,
+    mode: u8,
+    delay: i32,
+    counter: i32,
+    aux: i32,
+    window: i32,
+) -> u8
+    ensures { λ r. ⌜ changed r (now (image .exit)) ≡ stateEntry (now (image .entry)) (Host (numbersOf disabled line signal mode delay counter aux window)) ⌝ }
+{
+    let lcd = Lcd {
+        disabled: disabled,
+        line: line,
+        signal: signal,
+        mode: mode,
+        delay: delay,
+        counter: counter,
+        aux: aux,
+        window: window,
+    };
+    on_state(image, StateCall::Host(lcd))
+}

@@ -1,0 +1,27 @@
+-- The sum of remainders is the rule.
+use Rattle.lines.proofs.Contents.{save-sum}
+use borrow.Author.Needs.{needs}
+use Rattle.lines.proofs.pattern.save_byte.Statement.{statement}
+use Rattle.lines.proofs.pattern.save_byte.Tie as tie
+
+mul-result : tie.Need-mul-result
+mul-result c = search needs
+
+mul-result-2 : tie.Need-mul-result-2
+mul-result-2 c = search needs
+
+add-result : tie.Need-add-result
+add-result c = search needs
+
+add-result-2 : tie.Need-add-result-2
+add-result-2 c = search needs
+
+cast-result : tie.Need-cast-result
+cast-result c = search needs
+
+returns : tie.Need-returns
+returns c = save-sum _ _
+
+pub save-byte-spec : {M : Type 1} → statement M
+save-byte-spec =
+    tie.close (tie.spec mul-result mul-result-2 add-result add-result-2 cast-result returns)

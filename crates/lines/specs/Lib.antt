@@ -1,0 +1,4 @@
+pub mod Text
+pub mod Contents
+pub mod Reader
+pub mod Answer
