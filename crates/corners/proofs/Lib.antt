@@ -1,0 +1,7 @@
+pub mod Open
+pub mod Oam
+pub mod Quick
+pub mod Starts
+pub mod Opened
+pub mod Rows
+pub mod Zero
