@@ -1,0 +1,107 @@
+//! What is measured: the same calls on both sides, some number of times.
+
+use std::hint::black_box;
+
+use crate::sides::{Ours, Theirs};
+
+pub struct Case {
+    pub name: &'static str,
+    pub ours: fn(&mut Ours, u32),
+    pub theirs: fn(&mut Theirs, u32),
+}
+
+/// A case from what one turn does on either side.
+macro_rules! case {
+    ($name:literal, |$ours:ident| $our:expr, |$theirs:ident| $their:expr) => {
+        Case {
+            name: $name,
+            ours: |$ours, turns| {
+                for _ in 0..turns {
+                    let _ = black_box($our);
+                }
+            },
+            theirs: |$theirs, turns| {
+                for _ in 0..turns {
+                    let _ = black_box($their);
+                }
+            },
+        }
+    };
+}
+
+pub const CASES: [Case; 11] = [
+    case! { "read, ROM",
+        |o| o.memory.read_byte(black_box(0x4123)),
+        |t| t.memory.read_byte(black_box(0x4123))
+    },
+    case! { "read, WRAM",
+        |o| o.memory.read_byte(black_box(0xC123)),
+        |t| t.memory.read_byte(black_box(0xC123))
+    },
+    case! { "read, register FF0F",
+        |o| o.memory.read_byte(black_box(0xFF0F)),
+        |t| t.memory.read_byte(black_box(0xFF0F))
+    },
+    case! { "write, WRAM",
+        |o| o.memory.write_byte(black_box(0xC123), 0x56).unwrap(),
+        |t| t.memory.write_byte(black_box(0xC123), 0x56)
+    },
+    case! { "write, save, with its log record",
+        |o| save_write(o),
+        |t| t.memory.write_byte(black_box(0xA123), 0x56)
+    },
+    case! { "timer update by 4",
+        |o| o.timer.update(black_box(4), &mut o.memory).unwrap(),
+        |t| t.timer.update(black_box(4), &mut t.memory)
+    },
+    case! { "timer update by 65,536, period 16",
+        |o| o.timer.update(black_box(65536), &mut o.memory).unwrap(),
+        |t| t.timer.update(black_box(65536), &mut t.memory)
+    },
+    case! { "OAM DMA, 160 bytes",
+        |o| o.memory.do_dma_transfer(black_box(0xC0)),
+        |t| t.memory.do_dma_transfer(black_box(0xC0))
+    },
+    case! { "GDMA, 2,048 bytes, and its four address writes",
+        |o| black_box(GDMA).map(|(index, value)| o.memory.write_byte(index, value).unwrap()),
+        |t| black_box(GDMA).map(|(index, value)| t.memory.write_byte(index, value))
+    },
+    case! { "press, joypad update, release",
+        |o| {
+            o.controller.press(black_box(pouchrattle::Button::A));
+            o.controller.update(&mut o.memory);
+            o.controller.release(black_box(pouchrattle::Button::A));
+        },
+        |t| {
+            t.controller.press(black_box(gameboy_core::button::Button::A));
+            t.controller.update(&mut t.memory);
+            t.controller.release(black_box(gameboy_core::button::Button::A));
+        }
+    },
+    case! { "recovery, log of 65,535 bytes (*)",
+        |o| pouchrattle::recover(&mut o.recovery.save, black_box(&o.recovery.log)).unwrap(),
+        |t| assert!(plain_recovery(&mut t.recovery.save, black_box(&t.recovery.log)))
+    },
+];
+
+/// From 0100 to 8000.
+const GDMA: [(u16, u8); 5] = [(0xFF51, 0x01), (0xFF52, 0x00), (0xFF53, 0x00), (0xFF54, 0x00), (0xFF55, 0x7F)];
+
+/// With the log taken off when it is full.
+fn save_write(ours: &mut Ours) {
+    while ours.memory.write_byte(black_box(0xA123), 0x56).is_err() {
+        black_box(ours.memory.take_log());
+    }
+}
+
+/// The Rust has no recovery: what an engine would write by hand.
+fn plain_recovery(save: &mut [u8], log: &[u8]) -> bool {
+    let whole = || log.chunks_exact(3).map(|record| (usize::from(record[0] & 0x7F) << 8 | usize::from(record[1]), record));
+    if whole().any(|(address, record)| record[0] < 0x80 || save.len() <= address) {
+        return false;
+    }
+    for (address, record) in whole() {
+        save[address] = record[2];
+    }
+    true
+}

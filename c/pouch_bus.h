@@ -1,0 +1,123 @@
+/* Pouchrattle for C hosts, the short way: one struct that holds the image and what is lent, calls on it, and a journal that keeps the log safe.
+ *
+ *     struct pouch_bus bus = { .rom = rom, .rom_len = sizeof rom, .. };       every pointer and length of the struct, sound
+ *     pouch_bus_fresh(&bus, POUCH_MBC1, 2, 2, false);
+ *     pouch_bus_write(&bus, 0xA000, 0x2A);
+ *     pouch_bus_keep(&bus, journal);                                          once a frame, say: the log's new bytes are in the file
+ *
+ * A read gives the byte or word, any other call the number (enum pouch_number); bus.number has the number of the last call, also after a read. Nothing is
+ * checked here: the library does that. Calls on the state alone need no short form: pouch_press(bus.image, sizeof bus.image, POUCH_A). */
+#ifndef POUCH_BUS_H
+#define POUCH_BUS_H
+
+#include "pouchrattle.h"
+#include <sys/types.h>
+#include <unistd.h>
+
+/* The memories belong to the host, and must outlive the bus. */
+struct pouch_bus {
+    uint8_t image[POUCH_IMAGE_LEN];
+    uint8_t number;
+    const uint8_t *rom;
+    size_t rom_len;
+    uint8_t *vram;
+    size_t vram_len;
+    uint8_t *wram;
+    size_t wram_len;
+    uint8_t *save;
+    size_t save_len;
+    uint8_t *log;
+    size_t log_len;
+    const uint8_t *sound; /* POUCH_SOUND_LEN bytes */
+    uint16_t kept;        /* log bytes that are in the journal already */
+};
+
+static inline uint8_t pouch_bus_fresh(struct pouch_bus *bus, uint8_t kind, uint16_t banks, uint8_t code, bool colour)
+{
+    bus->kept = 0;
+    bus->number = pouch_fresh(
+        bus->image, sizeof bus->image, kind, banks, code, colour, bus->rom, bus->rom_len, bus->vram, bus->vram_len, bus->wram, bus->wram_len, bus->save,
+        bus->save_len, bus->log, bus->log_len, bus->sound, POUCH_SOUND_LEN);
+    return bus->number;
+}
+
+static inline uint8_t pouch_bus_read(struct pouch_bus *bus, uint16_t index)
+{
+    uint8_t value;
+    bus->number = pouch_read_byte(
+        bus->image, sizeof bus->image, bus->rom, bus->rom_len, bus->vram, bus->vram_len, bus->wram, bus->wram_len, bus->save, bus->save_len, bus->sound,
+        POUCH_SOUND_LEN, index, &value);
+    return value;
+}
+
+static inline uint16_t pouch_bus_read_word(struct pouch_bus *bus, uint16_t index)
+{
+    uint16_t value;
+    bus->number = pouch_read_word(
+        bus->image, sizeof bus->image, bus->rom, bus->rom_len, bus->vram, bus->vram_len, bus->wram, bus->wram_len, bus->save, bus->save_len, bus->sound,
+        POUCH_SOUND_LEN, index, &value);
+    return value;
+}
+
+static inline uint8_t pouch_bus_write(struct pouch_bus *bus, uint16_t index, uint8_t byte)
+{
+    bus->number = pouch_write_byte(
+        bus->image, sizeof bus->image, bus->rom, bus->rom_len, bus->vram, bus->vram_len, bus->wram, bus->wram_len, bus->save, bus->save_len, bus->log,
+        bus->log_len, bus->sound, POUCH_SOUND_LEN, index, byte);
+    return bus->number;
+}
+
+static inline uint8_t pouch_bus_write_word(struct pouch_bus *bus, uint16_t index, uint16_t word)
+{
+    bus->number = pouch_write_word(
+        bus->image, sizeof bus->image, bus->rom, bus->rom_len, bus->vram, bus->vram_len, bus->wram, bus->wram_len, bus->save, bus->save_len, bus->log,
+        bus->log_len, bus->sound, POUCH_SOUND_LEN, index, word);
+    return bus->number;
+}
+
+/* The cycles that the block took. */
+static inline uint16_t pouch_bus_do_hdma(struct pouch_bus *bus)
+{
+    uint16_t cycles;
+    bus->number = pouch_do_hdma(
+        bus->image, sizeof bus->image, bus->rom, bus->rom_len, bus->vram, bus->vram_len, bus->wram, bus->wram_len, bus->save, bus->save_len, bus->log,
+        bus->log_len, bus->sound, POUCH_SOUND_LEN, &cycles);
+    return cycles;
+}
+
+/* Appends the log's new bytes to the journal, a file opened with O_APPEND, and clears the log once over half of it is used and all of that is in the journal.
+ * true: every stored byte is in the file, and outlives this process; fsync makes it outlive the machine. false: bus.number refuses, or the file did not
+ * take all of it (errno); nothing is lost, and the next call goes on with the first byte that is not there.
+ * After number 2 of a write: keep, and write again. A log of 12 bytes or more then has room. */
+static inline bool pouch_bus_keep(struct pouch_bus *bus, int journal)
+{
+    uint16_t used;
+    bus->number = pouch_log_used(bus->image, sizeof bus->image, &used);
+    while (bus->kept < used) {
+        ssize_t n = write(journal, bus->log + bus->kept, (size_t)(used - bus->kept));
+        if (n <= 0)
+            return false;
+        bus->kept = (uint16_t)(bus->kept + n);
+    }
+    if (bus->number == POUCH_DONE && used > bus->log_len / 2) {
+        bus->number = pouch_clear_log(bus->image, sizeof bus->image);
+        bus->kept = 0;
+    }
+    return bus->number == POUCH_DONE;
+}
+
+/* Recovery from a whole journal, however long: its parts are whole records, given one by one. Numbers as pouch_recover; after 6 the save holds the parts
+ * before the damaged one, so recover on a copy. */
+static inline uint8_t pouch_bus_recover(uint8_t *save, size_t save_len, const uint8_t *journal, size_t journal_len)
+{
+    uint8_t number = POUCH_DONE;
+    do {
+        size_t part = journal_len < POUCH_LOG_LEN_MAX ? journal_len : POUCH_LOG_LEN_MAX;
+        number = pouch_recover(save, save_len, journal, part);
+        journal += part;
+        journal_len -= part;
+    } while (number == POUCH_DONE && journal_len > 0);
+    return number;
+}
+
+#endif

@@ -1,0 +1,257 @@
+/* Pouchrattle: the memory bus of a handheld console, for C and C++ hosts.
+ *
+ * The host runs the processor, draws, and makes sound. It asks this library what a read answers and what a write does, keeps the timers in step with
+ * the game by it, and tells it of the buttons. Every stored save byte is written to a log, from which a save is recovered after a session that ended
+ * without warning.
+ *
+ * What the host owns and lends for the time of a call:
+ *
+ *   image   the state of the bus, 665 bytes. Made by pouch_fresh, changed by the calls. It is plain data: the host may copy it, store it, put it back.
+ *   rom     the cartridge's ROM: N banks of 16,384 bytes.
+ *   vram    video memory: 8,192 bytes, in colour 16,384 (bank 0, then bank 1).
+ *   wram    work memory: 8,192 bytes, in colour 32,768 (banks 0 to 7).
+ *   save    the cartridge's RAM: 0, 512, 8,192 or 32,768 bytes, as the cartridge has.
+ *   log     0 to 65,535 bytes. The image says how many of them are used: pouch_log_used.
+ *   sound   what FF10..FF3F read now: 48 bytes, which the host's sound part keeps.
+ *
+ * Rules for the host, which no call can check:
+ *
+ *   - Each pointer has as many bytes behind it as the length says. None is NULL, not even with length 0.
+ *   - What is lent to one call does not overlap, results (`value`) too.
+ *   - A bool is 0 or 1. In C++ and in C with <stdbool.h> it always is.
+ *
+ * All else is checked: any image, any length, any number is taken, and every call ends. The library has no memory of its own, allocates nothing and
+ * calls nothing, so a call may be made from any thread; two calls at the same time must not share what one of them writes.
+ *
+ * Each call gives back a number (enum pouch_number). 0 and 1 say that it is done. Any other refuses: then no byte of what was lent is changed, and
+ * a `value` is set to 0. Where several refusals are due, the first in this order is given, and the comments below name them in it:
+ *
+ *   4  the image's length is not 665
+ *   3  the image's contents are out of range (pouch_fresh: the cartridge's description is); or the log's use is beyond the lent log
+ *   4  another lent length is not what it must be
+ *   5  too many cycles
+ *   7  a button, an interrupt, an index or a bank outside
+ *   6  a damaged record
+ *   2  no room in the log
+ *
+ * An image that pouch_fresh made and these calls changed is always in range. An image of zero bytes is not: it is refused by 3.
+ * Indexes are the processor's addresses, 0000 to FFFF; FF00 and so on are hexadecimal. */
+#ifndef POUCHRATTLE_H
+#define POUCHRATTLE_H
+
+#include <stdbool.h>
+#include <stddef.h>
+#include <stdint.h>
+
+#ifdef __cplusplus
+extern "C" {
+#endif
+
+/* The number that a call gives back. */
+enum pouch_number {
+    POUCH_DONE = 0,
+    POUCH_OWED = 1,            /* done; an index of this write is in FF10..FF3F, and the host owes its sound part the write */
+    POUCH_NO_ROOM = 2,         /* a write in A000..BFFF, and too few log bytes are free: copy the used bytes off, clear, write again */
+    POUCH_OUT_OF_RANGE = 3,    /* the cartridge's description, or the state in the image */
+    POUCH_WRONG_LENGTH = 4,    /* of something lent */
+    POUCH_TOO_MANY_CYCLES = 5, /* over 65,536 in one call */
+    POUCH_DAMAGED = 6,         /* recovery met a whole record that is damaged */
+    POUCH_OUTSIDE = 7          /* a button over 7, an interrupt over 4, an index or a bank outside */
+};
+
+/* Buttons, for pouch_press and pouch_release. */
+enum pouch_button {
+    POUCH_UP = 0,
+    POUCH_DOWN = 1,
+    POUCH_LEFT = 2,
+    POUCH_RIGHT = 3,
+    POUCH_A = 4,
+    POUCH_B = 5,
+    POUCH_START = 6,
+    POUCH_SELECT = 7
+};
+
+/* Interrupts, by their bits in FF0F and FFFF. The last is an answer of pouch_get_interrupts alone. */
+enum pouch_interrupt {
+    POUCH_VBLANK = 0,
+    POUCH_LCD = 1,
+    POUCH_TIMER = 2,
+    POUCH_SERIAL = 3,
+    POUCH_JOYPAD = 4,
+    POUCH_NO_INTERRUPT = 5
+};
+
+/* Mappers, for pouch_fresh. */
+enum pouch_kind {
+    POUCH_ROM_ONLY = 0, /* 2 ROM banks */
+    POUCH_MBC1 = 1,     /* 2, 4, .. 128 ROM banks */
+    POUCH_MBC2 = 2      /* 2, 4, 8, 16 ROM banks, a save of 512 bytes, RAM code 0 */
+};
+
+/* Lengths in bytes. */
+#define POUCH_IMAGE_LEN 665
+#define POUCH_ROM_BANK_LEN 16384
+#define POUCH_VRAM_LEN_MONOCHROME 8192
+#define POUCH_VRAM_LEN_COLOUR 16384
+#define POUCH_WRAM_LEN_MONOCHROME 8192
+#define POUCH_WRAM_LEN_COLOUR 32768
+#define POUCH_SAVE_LEN_CODE_0 0     /* RAM code 0, RomOnly and Mbc1 */
+#define POUCH_SAVE_LEN_CODE_2 8192  /* RAM code 2 */
+#define POUCH_SAVE_LEN_CODE_3 32768 /* RAM code 3 */
+#define POUCH_SAVE_LEN_MBC2 512     /* Mbc2, RAM code 0 */
+#define POUCH_SOUND_LEN 48
+#define POUCH_LOG_LEN_MAX 65535
+
+/* A log is records of 3 bytes, most significant bit first: a 1 bit, 15 bits of address in the save, 8 bits of value. */
+#define POUCH_RECORD_LEN 3
+
+/* Starting, and the save's log */
+
+/* Makes the image of a fresh bus. `kind` is an enum pouch_kind, `banks` N, `code` the RAM code of the cartridge's header: 0, 2 or 3. vram and wram are
+ * zeroed; the bytes of save and log are kept, and the log's use is 0. What the image held before does not matter.
+ * 0; 4 image's length; 3 kind, banks or code out of range; 4 another length is not the one that kind, banks, code and colour ask for. */
+uint8_t pouch_fresh(
+    uint8_t *image, size_t image_len, uint8_t kind, uint16_t banks, uint8_t code, bool colour, const uint8_t *rom, size_t rom_len, uint8_t *vram,
+    size_t vram_len, uint8_t *wram, size_t wram_len, const uint8_t *save, size_t save_len, const uint8_t *log, size_t log_len, const uint8_t *sound,
+    size_t sound_len);
+
+/* The number of log bytes that are used, a multiple of 3: records of what was stored since the log was last cleared, in order.
+ * 0; 4, 3 image. */
+uint8_t pouch_log_used(const uint8_t *image, size_t image_len, uint16_t *value);
+
+/* Sets the log's use to 0; its bytes stay. The host has copied the used bytes off: what it did not copy cannot be recovered.
+ * 0; 4, 3 image. */
+uint8_t pouch_clear_log(uint8_t *image, size_t image_len);
+
+/* Recovery: stores the log's records in the save, in order. Takes no image. Copies of a log that was cleared in between are given one by one, in order.
+ * 1 or 2 last bytes, a record that was cut, are ignored.
+ * 0; 4 save_len is not 0, 512, 8,192 or 32,768, or log_len is over 65,535; 6 a whole record begins with a 0 bit or names no byte of this save. */
+uint8_t pouch_recover(uint8_t *save, size_t save_len, const uint8_t *log, size_t log_len);
+
+/* The processor's reads and writes */
+
+/* The byte that the processor reads. Changes nothing.
+ * 0; 4, 3 image; 4 another length. */
+uint8_t pouch_read_byte(
+    const uint8_t *image, size_t image_len, const uint8_t *rom, size_t rom_len, const uint8_t *vram, size_t vram_len, const uint8_t *wram,
+    size_t wram_len, const uint8_t *save, size_t save_len, const uint8_t *sound, size_t sound_len, uint16_t index, uint8_t *value);
+
+/* The bytes at `index` (low) and at the next index (high); FFFF is followed by 0000.
+ * 0; 4, 3 image; 4 another length. */
+uint8_t pouch_read_word(
+    const uint8_t *image, size_t image_len, const uint8_t *rom, size_t rom_len, const uint8_t *vram, size_t vram_len, const uint8_t *wram,
+    size_t wram_len, const uint8_t *save, size_t save_len, const uint8_t *sound, size_t sound_len, uint16_t index, uint16_t *value);
+
+/* A byte of video memory by its bank, whichever bank the game has selected: `index` in 8000..9FFF, `bank` 0, in colour 0 or 1.
+ * 0; 4, 3 image; 4 vram's length; 7 index or bank outside. */
+uint8_t pouch_read_cgb_lcd_ram(
+    const uint8_t *image, size_t image_len, const uint8_t *vram, size_t vram_len, uint16_t index, uint8_t bank, uint8_t *value);
+
+/* The processor writes a byte: into a memory, a register, or the mapper. A save byte that the mapper lets in is stored in save and logged, 3 bytes of the
+ * log each, also when its value is the same. A write to FF46 or FF55 runs its transfer within the call; no transfer writes to the save.
+ * 0; 1 index in FF10..FF3F; 4, 3 image or log's use; 4 another length; 2 index in A000..BFFF (also where the mapper stores nothing) and under 3 log bytes
+ * are free. */
+uint8_t pouch_write_byte(
+    uint8_t *image, size_t image_len, const uint8_t *rom, size_t rom_len, uint8_t *vram, size_t vram_len, uint8_t *wram, size_t wram_len, uint8_t *save,
+    size_t save_len, uint8_t *log, size_t log_len, const uint8_t *sound, size_t sound_len, uint16_t index, uint8_t byte);
+
+/* Two byte writes: the low byte at `index`, then the high byte at the next index; FFFF is followed by 0000.
+ * 0; 1 one of both in FF10..FF3F; 4, 3 image or log's use; 4 another length; 2 one of both in A000..BFFF and under 6 log bytes are free. */
+uint8_t pouch_write_word(
+    uint8_t *image, size_t image_len, const uint8_t *rom, size_t rom_len, uint8_t *vram, size_t vram_len, uint8_t *wram, size_t wram_len, uint8_t *save,
+    size_t save_len, uint8_t *log, size_t log_len, const uint8_t *sound, size_t sound_len, uint16_t index, uint16_t word);
+
+/* The transfer of 160 bytes to FE00..FE9F that a write of `page` to FF46 runs: pages 80..DF copy, others do nothing.
+ * 0; 4, 3 image or log's use; 4 another length. */
+uint8_t pouch_do_dma_transfer(
+    uint8_t *image, size_t image_len, const uint8_t *rom, size_t rom_len, uint8_t *vram, size_t vram_len, uint8_t *wram, size_t wram_len, uint8_t *save,
+    size_t save_len, uint8_t *log, size_t log_len, const uint8_t *sound, size_t sound_len, uint8_t page);
+
+/* One block of 16 bytes to video memory, for the host to call at each line's end while pouch_is_hdma_enabled says 1; `value` is the 36 cycles that it takes.
+ * 0; 4, 3 image or log's use; 4 another length. */
+uint8_t pouch_do_hdma(
+    uint8_t *image, size_t image_len, const uint8_t *rom, size_t rom_len, uint8_t *vram, size_t vram_len, uint8_t *wram, size_t wram_len, uint8_t *save,
+    size_t save_len, uint8_t *log, size_t log_len, const uint8_t *sound, size_t sound_len, uint16_t *value);
+
+/* `value` is 1 while a transfer by blocks is on, else 0.
+ * 0; 4, 3 image. */
+uint8_t pouch_is_hdma_enabled(const uint8_t *image, size_t image_len, uint16_t *value);
+
+/* The registers' page as it is stored, FF00..FFFF, with none of the rules of a read or a write.
+ * 0; 4, 3 image; 7 index below FF00. */
+uint8_t pouch_load(const uint8_t *image, size_t image_len, uint16_t index, uint16_t *value);
+uint8_t pouch_store(uint8_t *image, size_t image_len, uint16_t index, uint8_t byte);
+
+/* Timer and interrupts */
+
+/* `cycles` have passed: DIV and TIMA step, and TIMA's overflow requests its interrupt.
+ * 0; 4, 3 image; 5 cycles over 65,536. */
+uint8_t pouch_update_timer(uint8_t *image, size_t image_len, uint32_t cycles);
+
+/* The requested and enabled interrupt that is served first, or POUCH_NO_INTERRUPT. Refused, `value` is 0, which the number tells from POUCH_VBLANK.
+ * 0; 4, 3 image. */
+uint8_t pouch_get_interrupts(const uint8_t *image, size_t image_len, uint16_t *value);
+
+/* Sets, or clears, an interrupt's bit in FF0F.
+ * 0; 4, 3 image; 7 interrupt over 4. */
+uint8_t pouch_request_interrupt(uint8_t *image, size_t image_len, uint8_t interrupt);
+uint8_t pouch_remove_interrupt(uint8_t *image, size_t image_len, uint8_t interrupt);
+
+/* Buttons */
+
+/* A button goes down, or up. The game sees it after pouch_update_joypad.
+ * 0; 4, 3 image; 7 button over 7. */
+uint8_t pouch_press(uint8_t *image, size_t image_len, uint8_t button);
+uint8_t pouch_release(uint8_t *image, size_t image_len, uint8_t button);
+
+/* Shows the buttons to FF00, and requests the interrupt of a new press whose kind of key FF00 selects.
+ * 0; 4, 3 image. */
+uint8_t pouch_update_joypad(uint8_t *image, size_t image_len);
+
+/* What FF00 answers from, a bit for each button that is up: Right, Left, Up, Down, A, B, Select, Start from bit 0. pouch_update_joypad sets it again.
+ * 0; 4, 3 image. */
+uint8_t pouch_set_joypad_state(uint8_t *image, size_t image_len, uint8_t state);
+
+/* `value` is 1 if FF00 selects that kind of key, else 0.
+ * 0; 4, 3 image. */
+uint8_t pouch_are_action_keys_enabled(const uint8_t *image, size_t image_len, uint16_t *value);
+uint8_t pouch_are_direction_keys_enabled(const uint8_t *image, size_t image_len, uint16_t *value);
+
+/* Screen. The host draws, and tells the bus where it stands by pouch_host. */
+
+/* Sets what the host's drawing keeps in the state, to any values: screen disabled, scan line (FF44), the interrupt signal, the LCD mode, and four
+ * counters: delay until the screen is enabled, cycles, auxiliary cycles, window line.
+ * 0; 4, 3 image. */
+uint8_t pouch_host(
+    uint8_t *image, size_t image_len, bool disabled, uint8_t line, uint8_t signal, uint8_t mode, int32_t delay, int32_t counter, int32_t aux,
+    int32_t window);
+
+/* What a write of `byte` does to FF40 (control), FF41 (status), FF44 (scan line), FF45 (the line to compare with).
+ * 0; 4, 3 image. */
+uint8_t pouch_do_lcd_control_write(uint8_t *image, size_t image_len, uint8_t byte);
+uint8_t pouch_do_lcd_status_write(uint8_t *image, size_t image_len, uint8_t byte);
+uint8_t pouch_do_scanline_write(uint8_t *image, size_t image_len, uint8_t byte);
+uint8_t pouch_do_lyc_write(uint8_t *image, size_t image_len, uint8_t byte);
+
+/* Compares scan line and FF45, unless the screen is disabled: sets or clears FF41's bit 2 and the signal's bit 3, and requests the LCD interrupt where FF41
+ * asks for it and the signal was 0.
+ * 0; 4, 3 image. */
+uint8_t pouch_compare_ly_to_lyc(uint8_t *image, size_t image_len);
+
+/* A disabled screen gets its delay of 244; another stays as it is.
+ * 0; 4, 3 image. */
+uint8_t pouch_enable_screen(uint8_t *image, size_t image_len);
+
+/* Disables the screen: mode, line, signal and the two cycle counters become 0, and of FF41 bits 2 to 6 stay.
+ * 0; 4, 3 image. */
+uint8_t pouch_disable_screen(uint8_t *image, size_t image_len);
+
+/* Window line 0 becomes 144 where the scan line is below 144 and beyond FF4A.
+ * 0; 4, 3 image. */
+uint8_t pouch_reset_window_line(uint8_t *image, size_t image_len);
+
+#ifdef __cplusplus
+}
+#endif
+
+#endif

@@ -1,0 +1,298 @@
+/* What each entry of pouchrattle.h does, so that none is exchanged for another and no two arguments are; and the corners that the bus's rules name. */
+#include "lent.h"
+
+/* Bits of the image, most significant first. */
+static uint32_t field(unsigned at, unsigned width)
+{
+    uint32_t bits = 0;
+    for (; width > 0; width--, at++)
+        bits = bits << 1 | (image.at[at / 8] >> (7 - at % 8) & 1u);
+    return bits;
+}
+
+enum { /* where fields start */
+    OAM = 0, BACKGROUND = 4096, DISABLED = 5057, JOYPAD_STATE = 5065, RELEASED = 5073, SCAN_LINE = 5081, SIGNAL = 5089, MODE = 5097, SOURCE = 5123,
+    DESTINATION = 5139, DELAY = 5155, COUNTER = 5187, AUX = 5219, WINDOW = 5251, ROM_BANK = 5290, ENABLED = 5300, LOG_USE = 5303
+};
+
+static uint16_t load(uint16_t index)
+{
+    value = 0xEEEE;
+    IS(pouch_load(LEND(image), index, &value), POUCH_DONE);
+    return value;
+}
+
+static void check_memories(void)
+{
+    uint8_t byte = 0xEE;
+    start_mbc1(false);
+    IS(pouch_store(LEND(image), 0xFF80, 0x12), POUCH_DONE);
+    IS(load(0xFF80), 0x12);
+    IS(rd(0xFF80), 0x12);
+    IS(pouch_write_word(WRITES, 0xC000, 0x3412), POUCH_DONE);
+    IS(rd(0xC000), 0x12);
+    IS(rd(0xE001), 0x34);
+    IS(pouch_read_word(READS, 0xC000, &value), POUCH_DONE);
+    IS(value, 0x3412);
+    IS(pouch_write_word(WRITES, 0xFFFF, 0x0A00), POUCH_DONE); /* FFFF is followed by 0000 */
+    IS(field(ENABLED, 1), 1);
+    start_mbc1(true);
+    IS(wr(0xFF4F, 1), POUCH_DONE);
+    IS(wr(0x8001, 0x77), POUCH_DONE);
+    IS(wr(0xFF4F, 0), POUCH_DONE);
+    IS(pouch_read_cgb_lcd_ram(LEND(image), LEND(vram), 0x8001, 1, &byte), POUCH_DONE);
+    IS(byte, 0x77);
+    IS(pouch_read_cgb_lcd_ram(LEND(image), LEND(vram), 0x8001, 0, &byte), POUCH_DONE);
+    IS(byte, 0);
+    IS(vram.at[0x2001], 0x77);
+}
+
+/* The lowest bit first. */
+static void check_interrupts(void)
+{
+    start_mbc1(false);
+    IS(ask(pouch_get_interrupts), POUCH_NO_INTERRUPT);
+    IS(pouch_store(LEND(image), 0xFFFF, 0x1F), POUCH_DONE);
+    IS(ask(pouch_get_interrupts), POUCH_VBLANK);
+    IS(pouch_remove_interrupt(LEND(image), POUCH_VBLANK), POUCH_DONE);
+    IS(ask(pouch_get_interrupts), POUCH_NO_INTERRUPT);
+    for (uint8_t i = POUCH_JOYPAD + 1; i-- > POUCH_VBLANK;) {
+        IS(pouch_request_interrupt(LEND(image), i), POUCH_DONE);
+        IS(ask(pouch_get_interrupts), i);
+    }
+}
+
+/* Each button has its own bit. */
+static void check_buttons(void)
+{
+    const uint8_t bits[] = {0x04, 0x08, 0x02, 0x01, 0x10, 0x20, 0x80, 0x40}; /* Up, Down, Left, Right, A, B, Start, Select */
+    start_mbc1(false);
+    for (uint8_t i = POUCH_UP; i <= POUCH_SELECT; i++) {
+        IS(pouch_press(LEND(image), i), POUCH_DONE);
+        IS(field(RELEASED, 8), 0xFF - bits[i]);
+        IS(pouch_update_joypad(LEND(image)), POUCH_DONE);
+        IS(field(JOYPAD_STATE, 8), 0xFF - bits[i]);
+        IS(pouch_release(LEND(image), i), POUCH_DONE);
+        IS(field(RELEASED, 8), 0xFF);
+    }
+    IS(pouch_set_joypad_state(LEND(image), 0x3C), POUCH_DONE);
+    IS(field(JOYPAD_STATE, 8), 0x3C);
+    IS(wr(0xFF00, 0x10), POUCH_DONE);
+    IS(ask(pouch_are_action_keys_enabled), 1);
+    IS(ask(pouch_are_direction_keys_enabled), 0);
+    IS(wr(0xFF00, 0x20), POUCH_DONE);
+    IS(ask(pouch_are_action_keys_enabled), 0);
+    IS(ask(pouch_are_direction_keys_enabled), 1);
+}
+
+static void check_screen(void)
+{
+    start_mbc1(false);
+    IS(pouch_host(LEND(image), false, 0x12, 0x34, 0x56, -2, 0x11111111, 0x22222222, INT32_MIN), POUCH_DONE);
+    IS(field(DISABLED, 1), 0);
+    IS(field(SCAN_LINE, 8), 0x12);
+    IS(field(SIGNAL, 8), 0x34);
+    IS(field(MODE, 8), 0x56);
+    IS(field(DELAY, 32), 0xFFFFFFFE);
+    IS(field(COUNTER, 32), 0x11111111);
+    IS(field(AUX, 32), 0x22222222);
+    IS(field(WINDOW, 32), 0x80000000);
+    IS(rd(0xFF44), 0x12);
+    IS(pouch_store(LEND(image), 0xFF45, 0x12), POUCH_DONE);
+    IS(pouch_compare_ly_to_lyc(LEND(image)), POUCH_DONE);
+    IS(load(0xFF41) & 4, 4);
+    IS(pouch_disable_screen(LEND(image)), POUCH_DONE);
+    IS(field(DISABLED, 1), 1);
+    IS(field(SCAN_LINE, 8), 0);
+    IS(pouch_enable_screen(LEND(image)), POUCH_DONE);
+    IS(field(DELAY, 32), 244);
+    IS(pouch_host(LEND(image), true, 10, 0, 0, 0, 0, 0, 0), POUCH_DONE);
+    IS(rd(0xFF44), 0);
+    IS(pouch_store(LEND(image), 0xFF4A, 9), POUCH_DONE);
+    IS(pouch_reset_window_line(LEND(image)), POUCH_DONE);
+    IS(field(WINDOW, 32), 144);
+
+    /* a call of a screen register's write does what the write does */
+    uint8_t (*const calls[])(uint8_t *, size_t, uint8_t) = {
+        pouch_do_lcd_control_write, pouch_do_lcd_status_write, pouch_do_scanline_write, pouch_do_lyc_write};
+    const uint16_t indexes[] = {0xFF40, 0xFF41, 0xFF44, 0xFF45};
+    for (int i = 0; i < 4; i++) {
+        uint8_t by_write[POUCH_IMAGE_LEN];
+        start_mbc1(false);
+        IS(wr(indexes[i], 0x35), POUCH_DONE);
+        memcpy(by_write, image.at, image.len);
+        start_mbc1(false);
+        IS(memcmp(by_write, image.at, image.len) != 0, true);
+        IS(calls[i](LEND(image), 0x35), POUCH_DONE);
+        IS(memcmp(by_write, image.at, image.len), 0);
+    }
+}
+
+static void check_blocks(void)
+{
+    start_mbc1(true);
+    IS(ask(pouch_is_hdma_enabled), 0);
+    IS(wr(0xFF55, 0x81), POUCH_DONE);
+    IS(ask(pouch_is_hdma_enabled), 1);
+}
+
+/* A record for each stored byte, the same value too; clearing leaves the bytes. */
+static void check_log(void)
+{
+    start_mbc1(false);
+    IS(wr(0xA001, 0x11), POUCH_DONE); /* RAM is off: not stored */
+    IS(ask(pouch_log_used), 0);
+    IS(wr(0x0000, 0x0A), POUCH_DONE);
+    IS(wr(0xA001, 0x11), POUCH_DONE);
+    IS(wr(0xA001, 0x11), POUCH_DONE);
+    IS(pouch_write_word(WRITES, 0xBFFE, 0x3322), POUCH_DONE);
+    IS(ask(pouch_log_used), 12);
+    IS(memcmp(log_.at, "\x80\x01\x11\x80\x01\x11\x9F\xFE\x22\x9F\xFF\x33\x5A", 13), 0);
+    IS(save.at[1] == 0x11 && save.at[8190] == 0x22 && save.at[8191] == 0x33, true);
+    IS(pouch_clear_log(LEND(image)), POUCH_DONE);
+    IS(ask(pouch_log_used), 0);
+    IS(field(LOG_USE, 16), 0);
+    IS(log_.at[0], 0x80);
+}
+
+/* The corners that the bus's rules name, each from a fresh bus */
+
+static void check_timer_corners(void)
+{
+    const struct {
+        uint32_t cycles;
+        uint8_t div;
+    } divs[] = {{255, 0xD3}, {256, 0xD4}, {11520, 0x00}};
+    for (int i = 0; i < 3; i++) {
+        start_mbc1(false);
+        IS(rd(0xFF44), 0x90);
+        IS(rd(0xFF00), 0xC0);
+        IS(pouch_update_timer(LEND(image), divs[i].cycles), POUCH_DONE);
+        IS(rd(0xFF04), divs[i].div);
+    }
+    const struct {
+        uint32_t cycles;
+        uint8_t tima, flags;
+    } timas[] = {{15, 0xFF, 0xE1}, {16, 0xF0, 0xE5}, {272, 0xF0, 0xE5}};
+    for (int i = 0; i < 3; i++) {
+        start_mbc1(false);
+        IS(wr(0xFF07, 0x05), POUCH_DONE);
+        IS(wr(0xFF06, 0xF0), POUCH_DONE);
+        IS(wr(0xFF05, 0xFF), POUCH_DONE);
+        IS(pouch_update_timer(LEND(image), timas[i].cycles), POUCH_DONE);
+        IS(rd(0xFF05), timas[i].tima);
+        IS(rd(0xFF0F), timas[i].flags);
+    }
+}
+
+static void check_transfer_corners(void)
+{
+    const struct {
+        uint8_t page, first;
+    } pages[] = {{0x7F, 0}, {0x80, 0x21}, {0xDF, 0x43}, {0xE0, 0}};
+    for (int i = 0; i < 4; i++)
+        for (int by_write = 0; by_write < 2; by_write++) {
+            start_mbc1(false);
+            IS(wr(0x8000, 0x21), POUCH_DONE);
+            IS(wr(0xDF00, 0x43), POUCH_DONE);
+            IS(by_write ? wr(0xFF46, pages[i].page) : pouch_do_dma_transfer(WRITES, pages[i].page), POUCH_DONE);
+            IS(rd(0xFE00), pages[i].first);
+            IS(field(OAM, 8), pages[i].first);
+        }
+    const uint8_t kept[][2] = {{0x7F, 0x7F}, {0xC0, 0xC0}, {0x80, 0x00}, {0xBF, 0x00}};
+    for (int i = 0; i < 4; i++) {
+        start_mbc1(true);
+        IS(wr(0xFF51, kept[i][0]), POUCH_DONE);
+        IS(rd(0xFF51), kept[i][1]);
+    }
+    start_mbc1(true);
+    IS(wr(0xFF70, 0x00), POUCH_DONE);
+    IS(rd(0xFF70), 0x40);
+
+    /* a block from 7FF0 to 9FF0 */
+    start_mbc1(true);
+    IS(wr(0xFF51, 0x7F), POUCH_DONE);
+    IS(wr(0xFF52, 0xF0), POUCH_DONE);
+    IS(wr(0xFF53, 0x1F), POUCH_DONE);
+    IS(wr(0xFF54, 0xF0), POUCH_DONE);
+    IS(pouch_do_hdma(WRITES, &value), POUCH_DONE);
+    IS(value, 36);
+    const uint8_t shown[] = {0xA0, 0x00, 0x80, 0x00};
+    for (uint16_t i = 0; i < 4; i++)
+        IS(rd((uint16_t)(0xFF51 + i)), shown[i]);
+    IS(all_are(vram.at + 0x1FF0, 16, FILL) && vram.at[0x2000] == 0, true);
+
+    /* fresh: FFF0..FFFF to 9FF0..9FFF */
+    start_mbc1(true);
+    IS(wr(0xFFF0, 0x99), POUCH_DONE);
+    IS(wr(0xFF55, 0x00), POUCH_DONE);
+    IS(vram.at[0x1FF0], 0x99);
+    IS(field(SOURCE, 16), 0x0000);
+    IS(field(DESTINATION, 16), 0xA000);
+
+    /* over the end of video memory: 16 bytes land, save and log are untouched */
+    start_mbc1(true);
+    IS(wr(0x0000, 0x0A), POUCH_DONE);
+    IS(wr(0xFF51, 0x40), POUCH_DONE);
+    IS(wr(0xFF52, 0x10), POUCH_DONE);
+    IS(wr(0xFF53, 0x1F), POUCH_DONE);
+    IS(wr(0xFF54, 0xF0), POUCH_DONE);
+    IS(wr(0xFF55, 0x01), POUCH_DONE);
+    IS(all_are(vram.at, 0x1FF0, 0) && all_are(vram.at + 0x1FF0, 16, FILL) && all_are(vram.at + 0x2000, 0x2000, 0), true);
+    IS(all_are(save.at, save.len, FILL) && all_are(log_.at, log_.len, FILL), true);
+    IS(ask(pouch_log_used), 0);
+    IS(field(DESTINATION, 16), 0xA010);
+}
+
+static void check_other_corners(void)
+{
+    start(POUCH_MBC1, 4, 0, false, 0);
+    IS(wr(0x2000, 0x10), POUCH_DONE);
+    IS(rd(0x4000), 0);
+    IS(wr(0x4000, 0x00), POUCH_DONE);
+    IS(rd(0x4000), 1);
+    start(POUCH_MBC1, 128, 0, false, 0);
+    IS(wr(0x4000, 1), POUCH_DONE);
+    IS(wr(0x2000, 0), POUCH_DONE);
+    IS(rd(0x4000), 33);
+    IS(field(ROM_BANK, 7), 33);
+
+    start(POUCH_MBC2, 2, 0, false, 3);
+    IS(wr(0x0000, 0x0A), POUCH_DONE);
+    IS(wr(0xA000, 0xAB), POUCH_DONE);
+    IS(save.at[0], 0x0B);
+    IS(memcmp(log_.at, "\x80\x00\x0B", 3), 0);
+
+    start_mbc1(false);
+    IS(wr(0x0000, 0x0A), POUCH_DONE);
+    IS(wr(0xB234, 0x56), POUCH_DONE);
+    IS(memcmp(log_.at, "\x92\x34\x56", 3), 0);
+
+    start_mbc1(true);
+    IS(wr(0xFF68, 0x80), POUCH_DONE);
+    IS(wr(0xFF69, 0x1F), POUCH_DONE);
+    IS(wr(0xFF69, 0x7C), POUCH_DONE);
+    IS(field(BACKGROUND, 15), 31 << 10 | 0 << 5 | 31);
+    IS(rd(0xFF68), 0xC2);
+
+    start_mbc1(false);
+    IS(pouch_press(LEND(image), POUCH_A), POUCH_DONE);
+    IS(pouch_press(LEND(image), POUCH_UP), POUCH_DONE);
+    IS(pouch_update_joypad(LEND(image)), POUCH_DONE);
+    IS(rd(0xFF0F), 0xF1);
+    IS(rd(0xFF00), 0xCB);
+}
+
+int main(void)
+{
+    check_memories();
+    check_interrupts();
+    check_buttons();
+    check_screen();
+    check_blocks();
+    check_log();
+    check_timer_corners();
+    check_transfer_corners();
+    check_other_corners();
+    return report("calls");
+}

@@ -1,0 +1,93 @@
+/* Checks of pouch_bus.h: the journal holds every stored byte once and in order, whatever the log's length and however badly the file takes it, and recovery
+ * from it gives the save, also from a journal longer than a log can be. */
+#define _POSIX_C_SOURCE 200809L
+#include <pouch_bus.h>
+#include <errno.h>
+#include <fcntl.h>
+#include <signal.h>
+#include <stdio.h>
+#include <stdlib.h>
+#include <string.h>
+#include <sys/resource.h>
+
+enum { WRITES = 30000 };
+
+static uint8_t rom[2 * POUCH_ROM_BANK_LEN], vram[POUCH_VRAM_LEN_MONOCHROME], wram[POUCH_WRAM_LEN_MONOCHROME], save[POUCH_SAVE_LEN_CODE_2];
+static uint8_t save_log[POUCH_LOG_LEN_MAX], sound[POUCH_SOUND_LEN];
+static uint8_t journal[WRITES * POUCH_RECORD_LEN + 1], records[WRITES * POUCH_RECORD_LEN], recovered[sizeof save];
+
+static void require(bool holds, const char *what)
+{
+    if (holds)
+        return;
+    fprintf(stderr, "journal: %s\n", what);
+    exit(1);
+}
+
+/* Write i of the test's list, and its record. */
+static uint8_t write_number(struct pouch_bus *bus, uint32_t i)
+{
+    uint16_t at = (uint16_t)(i * 4093 % sizeof save);
+    uint8_t *record = records + (size_t)i * POUCH_RECORD_LEN;
+    record[0] = (uint8_t)(0x80 | at >> 8);
+    record[1] = (uint8_t)at;
+    record[2] = (uint8_t)(i * 7);
+    return pouch_bus_write(bus, (uint16_t)(0xA000 + at), record[2]);
+}
+
+/* Lets files of this process grow to so many bytes: a longer write is cut there. */
+static void allow(rlim_t len)
+{
+    struct rlimit limit;
+    getrlimit(RLIMIT_FSIZE, &limit);
+    limit.rlim_cur = len;
+    require(setrlimit(RLIMIT_FSIZE, &limit) == 0, "setrlimit");
+}
+
+/* Writes the list with a log of this length, keeping it after every `pace` writes and after number 2. Every `trouble` writes (0: never) the file takes only
+ * a byte more, so that a record is cut and the next call must go on behind it. */
+static void run(const char *path, size_t log_len, uint32_t writes, uint32_t pace, uint32_t trouble)
+{
+    struct pouch_bus bus = {
+        .rom = rom, .rom_len = sizeof rom, .vram = vram, .vram_len = sizeof vram, .wram = wram, .wram_len = sizeof wram,
+        .save = save, .save_len = sizeof save, .log = save_log, .log_len = log_len, .sound = sound,
+    };
+    memset(save, 0, sizeof save);
+    memset(recovered, 0, sizeof recovered);
+    int file = open(path, O_RDWR | O_CREAT | O_TRUNC | O_APPEND, 0644);
+    require(file >= 0, path);
+    require(pouch_bus_fresh(&bus, POUCH_MBC1, 2, 2, false) == POUCH_DONE && pouch_bus_write(&bus, 0x0000, 0x0A) == POUCH_DONE, "fresh bus");
+    for (uint32_t i = 0; i < writes; i++) {
+        if (write_number(&bus, i) == POUCH_NO_ROOM) {
+            require(pouch_bus_keep(&bus, file), "keep after number 2");
+            require(write_number(&bus, i) == POUCH_DONE, "a write after keep");
+        }
+        require(bus.number == POUCH_DONE, "a write");
+        if (trouble != 0 && i % trouble == 0) {
+            allow((rlim_t)lseek(file, 0, SEEK_END) + 1);
+            require(!pouch_bus_keep(&bus, file) && errno == EFBIG, "keep on a full file says so");
+            allow(RLIM_INFINITY);
+        }
+        if (i % pace == 0)
+            require(pouch_bus_keep(&bus, file), "keep");
+    }
+    require(pouch_bus_keep(&bus, file), "the last keep");
+    size_t len = (size_t)writes * POUCH_RECORD_LEN;
+    require(pread(file, journal, sizeof journal, 0) == (ssize_t)len, "the journal's length");
+    require(memcmp(journal, records, len) == 0, "the journal's bytes");
+    require(pouch_bus_recover(recovered, sizeof recovered, journal, len) == POUCH_DONE, "recovery");
+    require(memcmp(recovered, save, sizeof save) == 0, "the recovered save");
+    close(file);
+}
+
+int main(int count, char **words)
+{
+    require(count == 2, "usage: journal FILE");
+    signal(SIGXFSZ, SIG_IGN);
+    for (size_t log_len = 12; log_len < 40; log_len++)
+        run(words[1], log_len, 60, 1000, 0); /* kept after number 2 alone */
+    run(words[1], 4095, 3000, 10, 7);
+    run(words[1], POUCH_LOG_LEN_MAX, WRITES, 5000, 0);
+    puts("journal: every record once and in order, and recovered");
+    return 0;
+}

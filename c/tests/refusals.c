@@ -1,0 +1,283 @@
+/* What refuses each entry of pouchrattle.h: which numbers, in which order, and that a refused call gives 0 and changes no byte: neither of what is lent nor
+ * of the guards before and behind it. */
+#include "lent.h"
+
+enum { ROM = 1, VRAM = 2, WRAM = 4, SAVE = 8, LOG = 16, SOUND = 32, READ = ROM | VRAM | WRAM | SAVE | SOUND, WRITE = READ | LOG }; /* bits of lent[] */
+
+static uint8_t before[sizeof arena];
+
+/* Refused calls: `call` must give the number and leave every byte of the arena. */
+#define REFUSED(call, number)                                      \
+    do {                                                           \
+        memcpy(before, arena, sizeof arena);                       \
+        IS(call, number);                                          \
+        IS(memcmp(before, arena, sizeof arena), 0);                \
+    } while (0)
+
+/* What refuses all entries alike: each is called with arguments that are in range */
+
+static uint8_t try_read_byte(void)
+{
+    uint8_t byte = 0xEE;
+    uint8_t number = pouch_read_byte(READS, 0x0000, &byte);
+    value = byte;
+    return number;
+}
+
+static uint8_t try_read_cgb_lcd_ram(void)
+{
+    uint8_t byte = 0xEE;
+    uint8_t number = pouch_read_cgb_lcd_ram(LEND(image), LEND(vram), 0x8000, 0, &byte);
+    value = byte;
+    return number;
+}
+
+#define ASKS(name, ...) static uint8_t try_##name(void) { value = 0xEEEE; return pouch_##name(__VA_ARGS__, &value); }
+#define DOES(name, ...) static uint8_t try_##name(void) { value = 0; return pouch_##name(__VA_ARGS__); }
+ASKS(read_word, READS, 0x0000)
+ASKS(do_hdma, WRITES)
+ASKS(load, LEND(image), 0xFF80)
+ASKS(are_action_keys_enabled, LEND(image))
+ASKS(are_direction_keys_enabled, LEND(image))
+ASKS(get_interrupts, LEND(image))
+ASKS(is_hdma_enabled, LEND(image))
+ASKS(log_used, LEND(image))
+DOES(write_byte, WRITES, 0xC000, 1)
+DOES(write_word, WRITES, 0xC000, 1)
+DOES(do_dma_transfer, WRITES, 0xC0)
+DOES(store, LEND(image), 0xFF80, 1)
+DOES(set_joypad_state, LEND(image), 1)
+DOES(do_lcd_control_write, LEND(image), 1)
+DOES(do_lcd_status_write, LEND(image), 1)
+DOES(do_scanline_write, LEND(image), 1)
+DOES(do_lyc_write, LEND(image), 1)
+DOES(compare_ly_to_lyc, LEND(image))
+DOES(enable_screen, LEND(image))
+DOES(disable_screen, LEND(image))
+DOES(reset_window_line, LEND(image))
+DOES(request_interrupt, LEND(image), POUCH_TIMER)
+DOES(remove_interrupt, LEND(image), POUCH_TIMER)
+DOES(update_timer, LEND(image), 4)
+DOES(press, LEND(image), POUCH_A)
+DOES(release, LEND(image), POUCH_A)
+DOES(update_joypad, LEND(image))
+DOES(clear_log, LEND(image))
+DOES(host, LEND(image), true, 1, 2, 3, 4, 5, 6, 7)
+
+static const struct entry {
+    const char *name;
+    uint8_t (*call)(void);
+    int lends;
+} entries[] = {
+#define ENTRY(name, lends) {#name ": ", try_##name, lends}
+    ENTRY(read_byte, READ), ENTRY(read_word, READ), ENTRY(read_cgb_lcd_ram, VRAM), ENTRY(write_byte, WRITE), ENTRY(write_word, WRITE),
+    ENTRY(do_dma_transfer, WRITE), ENTRY(do_hdma, WRITE), ENTRY(load, 0), ENTRY(store, 0), ENTRY(set_joypad_state, 0),
+    ENTRY(are_action_keys_enabled, 0), ENTRY(are_direction_keys_enabled, 0), ENTRY(do_lcd_control_write, 0), ENTRY(do_lcd_status_write, 0),
+    ENTRY(do_scanline_write, 0), ENTRY(do_lyc_write, 0), ENTRY(compare_ly_to_lyc, 0), ENTRY(enable_screen, 0), ENTRY(disable_screen, 0),
+    ENTRY(reset_window_line, 0), ENTRY(get_interrupts, 0), ENTRY(request_interrupt, 0), ENTRY(remove_interrupt, 0), ENTRY(is_hdma_enabled, 0),
+    ENTRY(update_timer, 0), ENTRY(press, 0), ENTRY(release, 0), ENTRY(update_joypad, 0), ENTRY(clear_log, 0), ENTRY(log_used, 0), ENTRY(host, 0),
+};
+
+/* The entry is refused by the number, gives 0 and changes nothing. */
+static void refuses(const struct entry *entry, uint8_t number, int line)
+{
+    memcpy(before, arena, sizeof arena);
+    check(entry->call(), number, "the number", entry->name, line);
+    check(value, 0, "the value", entry->name, line);
+    check(memcmp(before, arena, sizeof arena), 0, "what is changed", entry->name, line);
+}
+
+#define REFUSES(entry, number) refuses(entry, number, __LINE__)
+
+static void check_entry(const struct entry *entry)
+{
+    /* done, within bounds, and what is lent for reading is kept */
+    start_mbc1(false);
+    memcpy(before, arena, sizeof arena);
+    check(entry->call(), POUCH_DONE, "the number", entry->name, __LINE__);
+    for (int i = 0; i < 7; i++)
+        if (lent[i] == &image || lent[i] == &vram || lent[i] == &wram || lent[i] == &save || lent[i] == &log_)
+            memcpy(before + (lent[i]->at - arena), lent[i]->at, lent[i]->len);
+    check(memcmp(before, arena, sizeof arena), 0, "what is changed beside", entry->name, __LINE__);
+
+    /* the image's length, before anything else is looked at */
+    start_mbc1(false);
+    image.len = 664;
+    REFUSES(entry, POUCH_WRONG_LENGTH);
+    image.len = 666;
+    REFUSES(entry, POUCH_WRONG_LENGTH);
+    image.len = 0;
+    REFUSES(entry, POUCH_WRONG_LENGTH);
+
+    /* the image's contents: a last bit of 1, then all zero; also with wrong lengths beside */
+    start_mbc1(false);
+    image.at[664] |= 1;
+    REFUSES(entry, POUCH_OUT_OF_RANGE);
+    memset(image.at, 0, image.len);
+    REFUSES(entry, POUCH_OUT_OF_RANGE);
+    for (int i = 0; i < 6; i++)
+        lent[i]->len--;
+    REFUSES(entry, POUCH_OUT_OF_RANGE);
+
+    /* each other length that is lent, a byte short and a byte long; the log has any length up to 65,535 */
+    for (int i = 0; i < 6; i++) {
+        if (!(entry->lends & 1 << i))
+            continue;
+        start_mbc1(false);
+        if (lent[i] != &log_) {
+            lent[i]->len--;
+            REFUSES(entry, POUCH_WRONG_LENGTH);
+            lent[i]->len += 2;
+            REFUSES(entry, POUCH_WRONG_LENGTH);
+            lent[i]->len = 0;
+            REFUSES(entry, POUCH_WRONG_LENGTH);
+            continue;
+        }
+        start(POUCH_MBC1, 2, 2, false, POUCH_LOG_LEN_MAX);
+        check(entry->call(), POUCH_DONE, "the number", entry->name, __LINE__);
+        log_.len++;
+        REFUSES(entry, POUCH_WRONG_LENGTH);
+        log_.len = 0;
+        check(entry->call(), POUCH_DONE, "the number", entry->name, __LINE__);
+    }
+
+    /* a log's use beyond the lent log is out of range, where a log is lent */
+    start_mbc1(false);
+    IS(wr(0x0000, 0x0A), POUCH_DONE);
+    IS(wr(0xA000, 1), POUCH_DONE);
+    log_.len = 2;
+    if (entry->lends & LOG)
+        REFUSES(entry, POUCH_OUT_OF_RANGE);
+    else
+        check(entry->call(), POUCH_DONE, "the number", entry->name, __LINE__);
+}
+
+static void check_fresh(void)
+{
+    /* what it zeroes, and what it keeps */
+    for (int colour = 0; colour < 2; colour++) {
+        lay_out(POUCH_MBC1, 128, 3, colour, 100);
+        memcpy(before, arena, sizeof arena);
+        IS(fresh(POUCH_MBC1, 128, 3, colour), POUCH_DONE);
+        IS(all_are(vram.at, vram.len, 0) && all_are(wram.at, wram.len, 0), true);
+        memcpy(before + (image.at - arena), image.at, image.len);
+        memset(before + (vram.at - arena), 0, vram.len);
+        memset(before + (wram.at - arena), 0, wram.len);
+        IS(memcmp(before, arena, sizeof arena), 0);
+        IS(ask(pouch_log_used), 0);
+    }
+    /* the descriptions that are in range */
+    start(POUCH_ROM_ONLY, 2, 0, false, 0);
+    start(POUCH_ROM_ONLY, 2, 3, false, 0);
+    start(POUCH_MBC1, 64, 0, true, 0);
+    start(POUCH_MBC2, 16, 0, true, 0);
+    /* the image's length, then the description, then the lengths */
+    start_mbc1(false);
+    image.len = 664;
+    REFUSED(fresh(3, 3, 1, false), POUCH_WRONG_LENGTH);
+    image.len = 665;
+    for (int i = 0; i < 6; i++) { /* 4, and 3 before it */
+        size_t len = lent[i]->len;
+        lent[i]->len = lent[i] == &log_ ? 65536 : len - 1;
+        REFUSED(fresh(POUCH_MBC1, 2, 2, false), POUCH_WRONG_LENGTH);
+        REFUSED(fresh(POUCH_MBC1, 3, 2, false), POUCH_OUT_OF_RANGE);
+        lent[i]->len = len;
+    }
+    REFUSED(fresh(3, 2, 2, false), POUCH_OUT_OF_RANGE);
+    REFUSED(fresh(POUCH_ROM_ONLY, 4, 2, false), POUCH_OUT_OF_RANGE);
+    REFUSED(fresh(POUCH_MBC1, 1, 2, false), POUCH_OUT_OF_RANGE);
+    REFUSED(fresh(POUCH_MBC1, 256, 2, false), POUCH_OUT_OF_RANGE);
+    REFUSED(fresh(POUCH_MBC2, 32, 0, false), POUCH_OUT_OF_RANGE);
+    REFUSED(fresh(POUCH_MBC2, 2, 2, false), POUCH_OUT_OF_RANGE);
+    REFUSED(fresh(POUCH_MBC1, 2, 1, false), POUCH_OUT_OF_RANGE);
+    REFUSED(fresh(POUCH_MBC1, 2, 2, true), POUCH_WRONG_LENGTH);
+}
+
+static void check_numbers(void)
+{
+    uint8_t byte = 0xEE;
+    /* 1: an index of the write in FF10..FF3F; the write changes nothing */
+    start_mbc1(false);
+    IS(wr(0xFF0F, 0), POUCH_DONE);
+    IS(wr(0xFF40, 0), POUCH_DONE);
+    REFUSED(wr(0xFF10, 0x12), POUCH_OWED);
+    REFUSED(wr(0xFF3F, 0x12), POUCH_OWED);
+    IS(rd(0xFF10), FILL);
+    IS(pouch_write_word(WRITES, 0xFF0F, 0), POUCH_OWED);
+    IS(pouch_write_word(WRITES, 0xFF3F, 0), POUCH_OWED);
+    IS(pouch_write_word(WRITES, 0xFF40, 0), POUCH_DONE);
+
+    /* 2: by index alone, RAM off too; 4 before it */
+    start(POUCH_MBC1, 2, 2, false, 2);
+    REFUSED(wr(0xA000, 1), POUCH_NO_ROOM);
+    REFUSED(wr(0xBFFF, 1), POUCH_NO_ROOM);
+    IS(wr(0x9FFF, 1), POUCH_DONE);
+    IS(wr(0xC000, 1), POUCH_DONE);
+    sound.len--;
+    REFUSED(wr(0xA000, 1), POUCH_WRONG_LENGTH);
+    start(POUCH_MBC1, 2, 2, false, 8);
+    IS(wr(0x0000, 0x0A), POUCH_DONE);
+    IS(wr(0xA000, 1), POUCH_DONE); /* 5 are left: room for a byte, not for a word */
+    REFUSED(pouch_write_word(WRITES, 0xA000, 1), POUCH_NO_ROOM);
+    REFUSED(pouch_write_word(WRITES, 0x9FFF, 1), POUCH_NO_ROOM);
+    REFUSED(pouch_write_word(WRITES, 0xBFFF, 1), POUCH_NO_ROOM);
+    IS(pouch_write_word(WRITES, 0x9FFE, 1), POUCH_DONE);
+    IS(wr(0xA000, 1), POUCH_DONE);
+    REFUSED(wr(0xA000, 1), POUCH_NO_ROOM);
+    IS(pouch_clear_log(LEND(image)), POUCH_DONE);
+    IS(wr(0xA000, 1), POUCH_DONE);
+
+    /* 5; 3 before it */
+    start_mbc1(false);
+    IS(pouch_update_timer(LEND(image), 65536), POUCH_DONE);
+    REFUSED(pouch_update_timer(LEND(image), 65537), POUCH_TOO_MANY_CYCLES);
+    REFUSED(pouch_update_timer(LEND(image), 0xFFFFFFFF), POUCH_TOO_MANY_CYCLES);
+    memset(image.at, 0, image.len);
+    REFUSED(pouch_update_timer(LEND(image), 65537), POUCH_OUT_OF_RANGE);
+
+    /* 6; 4 before it; a cut record is ignored */
+    const uint8_t sound_records[] = {0x80, 0x00, 0x11, 0x9F, 0xFF, 0x22, 0x80, 0x00}, no_bit[] = {0x80, 0x00, 0x11, 0x00, 0x00, 0x22},
+                  outside[] = {0x80, 0x00, 0x11, 0xA0, 0x00, 0x22};
+    start_mbc1(false);
+    REFUSED(pouch_recover(LEND(save), no_bit, sizeof no_bit), POUCH_DAMAGED);
+    REFUSED(pouch_recover(LEND(save), outside, sizeof outside), POUCH_DAMAGED);
+    REFUSED(pouch_recover(save.at, 8191, outside, sizeof outside), POUCH_WRONG_LENGTH);
+    REFUSED(pouch_recover(LEND(save), arena, 65536), POUCH_WRONG_LENGTH);
+    REFUSED(pouch_recover(LEND(save), no_bit, 0), POUCH_DONE);
+    REFUSED(pouch_recover(save.at, 0, no_bit, 2), POUCH_DONE);
+    IS(pouch_recover(LEND(save), no_bit, 5), POUCH_DONE);
+    IS(save.at[0], 0x11);
+    save.at[0] = FILL;
+    IS(pouch_recover(LEND(save), sound_records, sizeof sound_records), POUCH_DONE);
+    IS(save.at[0], 0x11);
+    IS(save.at[8191], 0x22);
+    IS(all_are(save.at + 1, 8190, FILL) && all_are(save.at + 8192, GUARD_LEN, GUARD), true);
+
+    /* 7; a length by 4 before it */
+    start_mbc1(false);
+    REFUSED(pouch_press(LEND(image), 8), POUCH_OUTSIDE);
+    REFUSED(pouch_release(LEND(image), 255), POUCH_OUTSIDE);
+    REFUSED(pouch_request_interrupt(LEND(image), 5), POUCH_OUTSIDE);
+    REFUSED(pouch_remove_interrupt(LEND(image), 255), POUCH_OUTSIDE);
+    REFUSED(pouch_store(LEND(image), 0xFEFF, 1), POUCH_OUTSIDE);
+    value = 0xEEEE;
+    REFUSED(pouch_load(LEND(image), 0xFEFF, &value), POUCH_OUTSIDE);
+    IS(value, 0);
+    REFUSED(pouch_read_cgb_lcd_ram(LEND(image), LEND(vram), 0x8000, 1, &byte), POUCH_OUTSIDE);
+    IS(byte, 0);
+    start_mbc1(true);
+    REFUSED(pouch_read_cgb_lcd_ram(LEND(image), LEND(vram), 0x8000, 2, &byte), POUCH_OUTSIDE);
+    REFUSED(pouch_read_cgb_lcd_ram(LEND(image), LEND(vram), 0x7FFF, 0, &byte), POUCH_OUTSIDE);
+    REFUSED(pouch_read_cgb_lcd_ram(LEND(image), LEND(vram), 0xA000, 0, &byte), POUCH_OUTSIDE);
+    vram.len--;
+    REFUSED(pouch_read_cgb_lcd_ram(LEND(image), LEND(vram), 0xA000, 0, &byte), POUCH_WRONG_LENGTH);
+}
+
+int main(void)
+{
+    for (size_t i = 0; i < sizeof entries / sizeof entries[0]; i++)
+        check_entry(&entries[i]);
+    check_fresh();
+    check_numbers();
+    return report("refusals");
+}

@@ -1,0 +1,309 @@
+use crate::cartridge::Cartridge;
+use crate::entries::*;
+use crate::image::{self, CGBColor, HostNumbers, Image};
+use crate::interrupt::Interrupt;
+use crate::joypad::Button;
+use crate::refusal::{done, outcome, Refusal, Written};
+
+/// The longest log, in bytes: room for 21,845 records.
+pub const LONGEST_LOG: usize = 65535;
+
+/// The bus with all that it stands on: its state as an image, and the memories that the library is lent for each call. Each has the length
+/// that the cartridge's description asks for, from `new` on, so that no call is refused by its lengths or its state.
+///
+/// Nothing of a bus can be held while a call runs:
+///
+/// ```
+/// # let rom = vec![0; 32768];
+/// # let cartridge = pouchrattle::Cartridge { rom, mbc_type: pouchrattle::MbcType::RomOnly, ram_size: 0 };
+/// # let mut memory = pouchrattle::Memory::new(cartridge, false, &[]).unwrap();
+/// let sound = memory.sound_mut();
+/// sound[0] = 0x80;
+/// memory.write_byte(0xC000, 1).unwrap();
+/// ```
+/// ```compile_fail
+/// # let rom = vec![0; 32768];
+/// # let cartridge = pouchrattle::Cartridge { rom, mbc_type: pouchrattle::MbcType::RomOnly, ram_size: 0 };
+/// # let mut memory = pouchrattle::Memory::new(cartridge, false, &[]).unwrap();
+/// let sound = memory.sound_mut();
+/// memory.write_byte(0xC000, 1).unwrap();
+/// sound[0] = 0x80;
+/// ```
+#[derive(Clone, PartialEq, Eq)]
+pub struct Memory {
+    image: Image,
+    rom: Vec<u8>,
+    vram: Vec<u8>,
+    wram: Vec<u8>,
+    save: Vec<u8>,
+    log: Vec<u8>,
+    sound: [u8; 48],
+}
+
+/// Building, and what stands around the bus.
+impl Memory {
+    /// A fresh bus over a save as the host has kept it, with the longest log. Refused by `OutOfRange` or `WrongLength`.
+    pub fn new(cartridge: Cartridge, is_cgb: bool, save: &[u8]) -> Result<Memory, Refusal> {
+        Memory::with_log(cartridge, is_cgb, save, LONGEST_LOG)
+    }
+
+    /// The same with a log of so many bytes. One record takes 3.
+    pub fn with_log(cartridge: Cartridge, is_cgb: bool, save: &[u8], log: usize) -> Result<Memory, Refusal> {
+        let (vram, wram) = if is_cgb { (16384, 32768) } else { (8192, 8192) };
+        let mut memory = Memory {
+            image: [0; 665],
+            rom: cartridge.rom,
+            vram: vec![0; vram],
+            wram: vec![0; wram],
+            save: save.to_vec(),
+            // A longer one is refused too, and need not be made for that.
+            log: vec![0; log.min(LONGEST_LOG + 1)],
+            sound: [0; 48],
+        };
+        outcome(pouch_fresh(
+            &mut memory.image,
+            cartridge.mbc_type as u8,
+            u16::try_from(memory.rom.len() / 16384).unwrap_or(u16::MAX),
+            cartridge.ram_size,
+            is_cgb,
+            &memory.rom,
+            &mut memory.vram,
+            &mut memory.wram,
+            &memory.save,
+            &memory.log,
+            &memory.sound,
+        ))?;
+        Ok(memory)
+    }
+
+    pub fn save(&self) -> &[u8] {
+        &self.save
+    }
+
+    /// The log's used bytes: a record for each save byte stored since the last `take_log`.
+    pub fn log(&self) -> &[u8] {
+        let mut used = 0;
+        done(pouch_log_used(&self.image, &mut used));
+        &self.log[..usize::from(used)]
+    }
+
+    /// Copies the log's used bytes off and clears the log. The host keeps them before anything else.
+    #[must_use = "the log's bytes are gone from the bus: keep them"]
+    pub fn take_log(&mut self) -> Vec<u8> {
+        let used = self.log().to_vec();
+        done(pouch_clear_log(&mut self.image));
+        used
+    }
+
+    /// What FF10..FF3F read now; the host's sound part keeps it.
+    pub fn sound(&self) -> &[u8; 48] {
+        &self.sound
+    }
+
+    pub fn sound_mut(&mut self) -> &mut [u8; 48] {
+        &mut self.sound
+    }
+
+    pub fn vram(&self) -> &[u8] {
+        &self.vram
+    }
+
+    pub fn vram_mut(&mut self) -> &mut [u8] {
+        &mut self.vram
+    }
+
+    pub fn wram(&self) -> &[u8] {
+        &self.wram
+    }
+
+    pub fn wram_mut(&mut self) -> &mut [u8] {
+        &mut self.wram
+    }
+
+    /// The state. With it, video and work memory and the save, a session is whole.
+    pub fn image(&self) -> &Image {
+        &self.image
+    }
+
+    /// Goes on from a state. Refused by `OutOfRange`, or by `WrongLength` if it is of a cartridge with other lengths. The log's use stays
+    /// as it is now: it belongs to the log's bytes, which no image holds.
+    pub fn set_image(&mut self, image: &Image) -> Result<(), Refusal> {
+        outcome(pouch_read_byte(image, &self.rom, &self.vram, &self.wram, &self.save, &self.sound, 0, &mut 0))?;
+        let mut image = *image;
+        image::copy_log_use(&mut image, &self.image);
+        self.image = image;
+        Ok(())
+    }
+
+    /// The numbers of the screen.
+    pub fn host_numbers(&self) -> HostNumbers {
+        image::host_numbers(&self.image)
+    }
+
+    /// Sets them, to any values.
+    pub fn set_host_numbers(&mut self, to: HostNumbers) {
+        done(pouch_host(
+            &mut self.image,
+            to.screen_disabled,
+            to.scan_line,
+            to.irq48_signal,
+            to.lcd_status_mode,
+            to.screen_enable_delay_cycles,
+            to.cycles_counter,
+            to.aux_cycles_counter,
+            to.window_line,
+        ));
+    }
+
+    pub fn cgb_background_palettes(&self) -> [[CGBColor; 4]; 8] {
+        image::palettes(&self.image, image::BACKGROUND)
+    }
+
+    pub fn cgb_sprite_palettes(&self) -> [[CGBColor; 4]; 8] {
+        image::palettes(&self.image, image::SPRITE)
+    }
+}
+
+/// Reads, writes and transfers.
+impl Memory {
+    pub fn read_byte(&self, index: u16) -> u8 {
+        let mut value = 0;
+        done(pouch_read_byte(&self.image, &self.rom, &self.vram, &self.wram, &self.save, &self.sound, index, &mut value));
+        value
+    }
+
+    /// Low byte first.
+    pub fn read_word(&self, index: u16) -> u16 {
+        let mut value = 0;
+        done(pouch_read_word(&self.image, &self.rom, &self.vram, &self.wram, &self.save, &self.sound, index, &mut value));
+        value
+    }
+
+    /// Refused by `NoRoom` alone: take the log off, keep it, and write again.
+    pub fn write_byte(&mut self, index: u16, value: u8) -> Result<Written, Refusal> {
+        outcome(pouch_write_byte(&mut self.image, &self.rom, &mut self.vram, &mut self.wram, &mut self.save, &mut self.log, &self.sound, index, value))
+    }
+
+    /// Low byte first. Refused by `NoRoom` alone, and then neither byte is written.
+    pub fn write_word(&mut self, index: u16, value: u16) -> Result<Written, Refusal> {
+        outcome(pouch_write_word(&mut self.image, &self.rom, &mut self.vram, &mut self.wram, &mut self.save, &mut self.log, &self.sound, index, value))
+    }
+
+    /// Video memory by its bank. Refused by `Outside` off 8000..9FFF and off the banks.
+    pub fn read_cgb_lcd_ram(&self, index: u16, bank: i32) -> Result<u8, Refusal> {
+        let mut value = 0;
+        let bank = u8::try_from(bank).unwrap_or(u8::MAX);
+        outcome(pouch_read_cgb_lcd_ram(&self.image, &self.vram, index, bank, &mut value)).map(|_| value)
+    }
+
+    pub fn do_dma_transfer(&mut self, data: u8) {
+        done(pouch_do_dma_transfer(&mut self.image, &self.rom, &mut self.vram, &mut self.wram, &mut self.save, &mut self.log, &self.sound, data));
+    }
+
+    /// One block of 16 bytes; gives the cycles that it takes.
+    pub fn do_hdma(&mut self) -> i32 {
+        let mut value = 0;
+        done(pouch_do_hdma(&mut self.image, &self.rom, &mut self.vram, &mut self.wram, &mut self.save, &mut self.log, &self.sound, &mut value));
+        i32::from(value)
+    }
+}
+
+/// Calls on the state alone.
+impl Memory {
+    /// Raw: the page, FF00..FFFF. Refused by `Outside` below it.
+    pub fn load(&self, index: u16) -> Result<u8, Refusal> {
+        let mut value = 0;
+        outcome(pouch_load(&self.image, index, &mut value)).map(|_| value as u8)
+    }
+
+    /// Raw, as `load`.
+    pub fn store(&mut self, index: u16, value: u8) -> Result<(), Refusal> {
+        outcome(pouch_store(&mut self.image, index, value)).map(|_| ())
+    }
+
+    pub fn set_joypad_state(&mut self, joypad_state: u8) {
+        done(pouch_set_joypad_state(&mut self.image, joypad_state));
+    }
+
+    pub fn are_action_keys_enabled(&self) -> bool {
+        self.ask(pouch_are_action_keys_enabled) == 1
+    }
+
+    pub fn are_direction_keys_enabled(&self) -> bool {
+        self.ask(pouch_are_direction_keys_enabled) == 1
+    }
+
+    pub fn do_lcd_control_write(&mut self, value: u8) {
+        done(pouch_do_lcd_control_write(&mut self.image, value));
+    }
+
+    pub fn do_lcd_status_write(&mut self, value: u8) {
+        done(pouch_do_lcd_status_write(&mut self.image, value));
+    }
+
+    pub fn do_scanline_write(&mut self, value: u8) {
+        done(pouch_do_scanline_write(&mut self.image, value));
+    }
+
+    pub fn do_lyc_write(&mut self, value: u8) {
+        done(pouch_do_lyc_write(&mut self.image, value));
+    }
+
+    pub fn compare_ly_to_lyc(&mut self) {
+        done(pouch_compare_ly_to_lyc(&mut self.image));
+    }
+
+    pub fn enable_screen(&mut self) {
+        done(pouch_enable_screen(&mut self.image));
+    }
+
+    pub fn disable_screen(&mut self) {
+        done(pouch_disable_screen(&mut self.image));
+    }
+
+    pub fn reset_window_line(&mut self) {
+        done(pouch_reset_window_line(&mut self.image));
+    }
+
+    /// The interrupt that is served first, if one waits.
+    pub fn get_interrupts(&self) -> Option<Interrupt> {
+        Interrupt::from_number(self.ask(pouch_get_interrupts))
+    }
+
+    pub fn request_interrupt(&mut self, interrupt: Interrupt) {
+        done(pouch_request_interrupt(&mut self.image, interrupt as u8));
+    }
+
+    pub fn remove_interrupt(&mut self, interrupt: Interrupt) {
+        done(pouch_remove_interrupt(&mut self.image, interrupt as u8));
+    }
+
+    pub fn is_hdma_enabled(&self) -> bool {
+        self.ask(pouch_is_hdma_enabled) == 1
+    }
+
+    fn ask(&self, entry: fn(&[u8], &mut u16) -> u8) -> u16 {
+        let mut value = 0;
+        done(entry(&self.image, &mut value));
+        value
+    }
+}
+
+/// What `Timer` and `Controller` call. A host that has the bus at hand may call it itself.
+impl Memory {
+    pub fn update_timer(&mut self, cycles: u32) -> Result<(), Refusal> {
+        outcome(pouch_update_timer(&mut self.image, cycles)).map(|_| ())
+    }
+
+    pub fn press(&mut self, button: Button) {
+        done(pouch_press(&mut self.image, button as u8));
+    }
+
+    pub fn release(&mut self, button: Button) {
+        done(pouch_release(&mut self.image, button as u8));
+    }
+
+    pub fn update_joypad(&mut self) {
+        done(pouch_update_joypad(&mut self.image));
+    }
+}

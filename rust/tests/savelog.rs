@@ -1,0 +1,119 @@
+//! The save, its log, and a session taken up again.
+
+mod common;
+
+use common::{cartridge, rom_byte, with_save, write};
+use pouchrattle::{recover, MbcType, Memory, Refusal, Timer};
+
+#[test]
+fn corner_12_record() {
+    let mut memory = with_save(false);
+    write(&mut memory, &[(0xB234, 0x56)]);
+    assert_eq!(memory.log(), [0x92, 0x34, 0x56]);
+    assert_eq!(memory.save()[0x1234], 0x56);
+}
+
+#[test]
+fn every_stored_byte_is_logged() {
+    let mut memory = with_save(false);
+    let start = memory.save().to_vec();
+    let mut kept = Vec::new();
+    for step in 0..50_000u32 {
+        let index = 0xA000 + (step.wrapping_mul(2_654_435_761) >> 19) as u16;
+        let value = (step % 251) as u8;
+        if memory.write_byte(index, value) == Err(Refusal::NoRoom) {
+            kept.push(memory.take_log());
+            write(&mut memory, &[(index, value)]);
+        }
+        assert_eq!(memory.save()[usize::from(index) - 0xA000], value);
+    }
+    assert_eq!((kept.len(), kept[0].len()), (2, 65535));
+    kept.push(memory.take_log());
+    assert!(memory.log().is_empty());
+    assert_eq!(kept.iter().map(Vec::len).sum::<usize>(), 150_000);
+
+    let mut save = start;
+    for log in &kept {
+        recover(&mut save, log).unwrap();
+    }
+    assert!(save == memory.save());
+}
+
+#[test]
+fn nothing_else_is_logged() {
+    let mut memory = with_save(false);
+    write(&mut memory, &[(0x9FFF, 1), (0xC000, 1), (0x0000, 0x00), (0xA000, 1)]);
+    assert_eq!((memory.read_byte(0x9FFF), memory.read_byte(0xC000), memory.read_byte(0xA000)), (1, 1, 0xFF));
+    assert!(memory.log().is_empty());
+    assert!(memory.save().iter().all(|&byte| byte == 0x11));
+}
+
+#[test]
+fn a_cut_log_recovers_its_whole_records() {
+    let log = [0x80, 0x00, 0x56, 0x81, 0xFF, 0x78];
+    for cut in 0..=log.len() {
+        let mut save = vec![0; 512];
+        assert_eq!(recover(&mut save, &log[..cut]), Ok(()));
+        assert_eq!((save[0], save[511]), (if cut < 3 { 0 } else { 0x56 }, if cut < 6 { 0 } else { 0x78 }));
+    }
+}
+
+#[test]
+fn a_damaged_log_changes_nothing() {
+    // The first bit is 0; the address is not below 512.
+    for damaged in [[0x00, 0x01, 0xFF], [0x82, 0x00, 0xFF]] {
+        let mut save = vec![0x11; 512];
+        let log = [[0x80, 0x00, 0x56], damaged].concat();
+        assert_eq!(recover(&mut save, &log), Err(Refusal::Damaged));
+        assert!(save.iter().all(|&byte| byte == 0x11));
+        assert_eq!(recover(&mut save, &log[..5]), Ok(()));
+        assert_eq!(save[0], 0x56);
+    }
+}
+
+#[test]
+fn recovery_takes_the_lengths_of_saves() {
+    for length in [0, 1, 511, 512, 513, 8191, 8192, 8193, 16384, 32767, 32768, 32769, 65536] {
+        let expected = if [0, 512, 8192, 32768].contains(&length) { Ok(()) } else { Err(Refusal::WrongLength) };
+        assert_eq!(recover(&mut vec![0; length], &[]), expected, "{length}");
+    }
+    let log = vec![0x80; 65536];
+    assert_eq!(recover(&mut [0; 512], &log), Err(Refusal::WrongLength));
+    assert_eq!(recover(&mut [0; 512], &log[1..]), Ok(()));
+}
+
+#[test]
+fn a_transfer_past_video_memory_leaves_the_save_alone() {
+    let mut memory = with_save(true);
+    for length in [0x01, 0x3F, 0x7F] {
+        write(&mut memory, &[(0xFF51, 0x01), (0xFF52, 0x00), (0xFF53, 0x1F), (0xFF54, 0xF0), (0xFF55, length)]);
+        assert!((0..16).all(|at| memory.read_byte(0x9FF0 + at) == rom_byte(0x100 + usize::from(at))));
+        assert!(memory.save().iter().all(|&byte| byte == 0x11));
+        assert!(memory.log().is_empty());
+    }
+    // A write of the game's own would have been stored.
+    write(&mut memory, &[(0xA000, 0x22)]);
+    assert_eq!((memory.save()[0], memory.log().len()), (0x22, 3));
+}
+
+#[test]
+fn a_session_is_taken_up_again() {
+    let mut memory = with_save(true);
+    write(&mut memory, &[(0xA000, 0x22), (0xC000, 0x33), (0xFF4F, 1), (0x8000, 0x44), (0xFF80, 0x55), (0xFF07, 0x05)]);
+    Timer::new().update(1000, &mut memory).unwrap();
+
+    let mut again = Memory::new(cartridge(MbcType::Mbc1, 2, 2), true, memory.save()).unwrap();
+    again.set_image(memory.image()).unwrap();
+    again.vram_mut().copy_from_slice(memory.vram());
+    again.wram_mut().copy_from_slice(memory.wram());
+    for index in 0..=0xFFFF {
+        assert_eq!(again.read_byte(index), memory.read_byte(index), "{index:04X}");
+    }
+
+    // The log is not the state's: what is used of it stays, here none, there one record.
+    assert!(again.log().is_empty());
+    let log = memory.log().to_vec();
+    memory.set_image(again.image()).unwrap();
+    assert_eq!((memory.log(), log.len()), (&log[..], 3));
+    assert!(memory.take_log() == log && memory.image() == again.image());
+}
