@@ -14,6 +14,10 @@ digitOf c =
     (cond (leb 65 c && leb c 70) (c - 55)
     16)
 
+-- the uppercase hexadecimal digit of a number below 16
+unfoldable pub hexDigit : ℕ → ℕ
+hexDigit n = cond (ltb n 10) (48 + n) (55 + n)
+
 -- the byte of two digits' numbers, the more significant first
 unfoldable pub byteOf : ℕ → ℕ → Pair
 byteOf high low = cond (ltb high 16 && ltb low 16) (Byte (high * 16 + low)) Wrong

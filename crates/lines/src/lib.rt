@@ -1,5 +1,5 @@
-// What the programs share that replay the Rust's recorded answers (oracle/README.md): the lines of a list and their bytes, the answer that is compared,
-// the counts and their report; and what the lists lean on, a mapper's registers and the contents of ROM and save.
+// What the programs share: the lines of standard input, numbers and digits. And for those that replay the Rust's recorded answers (oracle/README.md):
+// the bytes of a line, the answer that is compared, the counts and their report, a mapper's registers, the contents of ROM and save.
 pub mod answer;
 pub mod line;
 pub mod mapper;

@@ -2,7 +2,7 @@
 ghost use mathlib.Core.Path.{_≡_};
 ghost use Prim.Native.Nat.{_+_, _*_, _≤_, _<_};
 ghost use lib.ListN.{length};
-ghost use Rattle.lines.specs.Text.{digitOf, byteOf, Holds};
+ghost use Rattle.lines.specs.Text.{digitOf, hexDigit, byteOf, Holds};
 
 pub enum Pair {
     Byte(u8),
@@ -10,7 +10,7 @@ pub enum Pair {
 }
 
 // A digit's number; 16 for what is none.
-fn digit(c: u8) -> u8
+pub fn digit(c: u8) -> u8
     ensures { λ r. ⌜ r ≡ digitOf c ⌝ }
 {
     if c < b'0' {
@@ -26,6 +26,17 @@ fn digit(c: u8) -> u8
         return c - 55;
     }
     16
+}
+
+// The digit of a number below 16.
+pub fn hex_digit(n: u8) -> u8
+    requires { ⌜ n < 16 ⌝ }
+    ensures { λ r. ⌜ r ≡ hexDigit n ⌝ }
+{
+    if n < 10 {
+        return 48 + n;
+    }
+    55 + n
 }
 
 // The byte of two digits.

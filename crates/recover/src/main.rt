@@ -6,25 +6,15 @@ ghost use lib.ListN.{length};
 ghost use Rattle.io.specs.Counts.{Counts};
 ghost use Rattle.savelog.specs.Log.{outcome, recovery};
 ghost use Rattle.recover.specs.Files.{sizeOf};
-ghost use Rattle.recover.specs.Show.{hexDigit, shown};
+ghost use Rattle.recover.specs.Show.{shown};
 use libc::STDERR_FILENO;
 use libc::STDOUT_FILENO;
+use lines::line::hex_digit;
 
 // What reading a file gave: how many bytes, or nothing after a line that says why.
 pub enum Got {
     Bytes(usize),
     Nothing,
-}
-
-// The digit of n below 16, uppercase.
-fn hex_digit(n: u8) -> u8
-    requires { ⌜ n < 16 ⌝ }
-    ensures { λ r. ⌜ r ≡ hexDigit n ⌝ }
-{
-    if n < 10 {
-        return 48 + n;
-    }
-    55 + n
 }
 
 // A byte as text.

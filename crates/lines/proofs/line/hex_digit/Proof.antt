@@ -1,9 +1,9 @@
 -- Each branch is a case of `hexDigit`.
 use Rattle.rules.proofs.Tests.{tests}
-use Rattle.recover.specs.Show.{hexDigit}
+use Rattle.lines.specs.Text.{hexDigit}
 use borrow.Author.Needs.{needs}
-use Rattle.recover.proofs.hex_digit.Statement.{statement}
-use Rattle.recover.proofs.hex_digit.Tie as tie
+use Rattle.lines.proofs.line.hex_digit.Statement.{statement}
+use Rattle.lines.proofs.line.hex_digit.Tie as tie
 
 add-result : tie.Need-add-result
 add-result c = search needs

@@ -1,0 +1,240 @@
+// walk: the bus walk. Reads commands from standard input to its end, a line each, makes their calls on one bus, and prints a line for each
+// (document 01, "Corners that decide", the last paragraph).
+ghost use Prim.Native.Nat.{_≤_};
+ghost use mathlib.Core.Path.{_≡_};
+ghost use lib.ListN.{length};
+ghost use Rattle.lines.specs.Contents.{Filled};
+ghost use Rattle.lines.specs.Reader.{Inside};
+ghost use Rattle.walk.specs.Line.{romByte};
+use commands::text;
+use lines::reader;
+use lines::reader::Found;
+use lines::reader::Reader;
+use memory::Memory;
+
+mod answer;
+mod out;
+
+// The bus, and how many bytes wait to be printed.
+struct Kept {
+    memory: Memory,
+    used: usize,
+}
+
+// These, and where the reader stands. `long`: the line that is read does not fit the buffer, and its first part is dropped.
+struct State {
+    kept: Kept,
+    reader: Reader,
+    long: bool,
+    more: bool,
+}
+
+fn strange(kept: Kept, out: &mut [u8]) -> Kept
+    requires { ⌜ (kept .used ≤ length (now out)) × (10 ≤ length (now out)) ⌝ }
+    ensures { λ r. ⌜ r .used ≤ length (now (out .exit)) ⌝ }
+{
+    let memory = kept.memory;
+    let text = text::strange();
+    Kept {
+        memory: memory,
+        used: out::put(out, kept.used, text),
+    }
+}
+
+// Answers a line, without its line end. No line that does not fit the buffer has a known form.
+fn line(
+    kept: Kept,
+    long: bool,
+    s: &[u8],
+    out: &mut [u8],
+    rom: &[u8],
+    vram: &mut [u8],
+    wram: &mut [u8],
+    save: &mut [u8],
+    log: &mut [u8],
+    sound: &[u8],
+) -> Kept
+    requires { ⌜ (kept .used ≤ length (now out)) × (10 ≤ length (now out)) ⌝ }
+    ensures { λ r. ⌜ r .used ≤ length (now (out .exit)) ⌝ }
+{
+    if long {
+        return strange(kept, out);
+    }
+    let memory = kept.memory;
+    let given = answer::line(memory, s, rom, vram, wram, save, log, sound);
+    let text = given.text;
+    let next = given.memory;
+    Kept {
+        memory: next,
+        used: out::put(out, kept.used, text),
+    }
+}
+
+// The input's end: it ends a line that did not fit the buffer.
+fn end(kept: Kept, long: bool, out: &mut [u8]) -> Kept
+    requires { ⌜ (kept .used ≤ length (now out)) × (10 ≤ length (now out)) ⌝ }
+    ensures { λ r. ⌜ r .used ≤ length (now (out .exit)) ⌝ }
+{
+    if long {
+        return strange(kept, out);
+    }
+    kept
+}
+
+// Where every line that was read is answered, the answers are printed before more is waited for.
+fn shown(kept: Kept, reader: Reader, out: &[u8]) -> Kept
+    requires { ⌜ kept .used ≤ length (now out) ⌝ }
+    ensures { λ r. ⌜ r .used ≤ length (now (out .entry)) ⌝ }
+{
+    if reader.at < reader.end {
+        return kept;
+    }
+    out::flush(out, kept.used);
+    let memory = kept.memory;
+    Kept {
+        memory: memory,
+        used: 0,
+    }
+}
+
+// One step of the reader.
+fn step(
+    state: State,
+    buf: &mut [u8],
+    out: &mut [u8],
+    rom: &[u8],
+    vram: &mut [u8],
+    wram: &mut [u8],
+    save: &mut [u8],
+    log: &mut [u8],
+    sound: &[u8],
+) -> State
+    requires { ⌜ Inside (length (now buf)) (state .reader) × ((state .kept .used ≤ length (now out)) × (10 ≤ length (now out))) ⌝ }
+    ensures { λ r. ⌜ Inside (length (now (buf .exit))) (r .reader) × (r .kept .used ≤ length (now (out .exit))) ⌝ }
+{
+    let before = state.kept;
+    let reader = state.reader;
+    let long = state.long;
+    let kept = shown(before, reader, out);
+    let read = reader::next(buf, reader);
+    let from = read.from;
+    let to = read.to;
+    let next = read.next;
+    let found = read.found;
+    match found {
+        Found::Line => State {
+            kept: line(
+                kept,
+                long,
+                &buf[from..to],
+                out,
+                rom,
+                vram,
+                wram,
+                save,
+                log,
+                sound,
+            ),
+            reader: next,
+            long: false,
+            more: true,
+        },
+        Found::Long => State {
+            kept: kept,
+            reader: next,
+            long: true,
+            more: true,
+        },
+        Found::Read => State {
+            kept: kept,
+            reader: next,
+            long: long,
+            more: true,
+        },
+        Found::End => State {
+            kept: end(kept, long, out),
+            reader: next,
+            long: false,
+            more: false,
+        },
+    }
+}
+
+fn start(memory: Memory) -> State
+    ensures { λ r. ⌜ Inside 0 (r .reader) × (r .kept .used ≤ 0) ⌝ }
+{
+    State {
+        kept: Kept {
+            memory: memory,
+            used: 0,
+        },
+        reader: reader::new(),
+        long: false,
+        more: true,
+    }
+}
+
+// All of the input. A proved loop has to end: it counts its turns down from a number that no run uses up.
+fn walk(
+    memory: Memory,
+    rom: &[u8],
+    vram: &mut [u8],
+    wram: &mut [u8],
+    save: &mut [u8],
+    log: &mut [u8],
+    sound: &[u8],
+) {
+    let mut buf = io::large_buffer();
+    let mut out = io::large_buffer();
+    let mut state = start(memory);
+    let mut turns = u64::MAX;
+    while turns > 0 && state.more {
+        state = step(state, &mut buf, &mut out, rom, vram, wram, save, log, sound);
+        turns -= 1;
+    }
+    let kept = state.kept;
+    out::flush(&out, kept.used);
+}
+
+fn fill_rom(rom: &mut [u8])
+    ensures { λ _. ⌜ Filled romByte (now (rom .exit)) (length (now (rom .exit))) ⌝ }
+{
+    let mut i = 0;
+    while i < rom.len() {
+        rom[i] = (i % 256) as u8;
+        i += 1;
+    }
+}
+
+// Monochrome, Mbc1, N 2, RAM code 2.
+fn main() {
+    let mut rom = [0u8; 32768];
+    fill_rom(&mut rom);
+    let mut vram = [0u8; 8192];
+    let mut wram = [0u8; 8192];
+    let mut save = [0u8; 8192];
+    let mut log = [0u8; 4095];
+    let sound = [0u8; 48];
+    let begun = bus::fresh::fresh(
+        1,
+        2,
+        2,
+        false,
+        &rom,
+        &mut vram,
+        &mut wram,
+        &save,
+        &log,
+        &sound,
+    );
+    let memory = begun.memory;
+    walk(
+        memory,
+        &rom,
+        &mut vram,
+        &mut wram,
+        &mut save,
+        &mut log,
+        &sound,
+    );
+}
