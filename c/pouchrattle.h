@@ -147,6 +147,16 @@ uint8_t pouch_read_word(
 uint8_t pouch_read_cgb_lcd_ram(
     const uint8_t *image, size_t image_len, const uint8_t *vram, size_t vram_len, uint16_t index, uint8_t bank, uint8_t *value);
 
+/* The mapper alone, without the bus around it: a byte of ROM at 0000..7FFF, or of the save at A000..BFFF.
+ * 0; 4, 3 image; 4 another length; 7 index outside. */
+uint8_t pouch_mapper_read(
+    const uint8_t *image, size_t image_len, const uint8_t *rom, size_t rom_len, const uint8_t *save, size_t save_len, uint16_t index, uint8_t *value);
+
+/* What the mapper does with a byte: its registers change in the image; save and log are not touched. `value` is the record that the bus would log, as a
+ * number: bit 23 set, the save's address in bits 22..8, the byte that is stored in bits 7..0; or 0 where nothing is to be stored.
+ * 0; 4, 3 image; 7 index outside 0000..7FFF and A000..BFFF. */
+uint8_t pouch_mapper_write(uint8_t *image, size_t image_len, uint16_t index, uint8_t byte, uint32_t *value);
+
 /* The processor writes a byte: into a memory, a register, or the mapper. A save byte that the mapper lets in is stored in save and logged, 3 bytes of the
  * log each, also when its value is the same. A write to FF46 or FF55 runs its transfer within the call; no transfer writes to the save.
  * 0; 1 index in FF10..FF3F; 4, 3 image or log's use; 4 another length; 2 index in A000..BFFF (also where the mapper stores nothing) and under 3 log bytes

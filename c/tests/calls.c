@@ -283,9 +283,30 @@ static void check_other_corners(void)
     IS(rd(0xFF00), 0xCB);
 }
 
+/* The mapper alone answers, and touches neither save nor log. */
+static void check_mapper(void)
+{
+    uint8_t byte = 0;
+    uint32_t answer = 1;
+    start_mbc1(false);
+    IS(pouch_mapper_write(LEND(image), 0xB234, 0x56, &answer), POUCH_DONE);
+    IS(answer, 0);
+    IS(pouch_mapper_read(LEND(image), LEND(rom), LEND(save), 0xB234, &byte), POUCH_DONE);
+    IS(byte, 0xFF);
+    IS(pouch_mapper_write(LEND(image), 0x0000, 0x0A, &answer), POUCH_DONE);
+    IS(answer, 0);
+    IS(pouch_mapper_write(LEND(image), 0xB234, 0x56, &answer), POUCH_DONE);
+    IS(answer, 0x923456);
+    IS(pouch_mapper_read(LEND(image), LEND(rom), LEND(save), 0xB234, &byte), POUCH_DONE);
+    IS(byte, FILL);
+    IS(all_are(save.at, save.len, FILL) && all_are(log_.at, log_.len, FILL), true);
+    IS(ask(pouch_log_used), 0);
+}
+
 int main(void)
 {
     check_memories();
+    check_mapper();
     check_interrupts();
     check_buttons();
     check_screen();

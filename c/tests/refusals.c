@@ -32,6 +32,22 @@ static uint8_t try_read_cgb_lcd_ram(void)
     return number;
 }
 
+static uint8_t try_mapper_read(void)
+{
+    uint8_t byte = 0xEE;
+    uint8_t number = pouch_mapper_read(LEND(image), LEND(rom), LEND(save), 0x0000, &byte);
+    value = byte;
+    return number;
+}
+
+static uint8_t try_mapper_write(void)
+{
+    uint32_t answer = 0xEEEEEEEE;
+    uint8_t number = pouch_mapper_write(LEND(image), 0x2000, 1, &answer);
+    value = answer == 0 ? 0 : 0xEEEE;
+    return number;
+}
+
 #define ASKS(name, ...) static uint8_t try_##name(void) { value = 0xEEEE; return pouch_##name(__VA_ARGS__, &value); }
 #define DOES(name, ...) static uint8_t try_##name(void) { value = 0; return pouch_##name(__VA_ARGS__); }
 ASKS(read_word, READS, 0x0000)
@@ -76,6 +92,7 @@ static const struct entry {
     ENTRY(do_scanline_write, 0), ENTRY(do_lyc_write, 0), ENTRY(compare_ly_to_lyc, 0), ENTRY(enable_screen, 0), ENTRY(disable_screen, 0),
     ENTRY(reset_window_line, 0), ENTRY(get_interrupts, 0), ENTRY(request_interrupt, 0), ENTRY(remove_interrupt, 0), ENTRY(is_hdma_enabled, 0),
     ENTRY(update_timer, 0), ENTRY(press, 0), ENTRY(release, 0), ENTRY(update_joypad, 0), ENTRY(clear_log, 0), ENTRY(log_used, 0), ENTRY(host, 0),
+    ENTRY(mapper_read, ROM | SAVE), ENTRY(mapper_write, 0),
 };
 
 /* The entry is refused by the number, gives 0 and changes nothing. */
@@ -271,6 +288,12 @@ static void check_numbers(void)
     REFUSED(pouch_read_cgb_lcd_ram(LEND(image), LEND(vram), 0xA000, 0, &byte), POUCH_OUTSIDE);
     vram.len--;
     REFUSED(pouch_read_cgb_lcd_ram(LEND(image), LEND(vram), 0xA000, 0, &byte), POUCH_WRONG_LENGTH);
+    byte = 0xEE;
+    REFUSED(pouch_mapper_read(LEND(image), LEND(rom), LEND(save), 0x8000, &byte), POUCH_OUTSIDE);
+    IS(byte, 0);
+    uint32_t answer = 0xEEEEEEEE;
+    REFUSED(pouch_mapper_write(LEND(image), 0xC000, 1, &answer), POUCH_OUTSIDE);
+    IS(answer, 0);
 }
 
 int main(void)

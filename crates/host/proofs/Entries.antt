@@ -17,7 +17,10 @@ use Rattle.image.specs.Layout.{imageOf}
 use Rattle.image.specs.Load.{loadCall}
 use Rattle.image.specs.declared.Loaded.{Loaded}
 use Rattle.mbc.proofs.Bools.{by-cond}
-use Rattle.memory.specs.World.{World, world, Fixed}
+use Rattle.mbc.specs.Mbc as mbc
+use Rattle.mbc.specs.declared.mbc.ReadByte.{ReadByte}
+use Rattle.mbc.specs.declared.mbc.WriteByte.{WriteByte}
+use Rattle.memory.specs.World.{World, world, Fixed, withMapper}
 use Rattle.memory.specs.declared.Memory.{Memory}
 use Rattle.promise.proofs.Each.{refused-promise}
 use Rattle.promise.proofs.Numbered.{by-unless}
@@ -36,6 +39,11 @@ use Rattle.host.specs.Entry.{
   worldEntry,
   fresh,
   freshEntry,
+  mapperReadEntry,
+  answerNumber,
+  mapped,
+  encodedMapper,
+  mapperWriteEntry,
 }
 
 module _ (i : List ℕ) {d : Loaded} (e : d ≡ loadCall i) where
@@ -52,6 +60,14 @@ module _ (i : List ℕ) {d : Loaded} (e : d ≡ loadCall i) where
     pub unloaded-read : (x : Fixed) (v w s : List ℕ) (c : Call) → given (d .number) 0 ≡ readEntry x i v w s c
     unfolding readEntry
     unloaded-read x v w s c = rw (← e, ne-eqb (d .number) 0 h)
+
+    pub unloaded-mapper-read : (rom s : List ℕ) (k : ℕ) → given (d .number) 0 ≡ mapperReadEntry i rom s k
+    unfolding mapperReadEntry
+    unloaded-mapper-read rom s k = rw (← e, ne-eqb (d .number) 0 h)
+
+    pub unloaded-mapper : (k v : ℕ) → mapped (d .number) 0 i ≡ mapperWriteEntry i k v
+    unfolding mapperWriteEntry
+    unloaded-mapper k v = rw (← e, ne-eqb (d .number) 0 h)
 
     pub unloaded-bus : (x : Fixed) (v w s l : List ℕ) (c : Call) → left (d .number) 0 i v w s l ≡ worldEntry x i v w s l c
     unfolding worldEntry
@@ -71,6 +87,21 @@ module _ (i : List ℕ) {d : Loaded} (e : d ≡ loadCall i) where
       pub done-state : p .number ≤ 1 → {j : List ℕ} → j ≡ imageOf (p .memory) → changed (p .number) j ≡ stateEntry i c
       unfolding stateEntry encoded
       done-state h g = rw (← e, z, ← f, le-ltb 1 (p .number) h, g)
+
+    pub mapper-read : (rom s : List ℕ) (k : ℕ) {b : ReadByte} → b ≡ mbc.readByte (d .state .cartridge) (d .state .mapper) rom s k
+        → given (b .number) (b .value) ≡ mapperReadEntry i rom s k
+    unfolding mapperReadEntry
+    mapper-read rom s k f = rw (← e, z, f)
+
+    module _ (k v : ℕ) {b : WriteByte} (f : b ≡ mbc.writeByte (d .state .cartridge) (d .state .mapper) k v) where
+      pub refused-mapper : (b .number ≡ 0 → ⊥) → mapped (b .number) 0 i ≡ mapperWriteEntry i k v
+      unfolding mapperWriteEntry encodedMapper
+      refused-mapper h = rw (← e, z, ← f, ne-eqb (b .number) 0 h)
+
+      pub done-mapper : b .number ≡ 0 → {n : ℕ} {j : List ℕ} {m : Memory} → n ≡ answerNumber (b .answer) → m ≡ withMapper (d .state) (b .mapper)
+          → j ≡ imageOf m → mapped (b .number) n j ≡ mapperWriteEntry i k v
+      unfolding mapperWriteEntry encodedMapper
+      done-mapper h a g l = rw (← e, z, ← f, h, a, l, g)
 
     module _ (x : Fixed) (v w s : List ℕ) where
       pub byte-read : (k : ℕ) {b : Byte} → b ≡ readByteCall x (world (d .state) v w s []) k

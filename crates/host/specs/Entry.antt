@@ -2,7 +2,7 @@
 -- byte slices": the state as an image, the memories lent, a number answered). A refusal leaves image and memories as they are and gives 0.
 use mathlib.Core.Bool.{Bool, cond}
 use mathlib.Core.List.{List, []}
-use Prim.Native.Nat.{ℕ}
+use Prim.Native.Nat.{ℕ, _+_, _*_, _%_}
 use lib.Dec.{eqb, ltb}
 use lib.ListN.{length}
 use Rattle.bus.specs.Calls.{Outcome}
@@ -13,7 +13,12 @@ use Rattle.dispatch.specs.declared.Performed.{Performed}
 use Rattle.dispatch.specs.declared.StateCall.{StateCall}
 use Rattle.image.specs.Layout.{imageLen, imageOf}
 use Rattle.image.specs.Load.{loadCall}
-use Rattle.memory.specs.World.{World, world, Fixed}
+use Rattle.mbc.specs.Mbc.{readByte, writeByte}
+use Rattle.mbc.specs.declared.mbc.Answer.{Answer}
+use Rattle.mbc.specs.declared.mbc.Answer.the-variants.{Stored, NotStored}
+use Rattle.mbc.specs.declared.mbc.WriteByte.{WriteByte}
+use Rattle.memory.specs.World.{World, world, Fixed, withMapper}
+use Rattle.memory.specs.declared.Memory.{Memory}
 use Rattle.numbers.specs.Numbers.{done, owed, wrongLength}
 
 -- 0 and 1 are done, any other number refuses
@@ -106,3 +111,35 @@ freshEntry i v w b =
     cond (eqb (length i) imageLen)
     (cond (eqb (b .number) done) (fresh done (imageOf (b .state)) (b .vram) (b .wram)) (fresh (b .number) i v w))
     (fresh wrongLength i v w)
+
+-- A mapper's own calls, on the mapper of the image
+
+unfoldable pub mapperReadEntry : List ℕ → List ℕ → List ℕ → ℕ → Given
+mapperReadEntry i rom save k =
+    cond (eqb (loadCall i .number) done)
+    (given (readByte (loadCall i .state .cartridge) (loadCall i .state .mapper) rom save k .number)
+    (readByte (loadCall i .state .cartridge) (loadCall i .state .mapper) rom save k .value))
+    (given (loadCall i .number) 0)
+
+-- a mapper's answer as the record that the bus would log: bit 1, address 15 bits, value 8 bits; 0 for "not stored"
+abbrev pub answerNumber : Answer → ℕ
+answerNumber (Stored at v) = 0x800000 + at % 32768 * 256 + v
+answerNumber NotStored = 0
+
+pub record Mapped : Type 0 where
+  pub number : ℕ
+  pub value : ℕ
+  pub image : List ℕ
+
+abbrev pub mapped : ℕ → ℕ → List ℕ → Mapped
+mapped n v i = record { number = n; value = v; image = i }
+
+unfoldable pub encodedMapper : List ℕ → Memory → WriteByte → Mapped
+encodedMapper i m w =
+    cond (eqb (w .number) done) (mapped done (answerNumber (w .answer)) (imageOf (withMapper m (w .mapper)))) (mapped (w .number) 0 i)
+
+unfoldable pub mapperWriteEntry : List ℕ → ℕ → ℕ → Mapped
+mapperWriteEntry i k v =
+    cond (eqb (loadCall i .number) done)
+    (encodedMapper i (loadCall i .state) (writeByte (loadCall i .state .cartridge) (loadCall i .state .mapper) k v))
+    (mapped (loadCall i .number) 0 i)

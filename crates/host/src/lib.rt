@@ -6,6 +6,7 @@ ghost use Rattle.memory.specs.World.{fixed};
 ghost use Rattle.host.specs.Entry.{changed, stateEntry, given, askEntry, readEntry, left, worldEntry};
 
 pub mod lent;
+pub mod mapper;
 pub mod state;
 
 use dispatch::Call;

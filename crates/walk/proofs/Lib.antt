@@ -1,2 +1,3 @@
 pub mod Digit
 pub mod Behind
+pub mod Fresh

@@ -3,6 +3,8 @@
 ghost use Prim.Native.Nat.{_≤_};
 ghost use mathlib.Core.Path.{_≡_};
 ghost use lib.ListN.{length};
+ghost use mathlib.Core.Bool.{false};
+ghost use Rattle.bus.specs.Fresh.{startedBy};
 ghost use Rattle.lines.specs.Contents.{Filled};
 ghost use Rattle.lines.specs.Reader.{Inside};
 ghost use Rattle.walk.specs.Line.{romByte};
@@ -206,7 +208,22 @@ fn fill_rom(rom: &mut [u8])
     }
 }
 
-// Monochrome, Mbc1, N 2, RAM code 2.
+// The fresh bus: Mbc1, N 2, RAM code 2, monochrome. It is not refused.
+fn begin(
+    rom: &[u8],
+    vram: &mut [u8],
+    wram: &mut [u8],
+    save: &[u8],
+    log: &[u8],
+    sound: &[u8],
+) -> Memory
+    requires { ⌜ (length (now rom) ≡ 32768) × ((length (now vram) ≡ 8192) × ((length (now wram) ≡ 8192) × ((length (now save) ≡ 8192) × ((length (now log) ≡ 4095) × (length (now sound) ≡ 48))))) ⌝ }
+    ensures { λ r. ⌜ r ≡ startedBy 1 2 2 false ⌝ }
+{
+    let begun = bus::fresh::fresh(1, 2, 2, false, rom, vram, wram, save, log, sound);
+    begun.memory
+}
+
 fn main() {
     let mut rom = [0u8; 32768];
     fill_rom(&mut rom);
@@ -215,19 +232,7 @@ fn main() {
     let mut save = [0u8; 8192];
     let mut log = [0u8; 4095];
     let sound = [0u8; 48];
-    let begun = bus::fresh::fresh(
-        1,
-        2,
-        2,
-        false,
-        &rom,
-        &mut vram,
-        &mut wram,
-        &save,
-        &log,
-        &sound,
-    );
-    let memory = begun.memory;
+    let memory = begin(&rom, &mut vram, &mut wram, &save, &log, &sound);
     walk(
         memory,
         &rom,

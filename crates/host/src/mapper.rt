@@ -1,0 +1,64 @@
+// Entries for a mapper's own two calls, on the mapper that the image holds. They touch neither save nor log.
+ghost use mathlib.Core.Path.{_≡_};
+ghost use Rattle.host.specs.Entry.{given, mapperReadEntry, answerNumber, mapped, mapperWriteEntry};
+use mbc::Answer;
+
+// The byte at 0000..7FFF or A000..BFFF.
+#[no_mangle]
+pub extern "C" fn pouch_mapper_read(
+    image: &[u8],
+    rom: &[u8],
+    save: &[u8],
+    index: u16,
+    value: &mut u8,
+) -> u8
+    ensures { λ r. ⌜ given r (now (value .exit)) ≡ mapperReadEntry (now (image .entry)) (now (rom .entry)) (now (save .entry)) index ⌝ }
+{
+    let loaded = image::decode(image);
+    if loaded.number != 0 {
+        *value = 0;
+        return loaded.number;
+    }
+    let memory = loaded.state;
+    let mapper = memory.mapper;
+    let cartridge = memory.cartridge;
+    let read = mapper.read_byte(cartridge, rom, save, index);
+    *value = read.value;
+    read.number
+}
+
+// The record that the bus would log for a stored byte; 0 where nothing is stored.
+fn answer_number(answer: Answer) -> u32
+    ensures { λ r. ⌜ r ≡ answerNumber answer ⌝ }
+{
+    let Answer::Stored { at, value } = answer else {
+        return 0;
+    };
+    0x800000 + (at % 32768) as u32 * 256 + value as u32
+}
+
+// What the mapper answers, and its registers in the image.
+#[no_mangle]
+pub extern "C" fn pouch_mapper_write(image: &mut [u8], index: u16, byte: u8, value: &mut u32) -> u8
+    ensures { λ r. ⌜ mapped r (now (value .exit)) (now (image .exit)) ≡ mapperWriteEntry (now (image .entry)) index byte ⌝ }
+{
+    let loaded = image::decode(image);
+    if loaded.number != 0 {
+        *value = 0;
+        return loaded.number;
+    }
+    let memory = loaded.state;
+    let mapper = memory.mapper;
+    let cartridge = memory.cartridge;
+    let written = mapper.write_byte(cartridge, index, byte);
+    if written.number != 0 {
+        *value = 0;
+        return written.number;
+    }
+    let answer = written.answer;
+    *value = answer_number(answer);
+    let after = written.mapper;
+    let next = memory::with_mapper(memory, after);
+    image::store(next, image);
+    written.number
+}
