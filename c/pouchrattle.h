@@ -6,7 +6,8 @@
  *
  * What the host owns and lends for the time of a call:
  *
- *   image   the state of the bus, 665 bytes. Made by pouch_fresh, changed by the calls. It is plain data: the host may copy it, store it, put it back.
+ *   image   the state of the bus, 665 bytes. Made by pouch_fresh, changed by the calls. It is plain data: the host may copy it, store it, put it back
+ *           (with the memories as they were then; what that means for save and log is in README.md beside this file).
  *   rom     the cartridge's ROM: N banks of 16,384 bytes.
  *   vram    video memory: 8,192 bytes, in colour 16,384 (bank 0, then bank 1).
  *   wram    work memory: 8,192 bytes, in colour 32,768 (banks 0 to 7).
@@ -51,7 +52,8 @@ extern "C" {
 enum pouch_number {
     POUCH_DONE = 0,
     POUCH_OWED = 1,            /* done; an index of this write is in FF10..FF3F, and the host owes its sound part the write */
-    POUCH_NO_ROOM = 2,         /* a write in A000..BFFF, and too few log bytes are free: copy the used bytes off, clear, write again */
+    POUCH_NO_ROOM = 2,         /* a write in A000..BFFF, and too few log bytes are free: copy the used bytes off, clear, write again. A log
+                                  of under 3 bytes, for words 6, never has room */
     POUCH_OUT_OF_RANGE = 3,    /* the cartridge's description, or the state in the image */
     POUCH_WRONG_LENGTH = 4,    /* of something lent */
     POUCH_TOO_MANY_CYCLES = 5, /* over 65,536 in one call */
@@ -214,7 +216,7 @@ uint8_t pouch_remove_interrupt(uint8_t *image, size_t image_len, uint8_t interru
 uint8_t pouch_press(uint8_t *image, size_t image_len, uint8_t button);
 uint8_t pouch_release(uint8_t *image, size_t image_len, uint8_t button);
 
-/* Shows the buttons to FF00, and requests the interrupt of a new press whose kind of key FF00 selects.
+/* Shows the buttons to FF00, and requests the interrupt of a new press whose kind of key answers (see below).
  * 0; 4, 3 image. */
 uint8_t pouch_update_joypad(uint8_t *image, size_t image_len);
 
@@ -222,7 +224,7 @@ uint8_t pouch_update_joypad(uint8_t *image, size_t image_len);
  * 0; 4, 3 image. */
 uint8_t pouch_set_joypad_state(uint8_t *image, size_t image_len, uint8_t state);
 
-/* `value` is 1 if FF00 selects that kind of key, else 0.
+/* `value` is 1 if that kind of key answers, else 0: actions unless FF00's bits 5..4 are 10, directions unless they are 01 (binary).
  * 0; 4, 3 image. */
 uint8_t pouch_are_action_keys_enabled(const uint8_t *image, size_t image_len, uint16_t *value);
 uint8_t pouch_are_direction_keys_enabled(const uint8_t *image, size_t image_len, uint16_t *value);
@@ -243,8 +245,8 @@ uint8_t pouch_do_lcd_status_write(uint8_t *image, size_t image_len, uint8_t byte
 uint8_t pouch_do_scanline_write(uint8_t *image, size_t image_len, uint8_t byte);
 uint8_t pouch_do_lyc_write(uint8_t *image, size_t image_len, uint8_t byte);
 
-/* Compares scan line and FF45, unless the screen is disabled: sets or clears FF41's bit 2 and the signal's bit 3, and requests the LCD interrupt where FF41
- * asks for it and the signal was 0.
+/* Compares scan line and FF45, unless the screen is disabled: FF41's bit 2 says whether they are equal. Where they are and FF41's bit 6 is set,
+ * the signal's bit 3 is set, and the LCD interrupt is requested if the signal was 0; where they differ that bit is cleared.
  * 0; 4, 3 image. */
 uint8_t pouch_compare_ly_to_lyc(uint8_t *image, size_t image_len);
 

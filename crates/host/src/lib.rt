@@ -3,7 +3,8 @@
 ghost use mathlib.Core.List.{[]};
 ghost use mathlib.Core.Path.{_≡_};
 ghost use Rattle.memory.specs.World.{fixed};
-ghost use Rattle.host.specs.Entry.{changed, stateEntry, given, askEntry, readEntry, left, worldEntry};
+ghost use Rattle.host.specs.Entry.{changed, stateEntry, given, askEntry, left, worldEntry};
+ghost use Rattle.host.specs.One.{OneEntry};
 
 pub mod lent;
 pub mod mapper;
@@ -90,3 +91,8 @@ pub fn on_bus(
         value: done.value,
     }
 }
+
+// That no second outcome fits a contract of these entries, as a contract: its proof hands the laws of specs/One.antt over.
+pub fn one_outcome()
+    ensures { λ _. ⌜ OneEntry ⌝ }
+{}

@@ -2,13 +2,13 @@
 use mathlib.Core.Bool.{cond, _&&_, _||_}
 use mathlib.Core.List.{List, [], _∷_, _++_}
 use mathlib.Core.Path.{_≡_}
-use Prim.Native.Nat.{ℕ, _-_, _/_, _<_}
+use Prim.Native.Nat.{ℕ, _-_, _/_, _%_, _<_, _≤_}
 use lib.Dec.{ltb}
 use lib.ListN.{length, take}
 use Rattle.mbc.specs.Mbc.{cartridgeOf, start as mapperOf}
 use Rattle.memory.specs.World.{World}
 use Rattle.numbers.specs.Numbers.{done, noRoom}
-use Rattle.savelog.specs.Log.{stored, records, applyAll, recoverAll, joined, cutCopies}
+use Rattle.savelog.specs.Log.{stored, records, applyAll, recovery, recoverAll, joined, cutCopies}
 use Rattle.promise.specs.Bus.{inSave, nextIndex, byteOwed, wordOwed, step, Call}
 use Rattle.promise.specs.Bus.call as call
 use Rattle.promise.specs.Bus.on as on
@@ -25,6 +25,11 @@ abbrev pub Typed : List Call → Type 0
 Typed [] = Unit {0}
 Typed (c ∷ cs) = Bytes (writesOf c) × Typed cs
 
+-- none of the copies is refused, each over what the one before gave
+abbrev pub Recovers : List ℕ → List (List ℕ) → Type 0
+Recovers save [] = Unit {0}
+Recovers save (c ∷ cs) = (recovery save c .number ≡ done) × Recovers (recovery save c .save) cs
+
 -- the bytes of the log that are free
 abbrev pub free : World → ℕ
 free w = length (w .log) - w .state .used
@@ -40,6 +45,7 @@ pub record Kept (l : Lent) (cs : List Call) : Type 0 where
   pub first : (n : ℕ) → joined (cutCopies n (copies l cs)) ≡ take n (joined (copies l cs))
   -- "recovery over the image, copy by copy, gives the save as it stood right after the last write whose record is whole, or the image if none is"
   pub cut : Typed cs → (n : ℕ) → recoverAll (l .image) (cutCopies n (copies l cs)) ≡ applyAll (l .image) (take (n / 3) (admitted l cs))
+  pub recovers : Typed cs → (n : ℕ) → Recovers (l .image) (cutCopies n (copies l cs))
   -- for so it stood: if other calls follow, the writes of these come first among the admitted ones
   pub stood : (later : List Call) → after l cs .save ≡ applyAll (l .image) (take (length (admitted l cs)) (admitted l (cs ++ later)))
   -- "that were not refused": no write is refused but for room, "byte write in A000..BFFF, under 3 log bytes free; word write with either index
@@ -49,6 +55,8 @@ pub record Kept (l : Lent) (cs : List Call) : Type 0 where
   pub words : (i v : ℕ) → step (read l) (after l cs) (call.WriteWord i v) .number
       ≡ cond ((inSave i || inSave (nextIndex i)) && ltb (free (after l cs)) 6) noRoom (wordOwed i)
   pub clears : step (read l) (after l cs) (call.State on.ClearLog) .number ≡ done
+  -- what is used of the log is whole records, and lies within it
+  pub within : (after l cs .state .used % 3 ≡ 0) × (after l cs .state .used ≤ length (after l cs .log))
 
 -- "Take a fresh bus over a save image and any list of bus calls"
 abbrev pub Promise : Type 0

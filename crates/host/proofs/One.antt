@@ -1,0 +1,48 @@
+-- Each part of a result is read off the outcome.
+use mathlib.Core.List.{List}
+use mathlib.Core.Path.{_≡_, ap, sym, _∙_}
+use Rattle.image.specs.Load.{Stored}
+use Rattle.host.specs.Entry.{Changed, Given, Left, Fresh, Mapped}
+use Rattle.host.specs.One.{OneChanged, OneGiven, OneLeft, OneFresh, OneMapped, OneStored, OneEntry}
+
+-- two values that are both the same part of o
+part : {A B : Type 0} (f : A → B) {p q o : A} → p ≡ o → q ≡ o → f p ≡ f q
+part f e g = ap f (e ∙ sym g)
+
+one-changed : OneChanged
+one-changed o m n i j e g = (part (λ (r : Changed). r .number) e g, part (λ (r : Changed). r .image) e g)
+
+one-given : OneGiven
+one-given o m n v w e g = (part (λ (r : Given). r .number) e g, part (λ (r : Given). r .value) e g)
+
+one-left : OneLeft
+one-left o m n v w i a b s l i′ a′ b′ s′ l′ e g = (
+  part (λ (r : Left). r .number) e g,
+  part (λ (r : Left). r .value) e g,
+  part (λ (r : Left). r .image) e g,
+  part (λ (r : Left). r .vram) e g,
+  part (λ (r : Left). r .wram) e g,
+  part (λ (r : Left). r .save) e g,
+  part (λ (r : Left). r .log) e g,
+)
+
+one-fresh : OneFresh
+one-fresh o m n i a b i′ a′ b′ e g = (
+  part (λ (r : Fresh). r .number) e g,
+  part (λ (r : Fresh). r .image) e g,
+  part (λ (r : Fresh). r .vram) e g,
+  part (λ (r : Fresh). r .wram) e g,
+)
+
+one-mapped : OneMapped
+one-mapped o m n v w i j e g = (
+  part (λ (r : Mapped). r .number) e g,
+  part (λ (r : Mapped). r .value) e g,
+  part (λ (r : Mapped). r .image) e g,
+)
+
+one-stored : OneStored
+one-stored o m n i j e g = (part (λ (r : Stored). r .number) e g, part (λ (r : Stored). r .bytes) e g)
+
+pub one-entry : OneEntry
+one-entry = (one-changed, one-given, one-left, one-fresh, one-mapped, one-stored)
