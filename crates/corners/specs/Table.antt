@@ -133,10 +133,10 @@ corner3 =
 -- 4. * DMA page 7F none, 80 copies, DF copies, E0 none.
 abbrev pub corner4 : List Row
 corner4 =
-    row 4 either romOnly (given 0xFF46 0x7F ∷ oamIs (replicate 256 0) ∷ [])
+    row 4 either romOnly (given 0xFE00 0x77 ∷ given 0xFF46 0x7F ∷ oamIs (set (replicate 256 0) 0 0x77) ∷ [])
     ∷ row 4 either romOnly (marked 0x8000 ++ given 0xFF46 0x80 ∷ oamIs copied ∷ [])
     ∷ row 4 either romOnly (marked 0xDF00 ++ given 0xFF46 0xDF ∷ oamIs copied ∷ [])
-    ∷ row 4 either romOnly (marked 0xC000 ++ given 0xFF46 0xE0 ∷ oamIs (replicate 256 0) ∷ [])
+    ∷ row 4 either romOnly (given 0xFE00 0x77 ∷ marked 0xC000 ++ given 0xFF46 0xE0 ∷ oamIs (set (replicate 256 0) 0 0x77) ∷ [])
     ∷ []
 
 -- 5. * FF51 keeps 7F and C0; 80 and BF become 00.
