@@ -106,11 +106,23 @@ static inline bool pouch_bus_keep(struct pouch_bus *bus, int journal)
     return bus->number == POUCH_DONE;
 }
 
+/* How much of a journal was written. When the machine itself fails, a file system may show bytes that never arrived as zeros at the end. No record begins
+ * with a 0, so where one would, the zeros go; and so does a record before them that ends in 0, as its last bytes may be such zeros too. */
+static inline size_t pouch_journal_len(const uint8_t *journal, size_t len)
+{
+    size_t end = len;
+    while (end > 0 && journal[end - 1] == 0)
+        end--;
+    size_t next = (end + POUCH_RECORD_LEN - 1) / POUCH_RECORD_LEN * POUCH_RECORD_LEN;
+    return next < len ? end / POUCH_RECORD_LEN * POUCH_RECORD_LEN : len;
+}
+
 /* Recovery from a whole journal, however long: its parts are whole records, given one by one. Numbers as pouch_recover; after 6 the save holds the parts
  * before the damaged one, so recover on a copy. */
 static inline uint8_t pouch_bus_recover(uint8_t *save, size_t save_len, const uint8_t *journal, size_t journal_len)
 {
     uint8_t number = POUCH_DONE;
+    journal_len = pouch_journal_len(journal, journal_len);
     do {
         size_t part = journal_len < POUCH_LOG_LEN_MAX ? journal_len : POUCH_LOG_LEN_MAX;
         number = pouch_recover(save, save_len, journal, part);

@@ -1,5 +1,5 @@
 /* Checks of pouch_bus.h: the journal holds every stored byte once and in order, whatever the log's length and however badly the file takes it, and recovery
- * from it gives the save, also from a journal longer than a log can be. */
+ * from it gives the save, also from a journal longer than a log can be, or torn. */
 #define _POSIX_C_SOURCE 200809L
 #include <pouch_bus.h>
 #include <errno.h>
@@ -80,12 +80,38 @@ static void run(const char *path, size_t log_len, uint32_t writes, uint32_t pace
     close(file);
 }
 
+/* The journal of the last run as a failing machine may leave it: its first n bytes, and zeros for the rest. Recovery gives the writes whose records are whole
+ * in them, but for a last one that ends in 0, which no one can tell from a torn one. */
+static void run_torn(size_t len)
+{
+    static uint8_t torn[sizeof journal], stood[sizeof save];
+    memset(stood, 0, sizeof stood);
+    for (size_t n = 0; n < len; n++) {
+        if (n > 0 && n % POUCH_RECORD_LEN == 0) {
+            const uint8_t *record = records + n - POUCH_RECORD_LEN;
+            stood[(record[0] & 0x7F) << 8 | record[1]] = record[2];
+            if (record[2] == 0)
+                continue;
+        }
+        memcpy(torn, journal, n);
+        memset(torn + n, 0, len - n);
+        memset(recovered, 0, sizeof recovered);
+        require(pouch_bus_recover(recovered, sizeof recovered, torn, len) == POUCH_DONE, "recovery from a torn journal");
+        require(memcmp(recovered, stood, sizeof stood) == 0, "the save from a torn journal");
+    }
+    uint8_t last[] = {0x80, 0x05, 0x11, 0x80, 0x06, 0x00, 0x00, 0x00};
+    require(pouch_journal_len(last, 6) == 6, "a last record that ends in 0 counts");
+    require(pouch_journal_len(last, 7) == 3 && pouch_journal_len(last, 8) == 3, "zeros behind it make it doubtful");
+    require(pouch_journal_len(last, 4) == 4 && pouch_journal_len(last + 6, 2) == 0 && pouch_journal_len(last, 0) == 0, "part of a record, zeros, nothing");
+}
+
 int main(int count, char **words)
 {
     require(count == 2, "usage: journal FILE");
     signal(SIGXFSZ, SIG_IGN);
     for (size_t log_len = 12; log_len < 40; log_len++)
         run(words[1], log_len, 60, 1000, 0); /* kept after number 2 alone */
+    run_torn(60 * POUCH_RECORD_LEN);
     run(words[1], 4095, 3000, 10, 7);
     run(words[1], POUCH_LOG_LEN_MAX, WRITES, 5000, 0);
     puts("journal: every record once and in order, and recovered");
