@@ -84,3 +84,11 @@ channels-below (c ∷ colors) h zero = three c (both-true (inRange c) (colorsInR
 channels-below (c ∷ colors) h (suc zero) = three c (both-true (inRange c) (colorsInRange colors) h .0) .1 .0
 channels-below (c ∷ colors) h (suc (suc zero)) = three c (both-true (inRange c) (colorsInRange colors) h .0) .1 .1
 channels-below (c ∷ colors) h (suc (suc (suc i))) = channels-below colors (both-true (inRange c) (colorsInRange colors) h .1) i
+
+-- and back: a channel of five bits is in range
+pub below-colors : (l : List ℕ) → Below 32 l → colorsInRange (colorsOf l) ≡ true
+unfolding colorsInRange inRange
+below-colors [] h = refl
+below-colors (r ∷ []) h = refl
+below-colors (r ∷ g ∷ []) h = refl
+below-colors (r ∷ g ∷ b ∷ l) h = rw (lt-ltb r 32 (h 0), lt-ltb g 32 (h 1), lt-ltb b 32 (h 2), below-colors l (λ i. h (suc (suc (suc i)))))

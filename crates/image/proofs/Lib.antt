@@ -4,3 +4,4 @@ pub mod Parts
 pub mod StateLaws
 pub mod LoadLaws
 pub mod Round
+pub mod OpenLaws

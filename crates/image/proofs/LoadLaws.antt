@@ -20,13 +20,19 @@ use Rattle.mbc.specs.declared.cartridge.Cartridge.{Cartridge}
 use Rattle.mbc.specs.declared.mbc.Mapper.{Mapper}
 use Rattle.memory.specs.declared.Banks.{Banks}
 use Rattle.memory.specs.declared.Clock.{Clock}
+use Rattle.memory.specs.declared.Core.{Core}
 use Rattle.memory.specs.declared.Memory.{Memory}
+use Rattle.memory.specs.Ranges.{coreOf, coreInRange}
 use Rattle.memory.specs.Start.{zeroed}
+use Rattle.memory.proofs.Laws.{core-range}
+use Rattle.palette.specs.Palette.{colorsInRange}
+use Rattle.savelog.specs.Log.{logLimit}
 use Rattle.image.specs.Layout.{fieldWidths, widths}
 use Rattle.image.specs.Load.{bytesIn, colorsIn, fieldsIn, valuesOf, stateFrom, stateOf, colorsOf, banksOf, lcdOf, hdmaOf, joypadOf, clockOf, cartridgeOf, mapperOf, at, sound, storable, loaded, loadCall}
 use Rattle.image.specs.declared.Loaded.{Loaded}
-use Rattle.image.specs.Words.{wordWidths, wordList, wordsIn, fieldsOf}
-use Rattle.image.proofs.Parts.{values-parts, repacked-length}
+use Rattle.image.specs.Words.{wordWidths, wordList, wordsIn, fieldsOf, coreFrom}
+use Rattle.image.proofs.ColorLaws.{below-colors}
+use Rattle.image.proofs.Parts.{fit-below, values-parts, repacked-length, repacked-fit}
 
 pub below-take : (n m : ℕ) (l : List ℕ) → 0 < m → Below m l → Below m (take n l)
 below-take zero m l z h i = z
@@ -159,6 +165,13 @@ pub all-same : {o o' p p' : List ℕ} {b b' s s' : List Color} {k k' : Banks} {l
     (record { oam = o'; page = p'; background = b'; sprites = s'; banks = k'; lcd = l'; hdma = h'; joypad = j'; clock = c'; cartridge = g'; mapper = m'; used = u' })
 all-same e₁ e₂ e₃ e₄ e₅ e₆ e₇ e₈ e₉ e₁₀ e₁₁ e₁₂ = rw (e₁, e₂, e₃, e₄, e₅, e₆, e₇, e₈, e₉, e₁₀, e₁₁, e₁₂)
 
+pub core-same : {k k' : Banks} {l l' : Lcd} {h h' : Hdma} {j j' : Controller} {c c' : Clock} {g g' : Cartridge} {m m' : Mapper} {u u' : ℕ}
+    → k ≡ k' → l ≡ l' → h ≡ h' → j ≡ j' → c ≡ c' → g ≡ g' → m ≡ m' → u ≡ u'
+    → _≡_ {A = Core}
+    (record { banks = k; lcd = l; hdma = h; joypad = j; clock = c; cartridge = g; mapper = m; used = u })
+    (record { banks = k'; lcd = l'; hdma = h'; joypad = j'; clock = c'; cartridge = g'; mapper = m'; used = u' })
+core-same e₁ e₂ e₃ e₄ e₅ e₆ e₇ e₈ = rw (e₁, e₂, e₃, e₄, e₅, e₆, e₇, e₈)
+
 module _ (l : List ℕ) (size : length l ≡ 665) (below : Below 256 l) where
   pub state-read : stateOf l
       ≡ made (take 256 (drop 0 l)) (take 256 (drop 256 l)) (colorsOf (repacked (eights 60) (fives 96) (take 60 (drop 512 l))))
@@ -172,6 +185,22 @@ module _ (l : List ℕ) (size : length l ≡ 665) (below : Below 256 l) where
       let b : take 96 (colorsIn vs) ≡ repacked (eights 60) (fives 96) (take 60 (drop 512 l)) = ap (take 96) (colors-in l size below) ∙ first-colors l size below in
       let s : drop 96 (colorsIn vs) ≡ repacked (eights 60) (fives 96) (take 60 (drop 572 l)) = ap (drop 96) (colors-in l size below) ∙ second-colors l size below in
       made-same o p b s (fields-in l size below)
+
+  pub state-core : coreOf (stateOf l) ≡ coreFrom (fieldsOf (wordsIn l))
+  state-core = ap coreOf state-read
+
+  -- no colour of an image is out of range
+  five-bits : (bytes : List ℕ) → colorsInRange (colorsOf (repacked (eights 60) (fives 96) bytes)) ≡ true
+  five-bits bytes =
+      below-colors (repacked (eights 60) (fives 96) bytes)
+      (fit-below 96 5 (repacked (eights 60) (fives 96) bytes) (omega arith) (repacked-fit (eights 60) (fives 96) bytes))
+
+  pub core-storable : storable (stateOf l) ≡ coreInRange (coreFrom (fieldsOf (wordsIn l))) logLimit
+  unfolding storable
+  core-storable =
+      core-range (stateOf l) logLimit (ap (λ (m : Memory). colorsInRange (m .background)) state-read ∙ five-bits (take 60 (drop 512 l)))
+      (ap (λ (m : Memory). colorsInRange (m .sprites)) state-read ∙ five-bits (take 60 (drop 572 l)))
+      ∙ ap (λ (c : Core). coreInRange c logLimit) state-core
 
   pub load-unsound : sound (fieldsOf (wordsIn l)) ≡ false → loadCall l ≡ loaded outOfRange zeroed
   unfolding loadCall

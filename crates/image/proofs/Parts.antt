@@ -24,6 +24,13 @@ fit-append [] us (v ∷ vs) xs h k = absurd (omega arith)
 fit-append (w ∷ ws) us [] xs h k = absurd (omega arith)
 fit-append (w ∷ ws) us (v ∷ vs) xs h k = (h .0, fit-append ws us vs xs (h .1) k)
 
+pub fit-below : (k w : ℕ) (l : List ℕ) → 0 < 2 ^ w → Fit (replicate k w) l → Below (2 ^ w) l
+fit-below zero w [] z h i = z
+fit-below zero w (v ∷ l) z h i = absurd (omega arith)
+fit-below (suc k) w [] z h i = z
+fit-below (suc k) w (v ∷ l) z h zero = h .0
+fit-below (suc k) w (v ∷ l) z h (suc i) = fit-below k w l z (h .1) i
+
 pub two : (ws us bs cs vs xs : List ℕ) → Fit ws vs → Fit us xs → bits us ≡ bits cs
     → repacked (ws ++ us) (bs ++ cs) (vs ++ xs) ≡ repacked ws bs vs ++ repacked us cs xs
 unfolding repacked

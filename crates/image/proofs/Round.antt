@@ -32,17 +32,10 @@ use Rattle.image.specs.Laws.{Typed, StateBack, ImageBack}
 use Rattle.image.specs.declared.fields.Registers.{Registers}
 use Rattle.image.specs.declared.Loaded.{Loaded}
 use Rattle.image.proofs.ColorLaws.{channels-length, colors-channels, channels-colors}
-use Rattle.image.proofs.Parts.{fit-append, repacked-length, repacked-fit, repacked-back}
+use Rattle.image.proofs.Parts.{fit-append, fit-below, repacked-length, repacked-fit, repacked-back}
 use Rattle.image.proofs.FieldLaws.{joined}
 use Rattle.image.proofs.StateLaws.{storable-state, fields-fit, bytes-fit, background-fit, sprites-fit}
 use Rattle.image.proofs.LoadLaws.{made, made-same, all-same, fields-drop}
-
-fit-below : (k w : ℕ) (l : List ℕ) → 0 < 2 ^ w → Fit (replicate k w) l → Below (2 ^ w) l
-fit-below zero w [] z h i = z
-fit-below zero w (v ∷ l) z h i = absurd (omega arith)
-fit-below (suc k) w [] z h i = z
-fit-below (suc k) w (v ∷ l) z h zero = h .0
-fit-below (suc k) w (v ∷ l) z h (suc i) = fit-below k w l z (h .1) i
 
 -- Single fields, both ways
 
@@ -291,7 +284,7 @@ values-again vs n e =
     ∙ ap (λ (x : List ℕ). b ++ x) (take-append-drop 192 (drop 512 vs))
     ∙ take-append-drop 512 vs
 
-number-done : (a b : Bool) (m : Memory) → cond a (cond b (loaded done m) (loaded outOfRange zeroed)) (loaded wrongLength zeroed) .number ≡ done
+pub number-done : (a b : Bool) (m : Memory) → cond a (cond b (loaded done m) (loaded outOfRange zeroed)) (loaded wrongLength zeroed) .number ≡ done
     → (a ≡ true) × (b ≡ true)
 number-done true true m h = (refl, refl)
 number-done true false m h = absurd (omega arith)

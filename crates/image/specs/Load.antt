@@ -21,10 +21,11 @@ use Rattle.savelog.specs.Log.{logLimit}
 use Rattle.memory.specs.declared.Banks.{Banks}
 use Rattle.memory.specs.declared.Clock.{Clock}
 use Rattle.memory.specs.declared.Memory.{Memory}
-use Rattle.memory.specs.Ranges.{inRange}
+use Rattle.memory.specs.Ranges.{inRange, coreOf}
 use Rattle.memory.specs.Start.{zeroed}
 use Rattle.image.specs.Layout.{imageLen, widths, imageOf}
 use Rattle.image.specs.declared.Loaded.{Loaded}
+use Rattle.image.specs.declared.Opened.{Opened}
 use Rattle.image.specs.declared.fields.Registers.{Registers}
 
 -- no log is lent: use is held to 65,535
@@ -157,3 +158,10 @@ loadCall l =
     cond (eqb (length l) imageLen)
     (cond (sound (fieldsIn (valuesOf l)) && storable (stateOf l)) (loaded done (stateOf l)) (loaded outOfRange zeroed))
     (loaded wrongLength zeroed)
+
+-- a load without the state's arrays: its number, and the rest of the state that it gives
+abbrev pub openedOf : Loaded → Opened
+openedOf r = record { number = r .number; core = coreOf (r .state) }
+
+unfoldable pub openCall : List ℕ → Opened
+openCall l = openedOf (loadCall l)

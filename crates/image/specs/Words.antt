@@ -6,8 +6,10 @@ use lib.ListN.{getD, take, drop}
 use Rattle.packing.specs.Packing.{packed, unpacked, repacked, eights}
 use Rattle.mbc.specs.Mbc.{romBank}
 use Rattle.mbc.specs.declared.mbc.Mapper.{Mapper}
+use Rattle.memory.specs.declared.Core.{Core}
 use Rattle.memory.specs.declared.Memory.{Memory}
 use Rattle.image.specs.Layout.{fieldWidths, bit, complement, kindOf, log2, ramBank, modeBit, enabledBit, highBits}
+use Rattle.image.specs.Load.{banksOf, lcdOf, hdmaOf, joypadOf, clockOf, cartridgeOf, mapperOf, at}
 use Rattle.image.specs.declared.fields.Registers.{Registers}
 use Rattle.image.specs.declared.fields.Words.{Words}
 
@@ -36,6 +38,20 @@ wordList w = w .first ∷ w .second ∷ w .third ∷ w .fourth ∷ w .fifth ∷ 
 -- the fields that the numbers hold
 unfoldable pub fieldsOf : Words → List ℕ
 fieldsOf w = repacked wordWidths fieldWidths (wordList w)
+
+-- the state without its arrays, from the fields
+abbrev pub coreFrom : List ℕ → Core
+coreFrom fs =
+    record {
+      banks = banksOf fs;
+      lcd = lcdOf fs;
+      hdma = hdmaOf fs;
+      joypad = joypadOf fs;
+      clock = clockOf fs;
+      cartridge = cartridgeOf fs;
+      mapper = mapperOf fs;
+      used = at fs 28;
+    }
 
 -- the bytes that they make
 abbrev pub wordBytes : Words → List ℕ

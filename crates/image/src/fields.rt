@@ -9,6 +9,7 @@ use mbc::Mbc1;
 use mbc::Mbc2;
 use memory::Banks;
 use memory::Clock;
+use memory::Core;
 use memory::Memory;
 ghost use mathlib.Core.Path.{_≡_};
 ghost use mathlib.Core.List.{[], _∷_};
@@ -17,7 +18,7 @@ ghost use lib.ListN.{length};
 ghost use Rattle.packing.specs.Packing.{packed};
 ghost use Rattle.image.specs.Layout.{bit, log2};
 ghost use Rattle.image.specs.Load.{banksOf, lcdOf, hdmaOf, joypadOf, clockOf, cartridgeOf, mapperOf, at, sound, romOnlyStarts, startsAs};
-ghost use Rattle.image.specs.Words.{widths1, widths2, widths3, widths4, widths5, fieldsOf, wordBytes, wordsIn, registersOf, registersIn, Narrow, wordsOf, top};
+ghost use Rattle.image.specs.Words.{widths1, widths2, widths3, widths4, widths5, fieldsOf, coreFrom, wordBytes, wordsIn, registersOf, registersIn, Narrow, wordsOf, top};
 
 pub struct Words {
     pub first: u8,
@@ -248,7 +249,7 @@ pub fn words_at(image: &[u8]) -> Words
     }
 }
 
-pub fn banks_of(words: Words) -> Banks
+fn banks_of(words: Words) -> Banks
     ensures { λ r. ⌜ r ≡ banksOf (fieldsOf words) ⌝ }
 {
     Banks {
@@ -258,7 +259,7 @@ pub fn banks_of(words: Words) -> Banks
     }
 }
 
-pub fn lcd_of(words: Words) -> Lcd
+fn lcd_of(words: Words) -> Lcd
     ensures { λ r. ⌜ r ≡ lcdOf (fieldsOf words) ⌝ }
 {
     Lcd {
@@ -277,7 +278,7 @@ pub fn lcd_of(words: Words) -> Lcd
     }
 }
 
-pub fn hdma_of(words: Words) -> Hdma
+fn hdma_of(words: Words) -> Hdma
     ensures { λ r. ⌜ r ≡ hdmaOf (fieldsOf words) ⌝ }
 {
     Hdma {
@@ -287,7 +288,7 @@ pub fn hdma_of(words: Words) -> Hdma
     }
 }
 
-pub fn joypad_of(words: Words) -> Controller
+fn joypad_of(words: Words) -> Controller
     ensures { λ r. ⌜ r ≡ joypadOf (fieldsOf words) ⌝ }
 {
     Controller {
@@ -298,7 +299,7 @@ pub fn joypad_of(words: Words) -> Controller
     }
 }
 
-pub fn clock_of(words: Words) -> Clock
+fn clock_of(words: Words) -> Clock
     ensures { λ r. ⌜ r ≡ clockOf (fieldsOf words) ⌝ }
 {
     Clock {
@@ -315,7 +316,7 @@ fn power_of(log: u16) -> u16
     1 << log
 }
 
-pub fn cartridge_of(words: Words) -> Cartridge
+fn cartridge_of(words: Words) -> Cartridge
     ensures { λ r. ⌜ r ≡ cartridgeOf (fieldsOf words) ⌝ }
 {
     Cartridge {
@@ -338,7 +339,7 @@ fn registers_at(fifth: u64) -> Registers
     }
 }
 
-pub fn mapper_of(words: Words) -> Mapper
+fn mapper_of(words: Words) -> Mapper
     ensures { λ r. ⌜ r ≡ mapperOf (fieldsOf words) ⌝ }
 {
     let r = registers_at(words.fifth);
@@ -360,10 +361,33 @@ pub fn mapper_of(words: Words) -> Mapper
     })
 }
 
-pub fn used_of(words: Words) -> u16
+fn used_of(words: Words) -> u16
     ensures { λ r. ⌜ r ≡ at (fieldsOf words) 28 ⌝ }
 {
     (words.fifth / 2 % 65536) as u16
+}
+
+// The state without its arrays.
+pub fn core_of(words: Words) -> Core
+    ensures { λ r. ⌜ r ≡ coreFrom (fieldsOf words) ⌝ }
+{
+    let banks = banks_of(words);
+    let lcd = lcd_of(words);
+    let hdma = hdma_of(words);
+    let joypad = joypad_of(words);
+    let clock = clock_of(words);
+    let cartridge = cartridge_of(words);
+    let mapper = mapper_of(words);
+    Core {
+        banks: banks,
+        lcd: lcd,
+        hdma: hdma,
+        joypad: joypad,
+        clock: clock,
+        cartridge: cartridge,
+        mapper: mapper,
+        used: used_of(words),
+    }
 }
 
 fn rom_only_starts(r: Registers) -> bool

@@ -5,9 +5,9 @@ ghost use mathlib.Core.Bool.{true};
 ghost use Prim.Native.Nat.{_+_, _≤_};
 ghost use lib.ListN.{length};
 ghost use Rattle.image.specs.Layout.{imageOf};
-ghost use Rattle.image.specs.Load.{storable, stored, storeCall, loaded, stateOf, loadCall};
-ghost use Rattle.image.specs.Words.{wordsIn};
+ghost use Rattle.image.specs.Load.{storable, stored, storeCall, loaded, stateOf, loadCall, openedOf, openCall};
 ghost use Rattle.image.specs.Laws.{Typed, StateBack, ImageBack};
+ghost use Rattle.memory.specs.Ranges.{coreOf};
 ghost use Rattle.memory.specs.Start.{zeroed};
 
 mod colors;
@@ -15,6 +15,7 @@ mod fields;
 
 pub use fields::Registers;
 pub use fields::Words;
+use memory::Core;
 use memory::Memory;
 
 const LENGTH: usize = 665;
@@ -25,6 +26,12 @@ const NO_LOG: usize = 65535;
 pub struct Loaded {
     pub number: u8,
     pub state: Memory,
+}
+
+// The number, and the state that an image gave, without its arrays.
+pub struct Opened {
+    pub number: u8,
+    pub core: Core,
 }
 
 // What the types of a state say.
@@ -67,22 +74,55 @@ pub fn encode(memory: Memory, image: &mut [u8]) -> u8
     numbers::DONE
 }
 
+// A refused load, without the all-zero state's arrays.
+fn closed(number: u8) -> Opened
+    ensures { λ r. ⌜ r ≡ openedOf (loaded number zeroed) ⌝ }
+{
+    let core = memory::core_of(memory::zero());
+    Opened {
+        number: number,
+        core: core,
+    }
+}
+
+// What a load gives, without the arrays: 4 for a length other than 665, 3 for an image that no state in range has. The colours are not
+// looked at: a channel of five bits is in range.
+pub fn open(image: &[u8]) -> Opened
+    ensures { λ r. ⌜ r ≡ openCall (now (image .entry)) ⌝ }
+{
+    if image.len() != LENGTH {
+        return closed(numbers::WRONG_LENGTH);
+    }
+    let words = fields::words_at(image);
+    if !fields::is_sound(words) {
+        return closed(numbers::OUT_OF_RANGE);
+    }
+    let core = fields::core_of(words);
+    if !memory::core_in_range(core, NO_LOG) {
+        return closed(numbers::OUT_OF_RANGE);
+    }
+    Opened {
+        number: numbers::DONE,
+        core: core,
+    }
+}
+
 // The state that an image's bytes hold.
-fn state_of(image: &[u8], words: Words) -> Memory
-    requires { ⌜ (length (now image) ≡ 665) × (words ≡ wordsIn (now image)) ⌝ }
+fn state_of(image: &[u8], core: Core) -> Memory
+    requires { ⌜ (length (now image) ≡ 665) × (core ≡ coreOf (stateOf (now image))) ⌝ }
     ensures { λ r. ⌜ r ≡ stateOf (now (image .entry)) ⌝ }
 {
     let oam = packing::part(image, 0);
     let page = packing::part(image, 256);
     let background = colors::colors_at(&image[512..572]);
     let sprites = colors::colors_at(&image[572..632]);
-    let banks = fields::banks_of(words);
-    let lcd = fields::lcd_of(words);
-    let hdma = fields::hdma_of(words);
-    let joypad = fields::joypad_of(words);
-    let clock = fields::clock_of(words);
-    let cartridge = fields::cartridge_of(words);
-    let mapper = fields::mapper_of(words);
+    let banks = core.banks;
+    let lcd = core.lcd;
+    let hdma = core.hdma;
+    let joypad = core.joypad;
+    let clock = core.clock;
+    let cartridge = core.cartridge;
+    let mapper = core.mapper;
     Memory {
         oam: oam,
         page: page,
@@ -95,7 +135,7 @@ fn state_of(image: &[u8], words: Words) -> Memory
         clock: clock,
         cartridge: cartridge,
         mapper: mapper,
-        used: fields::used_of(words),
+        used: core.used,
     }
 }
 
@@ -110,21 +150,16 @@ fn refused(number: u8) -> Loaded
     }
 }
 
-// The state of an image; 4 for a length other than 665, 3 for an image that no state in range has.
+// The state of an image; refused as `open` is.
 pub fn decode(image: &[u8]) -> Loaded
     ensures { λ r. ⌜ r ≡ loadCall (now (image .entry)) ⌝ }
 {
-    if image.len() != LENGTH {
-        return refused(numbers::WRONG_LENGTH);
+    let opened = open(image);
+    if opened.number != numbers::DONE {
+        return refused(opened.number);
     }
-    let words = fields::words_at(image);
-    if !fields::is_sound(words) {
-        return refused(numbers::OUT_OF_RANGE);
-    }
-    let state = state_of(image, words);
-    if !memory::in_range(state, NO_LOG) {
-        return refused(numbers::OUT_OF_RANGE);
-    }
+    let core = opened.core;
+    let state = state_of(image, core);
     Loaded {
         number: numbers::DONE,
         state: state,

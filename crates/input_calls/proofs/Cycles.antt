@@ -5,10 +5,10 @@ use Prim.Native.Nat.{ℕ, _<_, _≤_}
 use native.Mathlib.Omega.{arith}
 use lib.Dec.{leb}
 use borrow.Author.Tests.{leb-true}
-use Rattle.memory.specs.Ranges.{stateInRange, banksInRange, hdmaInRange}
+use Rattle.memory.specs.Ranges.{stateInRange}
+use Rattle.memory.proofs.Laws.{range-clock}
 use Rattle.memory.specs.declared.Memory.{Memory}
 use Rattle.refusals.specs.Refusal.{cyclesRefused}
-use Rattle.rules.proofs.Tests.{both-true}
 
 pub cycles-pass : (c : ℕ) → cyclesRefused c ≡ 0 → c ≤ 65536
 unfolding cyclesRefused
@@ -20,9 +20,4 @@ cycles-pass c h = leb-true c 65536 (passes (leb c 65536) h)
 
 -- `tima_cycles` of a state in range
 pub tima-below : (m : Memory) → stateInRange m ≡ true → m .clock .tima < 1024
-unfolding stateInRange
-tima-below m h =
-    let a = both-true (banksInRange (m .banks)) _ h in
-    let b = both-true (hdmaInRange (m .hdma) (m .banks .colour)) _ (a .1) in
-    let c = both-true (leb (m .clock .tima) 1023) _ (b .1) in
-    omega (arith, leb-true (m .clock .tima) 1023 (c .0))
+tima-below m h = omega (arith, range-clock m h)

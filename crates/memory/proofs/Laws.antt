@@ -19,7 +19,7 @@ use Rattle.palette.specs.Palette as palette
 use Rattle.palette.specs.Palette.{colorsInRange}
 use Rattle.palette.specs.declared.Color.{Color}
 use Rattle.savelog.specs.Log.{useInRange}
-use Rattle.memory.specs.Ranges.{vramLen, wramLen, banksInRange, hdmaInRange, stateInRange, inRange}
+use Rattle.memory.specs.Ranges.{vramLen, wramLen, banksInRange, hdmaInRange, groupsInRange, stateInRange, inRange, coreOf, coreInRange}
 use Rattle.memory.specs.Start.{startPage, startHdma, zeroed, started}
 use Rattle.memory.specs.World.{withOam, withBackground, withSprites, withBanks, withHdma, withClock, withMapper, withUsed}
 use Rattle.memory.specs.declared.Banks.{Banks}
@@ -99,30 +99,51 @@ pub record Parts (m : Memory) : Type 0 where
   pub sprites : colorsInRange (m .sprites) ≡ true
 
 pub range-parts : (m : Memory) → stateInRange m ≡ true → Parts m
-unfolding stateInRange
+unfolding stateInRange groupsInRange
 range-parts m h =
-    let f = colorsInRange (m .sprites) in
-    let e = colorsInRange (m .background) && f in
-    let d = mbc.inRange (m .cartridge) (m .mapper) && e in
+    let d = mbc.inRange (m .cartridge) (m .mapper) in
     let c = leb (m .clock .tima) 1023 && d in
     let b = hdmaInRange (m .hdma) (m .banks .colour) && c in
-    let s = both-true (banksInRange (m .banks)) b h in
+    let r = both-true (groupsInRange (m .banks) (m .hdma) (m .clock) (m .cartridge) (m .mapper)) (colorsInRange (m .background) && colorsInRange (m .sprites)) h in
+    let s = both-true (banksInRange (m .banks)) b (r .0) in
     let t = both-true (hdmaInRange (m .hdma) (m .banks .colour)) c (s .1) in
     let u = both-true (leb (m .clock .tima) 1023) d (t .1) in
-    let v = both-true (mbc.inRange (m .cartridge) (m .mapper)) e (u .1) in
-    let w = both-true (colorsInRange (m .background)) f (v .1) in
+    let w = both-true (colorsInRange (m .background)) (colorsInRange (m .sprites)) (r .1) in
     record {
       banks = s .0;
       hdma = t .0;
       clock = leb-true (m .clock .tima) 1023 (u .0);
-      mapper = v .0;
+      mapper = u .1;
       background = w .0;
       sprites = w .1;
     }
 
 pub parts-range : (m : Memory) → Parts m → stateInRange m ≡ true
-unfolding stateInRange
+unfolding stateInRange groupsInRange
 parts-range m p = rw (p .banks, p .hdma, le-leb (m .clock .tima) 1023 (p .clock), p .mapper, p .background, p .sprites)
+
+-- A state is in range where it is so without its arrays and its colours are
+
+apart : (a b c : Bool) → ((a && b) && c) ≡ ((a && c) && b)
+apart true true true = refl
+apart true true false = refl
+apart true false true = refl
+apart true false false = refl
+apart false b c = refl
+
+and-true : (a : Bool) → (a && true) ≡ a
+and-true true = refl
+and-true false = refl
+
+pub core-colors : (m : Memory) (limit : ℕ)
+    → inRange m limit ≡ (coreInRange (coreOf m) limit && (colorsInRange (m .background) && colorsInRange (m .sprites)))
+unfolding inRange stateInRange coreInRange
+core-colors m limit =
+    apart (groupsInRange (m .banks) (m .hdma) (m .clock) (m .cartridge) (m .mapper)) (colorsInRange (m .background) && colorsInRange (m .sprites)) (useInRange (m .used) limit)
+
+pub core-range : (m : Memory) (limit : ℕ) → colorsInRange (m .background) ≡ true → colorsInRange (m .sprites) ≡ true
+    → inRange m limit ≡ coreInRange (coreOf m) limit
+core-range m limit b s = core-colors m limit ∙ rw (b, s) (and-true (coreInRange (coreOf m) limit))
 
 module _ (m : Memory) (h : stateInRange m ≡ true) where
   pub range-banks : banksInRange (m .banks) ≡ true
@@ -257,5 +278,5 @@ unfolding inRange useInRange started
 fresh-in-range c kind colour limit h = rw (fresh-range c kind colour h, le-leb 0 limit (omega arith))
 
 pub zero-refused : (limit : ℕ) → inRange zeroed limit ≡ false
-unfolding inRange stateInRange banksInRange zeroed
+unfolding inRange stateInRange groupsInRange banksInRange zeroed
 zero-refused limit = refl

@@ -2,7 +2,7 @@
 // The groups are the records of the crates below; the lent memories are slices, which the calls take beside the state.
 ghost use mathlib.Core.Path.{_≡_};
 ghost use Prim.Native.Nat.{_<_};
-ghost use Rattle.memory.specs.Ranges.{banksInRange, hdmaInRange, stateInRange, inRange, vramLen, wramLen};
+ghost use Rattle.memory.specs.Ranges.{banksInRange, hdmaInRange, groupsInRange, stateInRange, inRange, coreOf, coreInRange, vramLen, wramLen};
 ghost use Rattle.memory.specs.Start.{zeroed, startHdma, started};
 ghost use Rattle.memory.specs.World.{withMapper, withUsed};
 
@@ -44,6 +44,40 @@ pub struct Memory {
     pub mapper: Mapper,
     // The bytes of the log that are used.
     pub used: u16,
+}
+
+// The state without its four arrays: what the ranges read but for the colours, and what the lent lengths follow.
+pub struct Core {
+    pub banks: Banks,
+    pub lcd: Lcd,
+    pub hdma: Hdma,
+    pub joypad: Controller,
+    pub clock: Clock,
+    pub cartridge: Cartridge,
+    pub mapper: Mapper,
+    pub used: u16,
+}
+
+pub fn core_of(memory: Memory) -> Core
+    ensures { λ r. ⌜ r ≡ coreOf memory ⌝ }
+{
+    let banks = memory.banks;
+    let lcd = memory.lcd;
+    let hdma = memory.hdma;
+    let joypad = memory.joypad;
+    let clock = memory.clock;
+    let cartridge = memory.cartridge;
+    let mapper = memory.mapper;
+    Core {
+        banks: banks,
+        lcd: lcd,
+        hdma: hdma,
+        joypad: joypad,
+        clock: clock,
+        cartridge: cartridge,
+        mapper: mapper,
+        used: memory.used,
+    }
 }
 
 // The state with another mapper; a field that is an enum is not stored to, so the record is made anew.
@@ -131,25 +165,38 @@ fn hdma_in_range(hdma: Hdma, colour: bool) -> bool
     !hdma.on
 }
 
+// The ranges of the groups.
+fn groups_in_range(
+    banks: Banks,
+    hdma: Hdma,
+    clock: Clock,
+    cartridge: Cartridge,
+    mapper: Mapper,
+) -> bool
+    ensures { λ r. ⌜ r ≡ groupsInRange banks hdma clock cartridge mapper ⌝ }
+{
+    if !banks_in_range(banks) {
+        return false;
+    }
+    if !hdma_in_range(hdma, banks.colour) {
+        return false;
+    }
+    if 1023 < clock.tima {
+        return false;
+    }
+    mapper.in_range(cartridge)
+}
+
 // The ranges of all but the log use.
 pub fn state_in_range(memory: Memory) -> bool
     ensures { λ r. ⌜ r ≡ stateInRange memory ⌝ }
 {
     let banks = memory.banks;
-    if !banks_in_range(banks) {
-        return false;
-    }
     let hdma = memory.hdma;
-    if !hdma_in_range(hdma, banks.colour) {
-        return false;
-    }
     let clock = memory.clock;
-    if 1023 < clock.tima {
-        return false;
-    }
-    let mapper = memory.mapper;
     let cartridge = memory.cartridge;
-    if !mapper.in_range(cartridge) {
+    let mapper = memory.mapper;
+    if !groups_in_range(banks, hdma, clock, cartridge, mapper) {
         return false;
     }
     let background = memory.background;
@@ -168,6 +215,21 @@ pub fn in_range(memory: Memory, limit: usize) -> bool
         return false;
     }
     savelog::use_in_range(memory.used, limit)
+}
+
+// All ranges but the colours'.
+pub fn core_in_range(core: Core, limit: usize) -> bool
+    ensures { λ r. ⌜ r ≡ coreInRange core limit ⌝ }
+{
+    let banks = core.banks;
+    let hdma = core.hdma;
+    let clock = core.clock;
+    let cartridge = core.cartridge;
+    let mapper = core.mapper;
+    if !groups_in_range(banks, hdma, clock, cartridge, mapper) {
+        return false;
+    }
+    savelog::use_in_range(core.used, limit)
 }
 
 // The state that a refused fresh start gives. It is out of range: it has no WRAM bank.

@@ -4,8 +4,11 @@ use Prim.Native.Nat.{ℕ, _+_, _%_}
 use lib.Dec.{eqb, ltb, leb}
 use lib.ListN.{length}
 use Rattle.mbc.specs.Mbc.{romLen, ramLen}
-use Rattle.memory.specs.Ranges.{inRange, vramLen, wramLen, soundLen}
+use Rattle.mbc.specs.declared.cartridge.Cartridge.{Cartridge}
+use Rattle.mbc.specs.declared.mbc.Mapper.{Mapper}
+use Rattle.memory.specs.Ranges.{inRange, coreInRange, vramLen, wramLen, soundLen}
 use Rattle.memory.specs.World.{World, Fixed}
+use Rattle.memory.specs.declared.Core.{Core}
 use Rattle.memory.specs.declared.Memory.{Memory}
 use Rattle.numbers.specs.Numbers.{done, owed, noRoom, outOfRange, wrongLength, tooManyCycles, outside}
 use Rattle.savelog.specs.Log.{width, logLimit}
@@ -22,16 +25,27 @@ stateRefused m limit = cond (inRange m limit) done outOfRange
 abbrev pub refusedState : Memory → ℕ
 refusedState m = stateRefused m logLimit
 
+-- and by its groups alone, where the colours are known to be in range
+unfoldable pub coreRefused : Core → ℕ → ℕ
+coreRefused c limit = cond (coreInRange c limit) done outOfRange
+
 -- 4: a lent length other than the state asks for
+abbrev pub partsFit : Cartridge → Mapper → Bool → ℕ → ℕ → ℕ → ℕ → ℕ → Bool
+partsFit cartridge mapper colour rom vram wram save sound =
+    eqb rom (romLen cartridge)
+    && (eqb vram (vramLen colour)
+    && (eqb wram (wramLen colour)
+    && (eqb save (ramLen cartridge mapper) && eqb sound soundLen)))
+
 unfoldable pub lengthsFit : Memory → ℕ → ℕ → ℕ → ℕ → ℕ → Bool
-lengthsFit m rom vram wram save sound =
-    eqb rom (romLen (m .cartridge))
-    && (eqb vram (vramLen (m .banks .colour))
-    && (eqb wram (wramLen (m .banks .colour))
-    && (eqb save (ramLen (m .cartridge) (m .mapper)) && eqb sound soundLen)))
+lengthsFit m rom vram wram save sound = partsFit (m .cartridge) (m .mapper) (m .banks .colour) rom vram wram save sound
 
 unfoldable pub lengthsRefused : Memory → ℕ → ℕ → ℕ → ℕ → ℕ → ℕ
 lengthsRefused m rom vram wram save sound = cond (lengthsFit m rom vram wram save sound) done wrongLength
+
+unfoldable pub coreLengthsRefused : Core → ℕ → ℕ → ℕ → ℕ → ℕ → ℕ
+coreLengthsRefused c rom vram wram save sound =
+    cond (partsFit (c .cartridge) (c .mapper) (c .banks .colour) rom vram wram save sound) done wrongLength
 
 -- a call that reads the lent memories
 unfoldable pub readRefused : Memory → ℕ → ℕ → ℕ → ℕ → ℕ → ℕ
@@ -45,6 +59,10 @@ logRefused log = cond (leb log logLimit) done wrongLength
 unfoldable pub writeRefused : Memory → ℕ → ℕ → ℕ → ℕ → ℕ → ℕ → ℕ
 writeRefused m rom vram wram save sound log =
     orElse (stateRefused m log) (orElse (lengthsRefused m rom vram wram save sound) (logRefused log))
+
+unfoldable pub coreWriteRefused : Core → ℕ → ℕ → ℕ → ℕ → ℕ → ℕ → ℕ
+coreWriteRefused c rom vram wram save sound log =
+    orElse (coreRefused c log) (orElse (coreLengthsRefused c rom vram wram save sound) (logRefused log))
 
 -- an index of the save's window, A000..BFFF
 unfoldable pub inSave : ℕ → Bool

@@ -1,7 +1,10 @@
 // What a call answers; when it is refused, and by which number. Lengths come as numbers, so that a call asks before it touches what is lent.
 ghost use mathlib.Core.Path.{_≡_};
-ghost use Rattle.refusals.specs.Refusal.{orElse, stateRefused, refusedState, lengthsFit, lengthsRefused, logRefused, readRefused, writeRefused, inSave, inSound, nextIndex, eitherInSave, byteRoom, wordRoom, byteOwed, wordOwed, rawRefused, cyclesRefused, vramLengthRefused, hasBank, vramRefused};
+ghost use Rattle.refusals.specs.Refusal.{orElse, stateRefused, refusedState, coreRefused, partsFit, lengthsRefused, coreLengthsRefused, logRefused, readRefused, writeRefused, coreWriteRefused, inSave, inSound, nextIndex, eitherInSave, byteRoom, wordRoom, byteOwed, wordOwed, rawRefused, cyclesRefused, vramLengthRefused, hasBank, vramRefused};
 use interrupt::Pending;
+use mbc::Cartridge;
+use mbc::Mapper;
+use memory::Core;
 use memory::Memory;
 
 // The number, and the state after the call.
@@ -63,26 +66,35 @@ pub fn refused(memory: Memory) -> u8
     state_refused(memory, LOG_LIMIT)
 }
 
+// The state without its arrays, as an image gives it: no colour of an image is out of range.
+fn core_refused(core: Core, limit: usize) -> u8
+    ensures { λ r. ⌜ r ≡ coreRefused core limit ⌝ }
+{
+    if memory::core_in_range(core, limit) {
+        return numbers::DONE;
+    }
+    numbers::OUT_OF_RANGE
+}
+
 fn lengths_fit(
-    memory: Memory,
+    cartridge: Cartridge,
+    mapper: Mapper,
+    colour: bool,
     rom: usize,
     vram: usize,
     wram: usize,
     save: usize,
     sound: usize,
 ) -> bool
-    ensures { λ r. ⌜ r ≡ lengthsFit memory rom vram wram save sound ⌝ }
+    ensures { λ r. ⌜ r ≡ partsFit cartridge mapper colour rom vram wram save sound ⌝ }
 {
-    let cartridge = memory.cartridge;
-    let mapper = memory.mapper;
-    let banks = memory.banks;
     if rom != cartridge.rom_len() {
         return false;
     }
-    if vram != memory::vram_len(banks.colour) {
+    if vram != memory::vram_len(colour) {
         return false;
     }
-    if wram != memory::wram_len(banks.colour) {
+    if wram != memory::wram_len(colour) {
         return false;
     }
     if save != mapper.ram_len(cartridge) {
@@ -101,7 +113,47 @@ pub fn lengths_refused(
 ) -> u8
     ensures { λ r. ⌜ r ≡ lengthsRefused memory rom vram wram save sound ⌝ }
 {
-    if lengths_fit(memory, rom, vram, wram, save, sound) {
+    let cartridge = memory.cartridge;
+    let mapper = memory.mapper;
+    let banks = memory.banks;
+    if lengths_fit(
+        cartridge,
+        mapper,
+        banks.colour,
+        rom,
+        vram,
+        wram,
+        save,
+        sound,
+    ) {
+        return numbers::DONE;
+    }
+    numbers::WRONG_LENGTH
+}
+
+pub fn core_lengths_refused(
+    core: Core,
+    rom: usize,
+    vram: usize,
+    wram: usize,
+    save: usize,
+    sound: usize,
+) -> u8
+    ensures { λ r. ⌜ r ≡ coreLengthsRefused core rom vram wram save sound ⌝ }
+{
+    let cartridge = core.cartridge;
+    let mapper = core.mapper;
+    let banks = core.banks;
+    if lengths_fit(
+        cartridge,
+        mapper,
+        banks.colour,
+        rom,
+        vram,
+        wram,
+        save,
+        sound,
+    ) {
         return numbers::DONE;
     }
     numbers::WRONG_LENGTH
@@ -146,6 +198,23 @@ pub fn write_refused(
 {
     let state = state_refused(memory, log);
     let lengths = lengths_refused(memory, rom, vram, wram, save, sound);
+    let rest = or_else(lengths, log_refused(log));
+    or_else(state, rest)
+}
+
+pub fn core_write_refused(
+    core: Core,
+    rom: usize,
+    vram: usize,
+    wram: usize,
+    save: usize,
+    sound: usize,
+    log: usize,
+) -> u8
+    ensures { λ r. ⌜ r ≡ coreWriteRefused core rom vram wram save sound log ⌝ }
+{
+    let state = core_refused(core, log);
+    let lengths = core_lengths_refused(core, rom, vram, wram, save, sound);
     let rest = or_else(lengths, log_refused(log));
     or_else(state, rest)
 }
