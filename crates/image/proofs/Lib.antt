@@ -5,3 +5,4 @@ pub mod StateLaws
 pub mod LoadLaws
 pub mod Round
 pub mod OpenLaws
+pub mod PatchLaws

@@ -199,7 +199,7 @@ fields-number m =
     enabledBit (m .mapper) ∷ highBits (m .mapper) ∷ m .used ∷ 0 ∷ [])
     refl refl refl refl
 
-words-sized : (m : Memory) → Fit fieldWidths (fieldValues m) → Sized (wordsOf m)
+pub words-sized : (m : Memory) → Fit fieldWidths (fieldValues m) → Sized (wordsOf m)
 unfolding wordsOf
 words-sized m h =
     record {

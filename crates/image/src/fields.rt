@@ -44,7 +44,7 @@ fn bit_of(b: bool) -> u8
     if b { 1 } else { 0 }
 }
 
-fn registers_of(mapper: Mapper) -> Registers
+pub fn registers_of(mapper: Mapper) -> Registers
     ensures { λ r. ⌜ r ≡ registersOf mapper ⌝ }
 {
     match mapper {
@@ -134,7 +134,7 @@ fn fourth_of(counter: u32, aux: u32, window: u32) -> u64
 }
 
 // The window line's lower bits, the mapper's fields, log use, and one 0 bit.
-fn fifth_of(window: u32, log: u8, code: u8, r: Registers, used: u16) -> u64
+pub fn fifth_of(window: u32, log: u8, code: u8, r: Registers, used: u16) -> u64
     requires { ⌜ (log < 8) × (code < 4) × (r .kind < 4) × (r .rom < 128) × (r .ram < 4) × (r .mode < 2) × (r .enabled < 2) × (r .high < 4) ⌝ }
     ensures { λ n. ⌜ n ≡ packed widths5 (window % top ∷ r .kind ∷ log ∷ code ∷ r .rom ∷ r .ram ∷ r .mode ∷ r .enabled ∷ r .high ∷ used ∷ 0 ∷ []) ⌝ }
 {

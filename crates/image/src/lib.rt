@@ -12,11 +12,13 @@ ghost use Rattle.memory.specs.Start.{zeroed};
 
 mod colors;
 mod fields;
+mod patches;
 
 pub use fields::Registers;
 pub use fields::Words;
 use memory::Core;
 use memory::Memory;
+pub use patches::put_mapping;
 
 const LENGTH: usize = 665;
 
