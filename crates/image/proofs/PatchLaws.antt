@@ -9,7 +9,7 @@ use native.Mathlib.Omega.{arith}
 use lib.ListN.{length, take, drop, getD, set, length-append}
 use lib.Seq.{paste, take-append-add, drop-append-add}
 use Rattle.packing.specs.Packing.{Below, packed, unpacked, repacked, eights, fives}
-use Rattle.packing.proofs.Laws.{Fit, pack-unpack, unpack-pack}
+use Rattle.packing.proofs.Laws.{Fit, pack-append, pack-unpack, unpack-pack}
 use Rattle.mbc.specs.Mbc as mbc
 use Rattle.mbc.specs.declared.mbc.Mapper.{Mapper}
 use Rattle.joypad.specs.declared.Controller.{Controller}
@@ -19,8 +19,8 @@ use Rattle.memory.specs.World.{withOam, withPage, withJoypad, withClock, withMa
 use Rattle.image.specs.Layout.{fieldWidths, bit, complement, kindOf, log2, ramBank, modeBit, enabledBit, highBits, channels, fieldValues, imageOf}
 use Rattle.image.specs.Load.{storable}
 use Rattle.image.specs.Laws.{Typed}
-use Rattle.image.specs.Words.{widths5, top, wordBytes, wordsOf, fifth}
-use Rattle.image.specs.Patches.{numberIn, withNumber, Slim, remapped, mappingPut}
+use Rattle.image.specs.Words.{widths2, widths5, top, wordBytes, wordsOf, second, fifth}
+use Rattle.image.specs.Patches.{numberIn, withNumber, Slim, remapped, mappingPut, reclocked, clockPut}
 use Rattle.image.specs.declared.fields.Words.{Words}
 use Rattle.image.proofs.ColorLaws.{channels-length}
 use Rattle.image.proofs.FieldLaws.{joined}
@@ -127,3 +127,36 @@ module _ (m : Memory) (t : Typed m) (h : storable m ≡ true) where
       ap (λ (n : ℕ). withNumber (imageOf m) 657 (remapped n p u)) fifth-read
       ∙ ap (withNumber (imageOf m) 657) (remapped-fifth p u)
       ∙ number-put m t h m' (typed-with m t (m .joypad) (m .clock) p u (t .released) (t .state) (t .div)) k refl 25 (fifth m') (fifth-put (wordsOf m) (fifth m'))
+
+-- The timer's two numbers
+
+second-put : (w : Words) (n : ℕ)
+    → withNumber (wordBytes w) 1 n ≡ wordBytes (record { first = w .first; second = n; third = w .third; fourth = w .fourth; fifth = w .fifth })
+second-put w n = refl
+
+-- six values stand before them, one behind
+reclocked-by : (hs : List ℕ) (d t s : ℕ) (c : Clock) → length hs ≡ 6 → d < 256 → t < 1024 → s < 32
+    → reclocked (packed widths2 (hs ++ (d ∷ t ∷ s ∷ []))) c ≡ packed widths2 (hs ++ (c .div ∷ c .tima ∷ s ∷ []))
+reclocked-by hs d t s c e hd ht hs' =
+    let ws : List ℕ = 1 ∷ 8 ∷ 8 ∷ 8 ∷ 8 ∷ 8 ∷ [] in
+    let us : List ℕ = 8 ∷ 10 ∷ 5 ∷ [] in
+    rw (pack-append ws us hs (d ∷ t ∷ s ∷ []) e, pack-append ws us hs (c .div ∷ c .tima ∷ s ∷ []) e) (omega arith)
+
+module _ (m : Memory) (t : Typed m) (h : storable m ≡ true) where
+  second-read : numberIn (imageOf m) 633 ≡ second m
+  unfolding wordsOf
+  second-read = number-read m t h 1 ∙ pack-unpack (eights 8) (second m) (words-sized m (fields-fit m t h) .second)
+
+  reclocked-second : (c : Clock) → reclocked (second m) c ≡ second (withClock m c (m .page))
+  reclocked-second c =
+      let s = t .source in
+      reclocked-by (bit (m .joypad .direction) ∷ m .joypad .state ∷ m .joypad .released ∷ m .lcd .line ∷ m .lcd .signal ∷ m .lcd .mode ∷ [])
+      (m .clock .div) (m .clock .tima) (m .hdma .source / 2048) c refl (t .div) (narrow m h .tima) (omega arith)
+
+  pub clock-image : (c : Clock) → c .div < 256 → storable (withClock m c (m .page)) ≡ true → clockPut (imageOf m) c ≡ imageOf (withClock m c (m .page))
+  unfolding clockPut wordsOf front
+  clock-image c d k =
+      let m' = withClock m c (m .page) in
+      ap (λ (n : ℕ). withNumber (imageOf m) 633 (reclocked n c)) second-read
+      ∙ ap (withNumber (imageOf m) 633) (reclocked-second c)
+      ∙ number-put m t h m' (typed-with m t (m .joypad) c (m .mapper) (m .used) (t .released) (t .state) d) k refl 1 (second m') (second-put (wordsOf m) (second m'))

@@ -6,6 +6,7 @@ use lib.Seq.{paste}
 use Rattle.packing.specs.Packing.{packed, unpacked, eights}
 use Rattle.mbc.specs.Mbc.{romBank}
 use Rattle.mbc.specs.declared.mbc.Mapper.{Mapper}
+use Rattle.memory.specs.declared.Clock.{Clock}
 use Rattle.image.specs.Layout.{kindOf, ramBank, modeBit, enabledBit, highBits}
 use Rattle.image.specs.Words.{widths5, top}
 
@@ -31,3 +32,11 @@ remapped n p u =
 
 unfoldable pub mappingPut : List ℕ → Mapper → ℕ → List ℕ
 mappingPut l p u = withNumber l 657 (remapped (numberIn l 657) p u)
+
+-- `div_cycles` and `tima_cycles` lie in the number of the timer: 41 bits before them and 5 behind stay
+
+abbrev pub reclocked : ℕ → Clock → ℕ
+reclocked n c = packed (41 ∷ 8 ∷ 10 ∷ 5 ∷ []) (n / 0x800000 ∷ c .div ∷ c .tima ∷ n % 32 ∷ [])
+
+unfoldable pub clockPut : List ℕ → Clock → List ℕ
+clockPut l c = withNumber l 633 (reclocked (numberIn l 633) c)
