@@ -4,10 +4,10 @@ use mathlib.Core.Bool.{true}
 use mathlib.Core.Path.{_≡_, refl, sym, ap, _∙_}
 use mathlib.Core.List.{List, [], _∷_, _++_, append-assoc}
 use Prim.Native.Nat.{ℕ, zero, suc, _+_, _*_, _/_, _%_, _^_, _<_, _≤_}
-use native.Mathlib.Nat.{add-assoc}
+use native.Mathlib.Nat.{add-assoc, zero-add, suc-add}
 use native.Mathlib.Omega.{arith}
-use lib.ListN.{length, take, drop, getD, set, length-append}
-use lib.Seq.{paste, take-append-add, drop-append-add}
+use lib.ListN.{length, take, drop, getD, set, length-append, length-set}
+use lib.Seq.{paste, take-append-add, drop-append-add, set-append-left}
 use Rattle.packing.specs.Packing.{Below, packed, unpacked, repacked, eights, fives}
 use Rattle.packing.proofs.Laws.{Fit, pack-append, pack-unpack, unpack-pack}
 use Rattle.mbc.specs.Mbc as mbc
@@ -16,6 +16,7 @@ use Rattle.joypad.specs.declared.Controller.{Controller}
 use Rattle.memory.specs.declared.Clock.{Clock}
 use Rattle.memory.specs.declared.Memory.{Memory}
 use Rattle.memory.specs.World.{withOam, withPage, withJoypad, withClock, withMapper, withUsed}
+use Rattle.memory.specs.Ranges.{stateInRange, inRange}
 use Rattle.image.specs.Layout.{fieldWidths, bit, complement, kindOf, log2, ramBank, modeBit, enabledBit, highBits, channels, fieldValues, imageOf}
 use Rattle.image.specs.Load.{storable}
 use Rattle.image.specs.Laws.{Typed}
@@ -36,12 +37,26 @@ module _ (p l : List ℕ) (o : ℕ) (e : length p ≡ o) (k : ℕ) where
   put-behind s n =
       rw (← e) (rw (take-append-add p l k, add-assoc (length p) k n, drop-append-add p l (k + n)) (simp append-assoc))
 
--- the bytes before the fields
+-- OAM and page, the colours, the fields
+colours : Memory → List ℕ
+colours m = repacked (fives 96) (eights 60) (channels (m .background)) ++ repacked (fives 96) (eights 60) (channels (m .sprites))
+
+rest : Memory → List ℕ
+rest m = colours m ++ wordBytes (wordsOf m)
+
 front : Memory → List ℕ
-front m = (m .oam ++ m .page) ++ (repacked (fives 96) (eights 60) (channels (m .background)) ++ repacked (fives 96) (eights 60) (channels (m .sprites)))
+front m = (m .oam ++ m .page) ++ colours m
+
+image-bytes : (m : Memory) → Typed m → storable m ≡ true → imageOf m ≡ (m .oam ++ m .page) ++ rest m
+unfolding colours rest
+image-bytes m t h = sym (image-stored m t h _ _ _ refl refl refl)
+
+image-fields : (m : Memory) → Typed m → storable m ≡ true → imageOf m ≡ front m ++ wordBytes (wordsOf m)
+unfolding rest front
+image-fields m t h = image-bytes m t h ∙ sym (append-assoc (m .oam ++ m .page) (colours m) (wordBytes (wordsOf m)))
 
 front-length : (m : Memory) → Typed m → length (front m) ≡ 632
-unfolding front
+unfolding front colours
 front-length m t =
     let o = t .oam .0 in
     let p = t .page .0 in
@@ -49,18 +64,17 @@ front-length m t =
     let s = repacked-length (fives 96) (eights 60) (channels (m .sprites)) in
     simp length-append (omega arith)
 
-image-fields : (m : Memory) → Typed m → storable m ≡ true → imageOf m ≡ front m ++ wordBytes (wordsOf m)
-unfolding front
-image-fields m t h =
-    sym (image-stored m t h _ _ _ refl refl refl) ∙ sym (append-assoc (m .oam ++ m .page) _ _)
+abbrev Bytes : List ℕ → Type 0
+Bytes l = (length l ≡ 256) × Below 256 l
 
--- what the types say holds of a state with another joypad, clock, mapper and log use
-pub typed-with : (m : Memory) → Typed m → (j : Controller) (c : Clock) (p : Mapper) (u : ℕ)
-    → j .released < 256 → j .state < 256 → c .div < 256 → Typed (withUsed (withMapper (withClock (withJoypad m j (m .page)) c (m .page)) p) u)
-typed-with m t j c p u r s d =
+-- what the types say holds of a state with other parts
+pub typed-with : (m : Memory) → Typed m → (o p : List ℕ) (j : Controller) (c : Clock) (x : Mapper) (u : ℕ)
+    → Bytes o → Bytes p → j .released < 256 → j .state < 256 → c .div < 256
+    → Typed (withUsed (withMapper (withClock (withJoypad (withOam m o) j p) c p) x) u)
+typed-with m t o p j c x u ho hp r s d =
     record {
-      oam = t .oam;
-      page = t .page;
+      oam = ho;
+      page = hp;
       background = t .background;
       sprites = t .sprites;
       released = r;
@@ -121,12 +135,12 @@ module _ (m : Memory) (t : Typed m) (h : storable m ≡ true) where
 
   pub mapping-image : (p : Mapper) (u : ℕ) → storable (withUsed (withMapper m p) u) ≡ true
       → mappingPut (imageOf m) p u ≡ imageOf (withUsed (withMapper m p) u)
-  unfolding mappingPut wordsOf front
+  unfolding mappingPut wordsOf front colours
   mapping-image p u k =
       let m' = withUsed (withMapper m p) u in
       ap (λ (n : ℕ). withNumber (imageOf m) 657 (remapped n p u)) fifth-read
       ∙ ap (withNumber (imageOf m) 657) (remapped-fifth p u)
-      ∙ number-put m t h m' (typed-with m t (m .joypad) (m .clock) p u (t .released) (t .state) (t .div)) k refl 25 (fifth m') (fifth-put (wordsOf m) (fifth m'))
+      ∙ number-put m t h m' (typed-with m t (m .oam) (m .page) (m .joypad) (m .clock) p u (t .oam) (t .page) (t .released) (t .state) (t .div)) k refl 25 (fifth m') (fifth-put (wordsOf m) (fifth m'))
 
 -- The timer's two numbers
 
@@ -154,9 +168,59 @@ module _ (m : Memory) (t : Typed m) (h : storable m ≡ true) where
       (m .clock .div) (m .clock .tima) (m .hdma .source / 2048) c refl (t .div) (narrow m h .tima) (omega arith)
 
   pub clock-image : (c : Clock) → c .div < 256 → storable (withClock m c (m .page)) ≡ true → clockPut (imageOf m) c ≡ imageOf (withClock m c (m .page))
-  unfolding clockPut wordsOf front
+  unfolding clockPut wordsOf front colours
   clock-image c d k =
       let m' = withClock m c (m .page) in
       ap (λ (n : ℕ). withNumber (imageOf m) 633 (reclocked n c)) second-read
       ∙ ap (withNumber (imageOf m) 633) (reclocked-second c)
-      ∙ number-put m t h m' (typed-with m t (m .joypad) c (m .mapper) (m .used) (t .released) (t .state) d) k refl 1 (second m') (second-put (wordsOf m) (second m'))
+      ∙ number-put m t h m' (typed-with m t (m .oam) (m .page) (m .joypad) c (m .mapper) (m .used) (t .oam) (t .page) (t .released) (t .state) d) k refl 1 (second m') (second-put (wordsOf m) (second m'))
+
+-- A byte of OAM or page: the first 512 bytes are these
+
+set-append-right : (xs ys : List ℕ) (i v : ℕ) → set (xs ++ ys) (length xs + i) v ≡ xs ++ set ys i v
+set-append-right [] ys i v = rw (zero-add i)
+set-append-right (x ∷ xs) ys i v = rw (suc-add (length xs) i, set-append-right xs ys i v)
+
+below-set : (k : ℕ) (l : List ℕ) (i v : ℕ) → Below k l → v < k → Below k (set l i v)
+below-set k [] i v h b j = h j
+below-set k (x ∷ l) zero v h b zero = b
+below-set k (x ∷ l) zero v h b (suc j) = h (suc j)
+below-set k (x ∷ l) (suc i) v h b zero = h 0
+below-set k (x ∷ l) (suc i) v h b (suc j) = below-set k l i v (λ n. h (suc n)) b j
+
+bytes-set : (l : List ℕ) (i v : ℕ) → Bytes l → v < 256 → Bytes (set l i v)
+bytes-set l i v h b = (simp length-set (h .0), below-set 256 l i v (h .1) b)
+
+pub typed-bytes : (m : Memory) → Typed m → (o p : List ℕ) → Bytes o → Bytes p → Typed (withPage (withOam m o) p)
+typed-bytes m t o p ho hp = typed-with m t o p (m .joypad) (m .clock) (m .mapper) (m .used) ho hp (t .released) (t .state) (t .div)
+
+pub storable-bytes : (m : Memory) (o p : List ℕ) → storable (withPage (withOam m o) p) ≡ storable m
+unfolding storable inRange stateInRange
+storable-bytes m o p = refl
+
+module _ (m : Memory) (t : Typed m) (h : storable m ≡ true) (i v : ℕ) (hi : i < 256) (hv : v < 256) where
+  stored-left : (xs ys : List ℕ) → length xs ≡ 256 → set ((xs ++ ys) ++ rest m) i v ≡ (set xs i v ++ ys) ++ rest m
+  stored-left xs ys e =
+      let n : i < length xs = omega arith in
+      let k : i < length (xs ++ ys) = rw (length-append xs ys) (omega arith) in
+      rw (set-append-left (xs ++ ys) (rest m) i v k, set-append-left xs ys i v n)
+
+  stored-right : (xs ys : List ℕ) → length xs ≡ 256 → length ys ≡ 256 → set ((xs ++ ys) ++ rest m) (256 + i) v ≡ (xs ++ set ys i v) ++ rest m
+  stored-right xs ys e d =
+      let k : 256 + i < length (xs ++ ys) = rw (length-append xs ys) (omega arith) in
+      let q : set (xs ++ ys) (256 + i) v ≡ xs ++ set ys i v = rw (← e) (set-append-right xs ys i v) in
+      rw (set-append-left (xs ++ ys) (rest m) (256 + i) v k, q)
+
+  pub oam-image : imageOf (withOam m (set (m .oam) i v)) ≡ set (imageOf m) i v
+  unfolding rest colours wordsOf
+  oam-image =
+      let o = set (m .oam) i v in
+      image-bytes (withOam m o) (typed-bytes m t o (m .page) (bytes-set (m .oam) i v (t .oam) hv) (t .page)) (storable-bytes m o (m .page) ∙ h)
+      ∙ sym (ap (λ (l : List ℕ). set l i v) (image-bytes m t h) ∙ stored-left (m .oam) (m .page) (t .oam .0))
+
+  pub page-image : imageOf (withPage m (set (m .page) i v)) ≡ set (imageOf m) (256 + i) v
+  unfolding rest colours wordsOf
+  page-image =
+      let p = set (m .page) i v in
+      image-bytes (withPage m p) (typed-bytes m t (m .oam) p (t .oam) (bytes-set (m .page) i v (t .page) hv)) (storable-bytes m (m .oam) p ∙ h)
+      ∙ sym (ap (λ (l : List ℕ). set l (256 + i) v) (image-bytes m t h) ∙ stored-right (m .oam) (m .page) (t .oam .0) (t .page .0))
