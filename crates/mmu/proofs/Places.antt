@@ -11,16 +11,19 @@ use borrow.Author.Tests.{lt-ltb, le-ltb, ltb-true, ltb-false}
 use Rattle.mbc.proofs.Bools.{by-cond}
 use Rattle.rules.proofs.Tests.{cond-true, cond-false}
 use Rattle.mbc.specs.Mbc.{readAt, answer, inRange}
+use Rattle.mbc.specs.declared.cartridge.Cartridge.{Cartridge}
 use Rattle.mbc.specs.declared.mbc.Answer.{Answer}
 use Rattle.mbc.specs.declared.mbc.Answer.the-variants.{Stored, NotStored}
+use Rattle.mbc.specs.declared.mbc.Mapper.{Mapper}
 use Rattle.memory.proofs.Laws.{range-banks, range-mapper, vram-fits, wram-fits}
 use Rattle.memory.specs.World.{World, world, Fixed, withOam, withUsed}
+use Rattle.memory.specs.declared.Banks.{Banks}
 use Rattle.memory.specs.declared.Memory.{Memory}
 use Rattle.registers.proofs.Kept.{cond-both}
 use Rattle.registers.specs.Page.{readRegister, writeRegister}
 use Rattle.savelog.specs.Log.{width, appended}
 use Rattle.mmu.specs.PanDocs.{echo, vramAt, wramAt}
-use Rattle.mmu.specs.Access.{Holds, byteAt, readByte, mapperPut, saved, savePut, inState, inVram, inWram, putAt, put}
+use Rattle.mmu.specs.Access.{Holds, Ready, Reaches, lentAt, byteAt, readByte, mapperPut, saved, savePut, inState, inVram, inWram, putAt, put}
 
 -- bounds: what a world that holds gives the regions
 
@@ -47,71 +50,78 @@ wram-below bank i n a b p q =
 
 -- reads
 
+pub ready-reaches : {x : Fixed} {w : World} → Ready x w
+    → Reaches (w .state .cartridge) (w .state .mapper) (w .state .banks) (x .rom) (w .vram) (w .wram) (w .save)
+ready-reaches r =
+    record {
+      mapper = holds-mapper (r .holds);
+      rom = r .rom;
+      save = r .holds .save;
+      vram = holds-vram (r .holds);
+      wram = holds-wram (r .holds);
+    }
+
+module _ (c : Cartridge) (m : Mapper) (b : Banks) (rom v w s : List ℕ) (i : ℕ) where
+  pub lent-rom : i < 0x8000 → readAt c m rom s i ≡ lentAt c m b rom v w s i
+  unfolding lentAt
+  lent-rom h = simp (lt-ltb i 0x8000 h)
+
+  pub lent-vram : 0x8000 ≤ i → i < 0xA000 → getD v (vramAt (b .vram) i) 0 ≡ lentAt c m b rom v w s i
+  unfolding lentAt
+  lent-vram h l = simp (le-ltb i 0x8000 h, lt-ltb i 0xA000 l)
+
+  pub lent-save : 0xA000 ≤ i → i < 0xC000 → readAt c m rom s i ≡ lentAt c m b rom v w s i
+  unfolding lentAt
+  lent-save h l = simp (le-ltb i 0x8000 (omega arith), le-ltb i 0xA000 h, lt-ltb i 0xC000 l)
+
+  pub lent-wram : 0xC000 ≤ i → getD w (wramAt (b .wram) i) 0 ≡ lentAt c m b rom v w s i
+  unfolding lentAt
+  lent-wram h = simp (le-ltb i 0x8000 (omega arith), le-ltb i 0xA000 (omega arith), le-ltb i 0xC000 h)
+
 module _ (x : Fixed) (m : Memory) (v w s : List ℕ) (index i : ℕ) (e : i ≡ echo index) where
   as-read : (b : ℕ) → byteAt x m v w s i ≡ b → b ≡ readByte x m v w s index
   as-read b p = sym p ∙ ap (byteAt x m v w s) e
 
-  pub read-rom : i < 0x8000 → readAt (m .cartridge) (m .mapper) (x .rom) s i ≡ readByte x m v w s index
+  pub read-lent : i < 0xE000 → lentAt (m .cartridge) (m .mapper) (m .banks) (x .rom) v w s i ≡ readByte x m v w s index
   unfolding byteAt
-  read-rom a = as-read _ (simp (lt-ltb i 0x8000 a))
-
-  pub read-vram : 0x8000 ≤ i → i < 0xA000 → getD v (vramAt (m .banks .vram) i) 0 ≡ readByte x m v w s index
-  unfolding byteAt
-  read-vram a b = as-read _ (simp (le-ltb i 0x8000 a, lt-ltb i 0xA000 b))
-
-  pub read-save : 0xA000 ≤ i → i < 0xC000 → readAt (m .cartridge) (m .mapper) (x .rom) s i ≡ readByte x m v w s index
-  unfolding byteAt
-  read-save a b = as-read _ (simp (le-ltb i 0x8000 (omega arith), le-ltb i 0xA000 a, lt-ltb i 0xC000 b))
+  read-lent a = as-read _ (simp (lt-ltb i 0xE000 a))
 
   pub read-wram : 0xC000 ≤ i → i < 0xE000 → getD w (wramAt (m .banks .wram) i) 0 ≡ readByte x m v w s index
-  unfolding byteAt
-  read-wram a b =
-      as-read _ (simp (le-ltb i 0x8000 (omega arith), le-ltb i 0xA000 (omega arith), le-ltb i 0xC000 a, lt-ltb i 0xE000 b))
+  read-wram a b = lent-wram (m .cartridge) (m .mapper) (m .banks) (x .rom) v w s i a ∙ read-lent b
 
   pub read-oam : 0xE000 ≤ i → i < 0xFF00 → getD (m .oam) (i - 0xFE00) 0 ≡ readByte x m v w s index
   unfolding byteAt
-  read-oam a b =
-      as-read _
-      (simp (
-        le-ltb i 0x8000 (omega arith),
-        le-ltb i 0xA000 (omega arith),
-        le-ltb i 0xC000 (omega arith),
-        le-ltb i 0xE000 a,
-        lt-ltb i 0xFF00 b,
-      ))
+  read-oam a b = as-read _ (simp (le-ltb i 0xE000 a, lt-ltb i 0xFF00 b))
 
   pub read-register : 0xFF00 ≤ i → readRegister m (x .sound) (i - 0xFF00) ≡ readByte x m v w s index
   unfolding byteAt
-  read-register a =
-      as-read _
-      (simp (
-        le-ltb i 0x8000 (omega arith),
-        le-ltb i 0xA000 (omega arith),
-        le-ltb i 0xC000 (omega arith),
-        le-ltb i 0xE000 (omega arith),
-        le-ltb i 0xFF00 a,
-      ))
+  read-register a = as-read _ (simp (le-ltb i 0xE000 (omega arith), le-ltb i 0xFF00 a))
 
--- the save: full, not stored, stored; and that the rest of the world stays
+-- the save: full, not stored, stored, of every state with this cartridge, mapper and log use; and that the rest of the world stays
 
-module _ (w : World) (i v : ℕ) where
-  pub save-full : ltb (length (w .log)) (w .state .used + width) ≡ true → w ≡ savePut w i v
+module _ (m : Memory) {c : Cartridge} {t : Mapper} {used : ℕ} (p : m .cartridge ≡ c) (q : m .mapper ≡ t) (e : m .used ≡ used) (s l : List ℕ)
+    (i v : ℕ) where
+  pub save-full : ltb (length l) (used + width) ≡ true → world (withUsed m used) [] [] s l ≡ savePut (world m [] [] s l) i v
   unfolding savePut
-  save-full a = sym (cond-true _ _ _ a)
+  save-full a =
+      let b : ltb (length l) (m .used + width) ≡ true = rw e a in
+      rw (← e) (sym (cond-true _ _ _ b))
 
-  save-answered : (t : Answer) → ltb (length (w .log)) (w .state .used + width) ≡ false
-      → answer (w .state .cartridge) (w .state .mapper) i v ≡ t → saved t w ≡ savePut w i v
+  save-answered : (k : Answer) → ltb (length l) (used + width) ≡ false → answer c t i v ≡ k
+      → saved k (world m [] [] s l) ≡ savePut (world m [] [] s l) i v
   unfolding savePut
-  save-answered t a e = sym (cond-false _ _ _ a ∙ ap (λ (t : Answer). saved t w) e)
+  save-answered k a n =
+      let b : ltb (length l) (m .used + width) ≡ false = rw e a in
+      let r : answer (m .cartridge) (m .mapper) i v ≡ k = rw (p, q) n in
+      sym (cond-false _ _ _ b ∙ ap (λ (k : Answer). saved k (world m [] [] s l)) r)
 
-  pub save-none : ltb (length (w .log)) (w .state .used + width) ≡ false
-      → answer (w .state .cartridge) (w .state .mapper) i v ≡ NotStored → w ≡ savePut w i v
-  save-none a e = save-answered NotStored a e
+  pub save-none : ltb (length l) (used + width) ≡ false → answer c t i v ≡ NotStored
+      → world (withUsed m used) [] [] s l ≡ savePut (world m [] [] s l) i v
+  save-none a n = rw (← e) (save-answered NotStored a n)
 
-  pub save-stored : (at b : ℕ) {r : Memory} {s l : List ℕ} → ltb (length (w .log)) (w .state .used + width) ≡ false
-      → answer (w .state .cartridge) (w .state .mapper) i v ≡ Stored at b → r ≡ withUsed (w .state) (w .state .used + width)
-      → s ≡ set (w .save) at b → l ≡ appended (w .log) (w .state .used) at b → world r (w .vram) (w .wram) s l ≡ savePut w i v
-  save-stored at b a e p q t = rw (p, q, t) (save-answered (Stored at b) a e)
+  pub save-stored : (at b : ℕ) {r : ℕ} {y z : List ℕ} → ltb (length l) (used + width) ≡ false → answer c t i v ≡ Stored at b
+      → r ≡ used + width → y ≡ set s at b → z ≡ appended l used at b → world (withUsed m r) [] [] y z ≡ savePut (world m [] [] s l) i v
+  save-stored at b a n x y z = rw (x, y, z, ← e) (save-answered (Stored at b) a n)
 
 -- the state, the save and the log of one world, with the memories of another
 abbrev beside : World → World → World

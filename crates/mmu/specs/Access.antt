@@ -6,11 +6,14 @@ use mathlib.Core.Path.{_≡_}
 use Prim.Native.Nat.{ℕ, _+_, _*_, _-_, _%_, _≤_}
 use lib.Dec.{ltb}
 use lib.ListN.{length, getD, set}
-use Rattle.mbc.specs.Mbc.{romLen, ramLen, readAt, after, answer}
+use Rattle.mbc.specs.Mbc.{inRange, romLen, ramLen, readAt, after, answer}
+use Rattle.mbc.specs.declared.cartridge.Cartridge.{Cartridge}
 use Rattle.mbc.specs.declared.mbc.Answer.{Answer}
 use Rattle.mbc.specs.declared.mbc.Answer.the-variants.{Stored, NotStored}
+use Rattle.mbc.specs.declared.mbc.Mapper.{Mapper}
 use Rattle.memory.specs.Ranges.{stateInRange, vramLen, wramLen, soundLen}
 use Rattle.memory.specs.World.{World, world, Fixed, withOam, withMapper, withUsed}
+use Rattle.memory.specs.declared.Banks.{Banks}
 use Rattle.memory.specs.declared.Memory.{Memory}
 use Rattle.registers.specs.Page.{readRegister, writeRegister}
 use Rattle.savelog.specs.Log.{width, logLimit, appended}
@@ -29,15 +32,28 @@ pub record Ready (x : Fixed) (w : World) : Type 0 where
   pub rom : length (x .rom) ≡ romLen (w .state .cartridge)
   pub sound : length (x .sound) ≡ soundLen
 
+-- what a read of the lent memories needs of them: the mapper is in range, and they reach as far as it and the selected banks do
+pub record Reaches (c : Cartridge) (m : Mapper) (b : Banks) (r v w s : List ℕ) : Type 0 where
+  pub mapper : inRange c m ≡ true
+  pub rom : length r ≡ romLen c
+  pub save : length s ≡ ramLen c m
+  pub vram : b .vram * 0x2000 + 0x2000 ≤ length v
+  pub wram : (0x1000 ≤ length w) × (b .wram * 0x1000 + 0x1000 ≤ length w)
+
+-- the byte at an index below E000: a byte of a lent memory
+unfoldable pub lentAt : Cartridge → Mapper → Banks → List ℕ → List ℕ → List ℕ → List ℕ → ℕ → ℕ
+lentAt c m b r v w s i =
+    cond (ltb i 0x8000) (readAt c m r s i)
+    (cond (ltb i 0xA000) (getD v (vramAt (b .vram) i) 0)
+    (cond (ltb i 0xC000) (readAt c m r s i)
+    (getD w (wramAt (b .wram) i) 0)))
+
 -- the byte at an index that is no echo
 unfoldable pub byteAt : Fixed → Memory → List ℕ → List ℕ → List ℕ → ℕ → ℕ
 byteAt x m v w s i =
-    cond (ltb i 0x8000) (readAt (m .cartridge) (m .mapper) (x .rom) s i)
-    (cond (ltb i 0xA000) (getD v (vramAt (m .banks .vram) i) 0)
-    (cond (ltb i 0xC000) (readAt (m .cartridge) (m .mapper) (x .rom) s i)
-    (cond (ltb i 0xE000) (getD w (wramAt (m .banks .wram) i) 0)
+    cond (ltb i 0xE000) (lentAt (m .cartridge) (m .mapper) (m .banks) (x .rom) v w s i)
     (cond (ltb i 0xFF00) (getD (m .oam) (i - 0xFE00) 0)
-    (readRegister m (x .sound) (i - 0xFF00))))))
+    (readRegister m (x .sound) (i - 0xFF00)))
 
 abbrev pub readByte : Fixed → Memory → List ℕ → List ℕ → List ℕ → ℕ → ℕ
 readByte x m v w s index = byteAt x m v w s (echo index)

@@ -14,8 +14,7 @@ pub mod regions;
 use regions::lowered;
 use regions::put_mapper;
 use regions::put_save;
-use regions::read_cgb_lcd_ram;
-use regions::read_cgb_wram;
+use regions::read_lent;
 use regions::write_cgb_lcd_ram;
 use regions::write_cgb_wram;
 use registers::transfers::Copy;
@@ -33,20 +32,11 @@ pub fn read_byte(
     ensures { λ r. ⌜ r ≡ readByte (fixed (now (rom .entry)) (now (sound .entry))) memory (now (vram .entry)) (now (wram .entry)) (now (save .entry)) index ⌝ }
 {
     let at = lowered(index);
-    let banks = memory.banks;
-    let mapper = memory.mapper;
-    let cartridge = memory.cartridge;
-    if at < 0x8000 {
-        return mapper.read(cartridge, rom, save, at);
-    }
-    if at < 0xA000 {
-        return read_cgb_lcd_ram(vram, banks.vram, at);
-    }
-    if at < 0xC000 {
-        return mapper.read(cartridge, rom, save, at);
-    }
     if at < 0xE000 {
-        return read_cgb_wram(wram, banks.wram, at);
+        let banks = memory.banks;
+        let mapper = memory.mapper;
+        let cartridge = memory.cartridge;
+        return read_lent(cartridge, mapper, banks, rom, vram, wram, save, at);
     }
     if at < 0xFF00 {
         let i = (at - 0xFE00) as usize;

@@ -6,11 +6,15 @@ ghost use Prim.Native.Nat.{_+_, _*_, _<_, _≤_};
 ghost use lib.Dec.{ltb};
 ghost use lib.ListN.{length, getD, set};
 ghost use Rattle.mbc.specs.Mbc.{inRange, ramLen};
-ghost use Rattle.memory.specs.World.{world};
+ghost use Rattle.memory.specs.World.{world, withUsed};
+ghost use Rattle.memory.specs.declared.Memory.{Memory};
 ghost use Rattle.savelog.specs.Log.{width, logLimit};
 ghost use Rattle.mmu.specs.PanDocs.{echo, vramAt, wramAt};
-ghost use Rattle.mmu.specs.Access.{mapperPut, savePut};
+ghost use Rattle.mmu.specs.Access.{Reaches, lentAt, mapperPut, savePut};
 use mbc::Answer;
+use mbc::Cartridge;
+use mbc::Mapper;
+use memory::Banks;
 use memory::Memory;
 
 // E000..FDFF is the same byte as 2000 hex lower.
@@ -84,6 +88,32 @@ pub fn write_cgb_wram(wram: &mut [u8], bank: u8, index: u16, value: u8)
     wram[at] = value;
 }
 
+// A read below E000: of the ROM, video memory, the save or work memory. It takes of the bus only what says where.
+pub fn read_lent(
+    cartridge: Cartridge,
+    mapper: Mapper,
+    banks: Banks,
+    rom: &[u8],
+    vram: &[u8],
+    wram: &[u8],
+    save: &[u8],
+    index: u16,
+) -> u8
+    requires { ⌜ Reaches cartridge mapper banks (now rom) (now vram) (now wram) (now save) × (index < 0xE000) ⌝ }
+    ensures { λ r. ⌜ r ≡ lentAt cartridge mapper banks (now (rom .entry)) (now (vram .entry)) (now (wram .entry)) (now (save .entry)) index ⌝ }
+{
+    if index < 0x8000 {
+        return mapper.read(cartridge, rom, save, index);
+    }
+    if index < 0xA000 {
+        return read_cgb_lcd_ram(vram, banks.vram, index);
+    }
+    if index < 0xC000 {
+        return mapper.read(cartridge, rom, save, index);
+    }
+    read_cgb_wram(wram, banks.wram, index)
+}
+
 // A write below 8000: the mapper's registers.
 pub fn put_mapper(memory: Memory, index: u16, value: u8) -> Memory
     requires { ⌜ (index < 0x8000) × (inRange (memory .cartridge) (memory .mapper) ≡ true) ⌝ }
@@ -104,22 +134,37 @@ pub fn full(len: usize, used: u16) -> bool
 }
 
 // A write in A000..BFFF: the mapper answers, the bus stores the byte and records it. A log without room records nothing, and nothing is stored.
+// It takes of the bus the cartridge, the mapper and the bytes of the log that are used, and gives how many are used after it.
+pub fn store_save(
+    cartridge: Cartridge,
+    mapper: Mapper,
+    used: u16,
+    save: &mut [u8],
+    log: &mut [u8],
+    index: u16,
+    value: u8,
+) -> u16
+    requires { ⌜ ((0xA000 ≤ index) × (index < 0xC000)) × ((inRange cartridge mapper ≡ true) × ((length (now save) ≡ ramLen cartridge mapper) × (length (now log) ≤ logLimit))) ⌝ }
+    ensures { λ r. ⌜ ((m : Memory) → m .cartridge ≡ cartridge → m .mapper ≡ mapper → m .used ≡ used → world (withUsed m r) [] [] (now (save .exit)) (now (log .exit)) ≡ savePut (world m [] [] (now (save .entry)) (now (log .entry))) index value) ⌝ }
+{
+    if full(log.len(), used) {
+        return used;
+    }
+    let written = mapper.write(cartridge, index, value);
+    let answer = written.answer;
+    let Answer::Stored { at, value: byte } = answer else {
+        return used;
+    };
+    save[at] = byte;
+    savelog::append(log, used, at, byte)
+}
+
 pub fn put_save(memory: Memory, save: &mut [u8], log: &mut [u8], index: u16, value: u8) -> Memory
     requires { ⌜ ((0xA000 ≤ index) × (index < 0xC000)) × ((inRange (memory .cartridge) (memory .mapper) ≡ true) × ((length (now save) ≡ ramLen (memory .cartridge) (memory .mapper)) × (length (now log) ≤ logLimit))) ⌝ }
     ensures { λ r. ⌜ world r [] [] (now (save .exit)) (now (log .exit)) ≡ savePut (world memory [] [] (now (save .entry)) (now (log .entry))) index value ⌝ }
 {
-    let used = memory.used;
-    if full(log.len(), used) {
-        return memory;
-    }
-    let mapper = memory.mapper;
     let cartridge = memory.cartridge;
-    let written = mapper.write(cartridge, index, value);
-    let answer = written.answer;
-    let Answer::Stored { at, value: byte } = answer else {
-        return memory;
-    };
-    save[at] = byte;
-    let next = savelog::append(log, used, at, byte);
-    memory::with_used(memory, next)
+    let mapper = memory.mapper;
+    let used = store_save(cartridge, mapper, memory.used, save, log, index, value);
+    memory::with_used(memory, used)
 }

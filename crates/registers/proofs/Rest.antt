@@ -1,15 +1,17 @@
 -- The page dispatch where no register is named: the rest of the page.
+use mathlib.Core.Bool.{Bool}
 use mathlib.Core.List.{List}
 use mathlib.Core.Path.{_≡_}
 use Prim.Native.Nat.{ℕ, _-_, _^_, _<_, _≤_}
 use native.Mathlib.Omega.{arith}
 use lib.ListN.{getD}
 use borrow.Author.Tests.{ne-eqb, lt-ltb, le-ltb}
+use Rattle.lcd.specs.declared.Lcd.{Lcd}
 use Rattle.memory.specs.declared.Memory.{Memory}
-use Rattle.registers.specs.State.{loaded, stored}
-use Rattle.registers.specs.Page.{readRegister, plainRead, writeRegister, plainWrite}
+use Rattle.registers.specs.State.{stored}
+use Rattle.registers.specs.Page.{shownAs, plainRead, writeRegister, plainWrite}
 
-pub rest-read : (m : Memory) (sound : List ℕ) (at : ℕ)
+pub rest-read : (byte : ℕ) (cgb : Bool) (lcd : Lcd) (pad : ℕ) (sound : List ℕ) (at : ℕ)
     → (at ≡ 0x00 → ⊥)
     → (at ≡ 0x03 → ⊥)
     → (at ≡ 0x07 → ⊥)
@@ -26,9 +28,9 @@ pub rest-read : (m : Memory) (sound : List ℕ) (at : ℕ)
     → (at ≡ 0x70 → ⊥)
     → (at ≡ 0x76 → ⊥)
     → (at ≡ 0x77 → ⊥)
-    → readRegister m sound at ≡ plainRead m sound at
-unfolding readRegister
-rest-read m sound at h1 h2 h3 h4 h5 h6 h7 h8 h9 h10 h11 h12 h13 h14 h15 h16 =
+    → shownAs byte cgb lcd pad sound at ≡ plainRead byte sound at
+unfolding shownAs
+rest-read byte cgb lcd pad sound at h1 h2 h3 h4 h5 h6 h7 h8 h9 h10 h11 h12 h13 h14 h15 h16 =
     rw (
       ne-eqb at 0x00 h1,
       ne-eqb at 0x03 h2,
@@ -97,16 +99,16 @@ rest-write m at v h1 h2 h3 h4 h5 h6 h7 h8 h9 h10 h11 h12 h13 h14 h15 h16 h17 h18
       ne-eqb at 0xFF h21,
     )
 
-module _ (m : Memory) (sound : List ℕ) (at : ℕ) where
-  pub low-read : at < 0x10 → plainRead m sound at ≡ loaded m at
+module _ (byte : ℕ) (sound : List ℕ) (at : ℕ) where
+  pub low-read : at < 0x10 → plainRead byte sound at ≡ byte
   unfolding plainRead
   low-read h = rw (lt-ltb at 0x10 h)
 
-  pub sound-read : 0x10 ≤ at → at < 0x40 → plainRead m sound at ≡ getD sound (at - 0x10) 0
+  pub sound-read : 0x10 ≤ at → at < 0x40 → plainRead byte sound at ≡ getD sound (at - 0x10) 0
   unfolding plainRead
   sound-read h l = rw (le-ltb at 0x10 h, lt-ltb at 0x40 l)
 
-  pub high-read : 0x10 ≤ at → 0x40 ≤ at → plainRead m sound at ≡ loaded m at
+  pub high-read : 0x10 ≤ at → 0x40 ≤ at → plainRead byte sound at ≡ byte
   unfolding plainRead
   high-read h l = rw (le-ltb at 0x10 h, le-ltb at 0x40 l)
 

@@ -1,5 +1,5 @@
 -- What FF00 + at reads, and what a byte write stores there (document 01, "The bus": "Reads with bits forced", "Writes", "Colour only").
-use mathlib.Core.Bool.{cond}
+use mathlib.Core.Bool.{Bool, cond}
 use mathlib.Core.List.{List}
 use Prim.Native.Nat.{ℕ, _-_, _%_}
 use lib.Bits.{bitOr}
@@ -7,6 +7,7 @@ use lib.Dec.{eqb, ltb}
 use lib.ListN.{getD}
 use Rattle.joypad.specs.Joypad.{padRead}
 use Rattle.lcd.specs.Lcd.{scanlineWritten, lycWritten, controlWritten, statusWritten}
+use Rattle.lcd.specs.declared.Lcd.{Lcd}
 use Rattle.memory.specs.declared.Memory.{Memory}
 use Rattle.registers.specs.Colour.{speedPut, vramBankPut, wramBankPut, backgroundIndexPut, backgroundDataPut, spriteIndexPut, spriteDataPut}
 use Rattle.registers.specs.PanDocs.{flagsOnes, statusOnes, vramBankOnes, divReset}
@@ -14,40 +15,40 @@ use Rattle.registers.specs.State.{loaded, stored, onScreen}
 use Rattle.registers.specs.Transfers.{sourceHighPut, sourceLowPut, destinationHighPut, destinationLowPut, startPut}
 
 -- colour gives one byte, monochrome another
-unfoldable pub byKind : Memory → ℕ → ℕ → ℕ
-byKind m colour monochrome = cond (m .banks .colour) colour monochrome
+unfoldable pub byKind : Bool → ℕ → ℕ → ℕ
+byKind cgb colour monochrome = cond cgb colour monochrome
 
 -- FF44 gives the scan line, or 0 with the screen disabled
-unfoldable pub lineRead : Memory → ℕ
-lineRead m = cond (m .lcd .disabled) 0 (m .lcd .line)
-
--- a register as stored, with bits forced
-abbrev pub forced : Memory → ℕ → ℕ → ℕ
-forced m at bits = bitOr (loaded m at) bits
+unfoldable pub lineRead : Lcd → ℕ
+lineRead lcd = cond (lcd .disabled) 0 (lcd .line)
 
 -- the rest of the page: FF10..FF3F reads the sound window, all else as stored
-unfoldable pub plainRead : Memory → List ℕ → ℕ → ℕ
-plainRead m sound at = cond (ltb at 0x10) (loaded m at) (cond (ltb at 0x40) (getD sound (at - 0x10) 0) (loaded m at))
+unfoldable pub plainRead : ℕ → List ℕ → ℕ → ℕ
+plainRead byte sound at = cond (ltb at 0x10) byte (cond (ltb at 0x40) (getD sound (at - 0x10) 0) byte)
+
+-- what FF00 + at reads, where the page holds `byte`: by the machine's kind, the screen and the joypad's state
+unfoldable pub shownAs : ℕ → Bool → Lcd → ℕ → List ℕ → ℕ → ℕ
+shownAs byte cgb lcd pad sound at =
+    cond (eqb at 0x00) (padRead byte pad)
+    (cond (eqb at 0x03) 0xFF
+    (cond (eqb at 0x07) (bitOr byte 0xF8)
+    (cond (eqb at 0x0E) 0xFF
+    (cond (eqb at 0x0F) (bitOr byte flagsOnes)
+    (cond (eqb at 0x41) (bitOr byte statusOnes)
+    (cond (eqb at 0x44) (lineRead lcd)
+    (cond (eqb at 0x4C) 0xFF
+    (cond (eqb at 0x4F) (bitOr byte vramBankOnes)
+    (cond (eqb at 0x68) (byKind cgb (bitOr byte 0x40) 0xC0)
+    (cond (eqb at 0x69) (byKind cgb (bitOr byte 0xF8) 0xFF)
+    (cond (eqb at 0x6A) (byKind cgb (bitOr byte 0x40) 0xC0)
+    (cond (eqb at 0x6B) (byKind cgb (bitOr byte 0xF8) 0xFF)
+    (cond (eqb at 0x70) (byKind cgb (bitOr byte 0x40) 0xFF)
+    (cond (eqb at 0x76) (byKind cgb 0x00 0xFF)
+    (cond (eqb at 0x77) (byKind cgb 0x00 0xFF)
+    (plainRead byte sound at))))))))))))))))
 
 unfoldable pub readRegister : Memory → List ℕ → ℕ → ℕ
-readRegister m sound at =
-    cond (eqb at 0x00) (padRead (loaded m 0x00) (m .joypad .state))
-    (cond (eqb at 0x03) 0xFF
-    (cond (eqb at 0x07) (forced m 0x07 0xF8)
-    (cond (eqb at 0x0E) 0xFF
-    (cond (eqb at 0x0F) (forced m 0x0F flagsOnes)
-    (cond (eqb at 0x41) (forced m 0x41 statusOnes)
-    (cond (eqb at 0x44) (lineRead m)
-    (cond (eqb at 0x4C) 0xFF
-    (cond (eqb at 0x4F) (forced m 0x4F vramBankOnes)
-    (cond (eqb at 0x68) (byKind m (forced m 0x68 0x40) 0xC0)
-    (cond (eqb at 0x69) (byKind m (forced m 0x69 0xF8) 0xFF)
-    (cond (eqb at 0x6A) (byKind m (forced m 0x6A 0x40) 0xC0)
-    (cond (eqb at 0x6B) (byKind m (forced m 0x6B 0xF8) 0xFF)
-    (cond (eqb at 0x70) (byKind m (forced m 0x70 0x40) 0xFF)
-    (cond (eqb at 0x76) (byKind m 0x00 0xFF)
-    (cond (eqb at 0x77) (byKind m 0x00 0xFF)
-    (plainRead m sound at))))))))))))))))
+readRegister m sound at = shownAs (loaded m at) (m .banks .colour) (m .lcd) (m .joypad .state) sound at
 
 -- the rest of the page: a write in FF10..FF3F changes no bus byte, all else is stored
 unfoldable pub plainWrite : Memory → ℕ → ℕ → Memory

@@ -1,7 +1,7 @@
 // Interrupts, the timer and the joypad on the state: FF00, FF04..FF07, FF0F and FFFF of the page with the groups that belong to them.
 ghost use mathlib.Core.Path.{_≡_};
 ghost use Rattle.interrupt.specs.PanDocs.{firstOf};
-ghost use Rattle.joypad.specs.Joypad.{withState, padRead, actionsAnswer, directionsAnswer};
+ghost use Rattle.joypad.specs.Joypad.{withState, actionsAnswer, directionsAnswer};
 ghost use Rattle.registers.specs.State.{loaded, timerOf, withTimer, requestedIn, removedIn, withController, polledIn};
 use interrupt::Interrupt;
 use interrupt::Pending;
@@ -102,12 +102,4 @@ pub fn are_direction_keys_enabled(memory: Memory) -> bool
     ensures { λ r. ⌜ r ≡ directionsAnswer (loaded memory 0) ⌝ }
 {
     joypad::are_direction_keys_enabled(memory.page[0x00])
-}
-
-// What FF00 reads: the Rust's `get_joypad_state`.
-pub fn get_joypad_state(memory: Memory) -> u8
-    ensures { λ r. ⌜ r ≡ padRead (loaded memory 0) (memory .joypad .state) ⌝ }
-{
-    let controller = memory.joypad;
-    joypad::read(memory.page[0x00], controller.state)
 }

@@ -2,59 +2,57 @@
 ghost use mathlib.Core.Path.{_≡_};
 ghost use Prim.Native.Nat.{_≤_};
 ghost use lib.ListN.{length};
-ghost use Rattle.registers.specs.Page.{byKind, lineRead, readRegister, writeRegister};
+ghost use Rattle.registers.specs.Page.{byKind, lineRead, shownAs, readRegister, writeRegister};
 use crate::colour;
-use crate::interrupts;
 use crate::load;
 use crate::screen;
 use crate::store;
 use crate::transfers;
+use lcd::Lcd;
 use memory::Memory;
 
 // A register that reads otherwise on a monochrome machine.
-fn by_kind(memory: Memory, colour: u8, monochrome: u8) -> u8
-    ensures { λ r. ⌜ r ≡ byKind memory colour monochrome ⌝ }
+fn by_kind(cgb: bool, colour: u8, monochrome: u8) -> u8
+    ensures { λ r. ⌜ r ≡ byKind cgb colour monochrome ⌝ }
 {
-    let banks = memory.banks;
-    if banks.colour {
+    if cgb {
         return colour;
     }
     monochrome
 }
 
 // FF44: the scan line, or 0 with the screen disabled.
-fn read_line(memory: Memory) -> u8
-    ensures { λ r. ⌜ r ≡ lineRead memory ⌝ }
+fn read_line(lcd: Lcd) -> u8
+    ensures { λ r. ⌜ r ≡ lineRead lcd ⌝ }
 {
-    let lcd = memory.lcd;
     if lcd.disabled {
         return 0;
     }
     lcd.line
 }
 
-pub fn read(memory: Memory, sound: &[u8], at: u8) -> u8
+// What FF00 + at reads, where the page holds `byte`: `cgb`, `lcd` and `pad`, the joypad's state, are all that it takes of the bus.
+pub fn shown(byte: u8, cgb: bool, lcd: Lcd, pad: u8, sound: &[u8], at: u8) -> u8
     requires { ⌜ 48 ≤ length (now sound) ⌝ }
-    ensures { λ r. ⌜ r ≡ readRegister memory (now (sound .entry)) at ⌝ }
+    ensures { λ r. ⌜ r ≡ shownAs byte cgb lcd pad (now (sound .entry)) at ⌝ }
 {
-    let byte = load(memory, at);
     match at {
-        0x00 => interrupts::get_joypad_state(memory),
+        0x00 => joypad::read(byte, pad),
         0x03 => 0xFF,
         0x07 => byte | 0xF8,
         0x0E => 0xFF,
         0x0F => byte | 0xE0,
         0x41 => byte | 0x80,
-        0x44 => read_line(memory),
+        0x44 => read_line(lcd),
         0x4C => 0xFF,
         0x4F => byte | 0xFE,
-        0x68 => by_kind(memory, byte | 0x40, 0xC0),
-        0x69 => by_kind(memory, byte | 0xF8, 0xFF),
-        0x6A => by_kind(memory, byte | 0x40, 0xC0),
-        0x6B => by_kind(memory, byte | 0xF8, 0xFF),
-        0x70 => by_kind(memory, byte | 0x40, 0xFF),
-        0x76 => by_kind(memory, 0, 0xFF),
-        0x77 => by_kind(memory, 0, 0xFF),
+        0x68 => by_kind(cgb, byte | 0x40, 0xC0),
+        0x69 => by_kind(cgb, byte | 0xF8, 0xFF),
+        0x6A => by_kind(cgb, byte | 0x40, 0xC0),
+        0x6B => by_kind(cgb, byte | 0xF8, 0xFF),
+        0x70 => by_kind(cgb, byte | 0x40, 0xFF),
+        0x76 => by_kind(cgb, 0, 0xFF),
+        0x77 => by_kind(cgb, 0, 0xFF),
         _ => {
             if at < 0x10 {
                 return byte;
@@ -66,6 +64,17 @@ pub fn read(memory: Memory, sound: &[u8], at: u8) -> u8
             byte
         }
     }
+}
+
+pub fn read(memory: Memory, sound: &[u8], at: u8) -> u8
+    requires { ⌜ 48 ≤ length (now sound) ⌝ }
+    ensures { λ r. ⌜ r ≡ readRegister memory (now (sound .entry)) at ⌝ }
+{
+    let byte = load(memory, at);
+    let banks = memory.banks;
+    let lcd = memory.lcd;
+    let controller = memory.joypad;
+    shown(byte, banks.colour, lcd, controller.state, sound, at)
 }
 
 pub fn write(memory: Memory, at: u8, value: u8) -> Memory
