@@ -1,6 +1,6 @@
--- The calls of the bus as one function on worlds: number, value, and what is left (document 01, "How much a contract must say"). A list of calls is then a fold.
+-- The calls of the bus as one function on worlds: number, value, and what is left (document 01, "How much a contract must say"). Lists of calls fold it
+-- (crate promise).
 use mathlib.Core.Bool.{Bool, cond}
-use mathlib.Core.List.{List, [], _∷_}
 use Prim.Native.Nat.{ℕ}
 use lib.Dec.{eqb}
 use Rattle.bus.specs.Calls.{Outcome, outcome, readByteCall, readWordCall, readCgbLcdRamCall, writeByteCall, writeWordCall, doDmaTransferCall, doHdmaCall}
@@ -85,8 +85,3 @@ step x w (call.WriteWord i v) = writeWordCall x w i v
 step x w (call.DoDmaTransfer page) = doDmaTransferCall x w page
 step x w call.DoHdma = doHdmaCall x w
 step x w (call.State c) = inWorld w (stateStep (w .state) c)
-
--- a list of calls, each on what the last one left
-unfoldable pub run : Fixed → World → List Call → World
-run x w [] = w
-run x w (c ∷ cs) = run x (step x w c .after) cs

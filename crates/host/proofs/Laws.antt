@@ -155,4 +155,4 @@ fresh-storable kind banks code colour rom v w save log sound e z =
     let s = started l (sym (ap (λ (a : Begun). a .number) e) ∙ z) in
     let u = start l .state in
     ap (λ (a : Begun). storable (a .state)) e
-    ∙ joins u (s .good .ready .holds .state) (wider (u .used) (length log) (s .good .ready .holds .log) (s .good .used))
+    ∙ joins u (s .good .holds .state) (wider (u .used) (length log) (s .good .holds .log) (s .good .used))

@@ -15,21 +15,21 @@ use Rattle.mbc.specs.declared.mbc.Mapper.{Mapper}
 use Rattle.mbc.specs.declared.mbc.Mapper.the-variants.{RomOnly, Mbc1, Mbc2}
 use Rattle.mbc.specs.declared.mbc.Answer.{Answer}
 use Rattle.mbc.specs.declared.mbc.Answer.the-variants.{Stored, NotStored}
-use Rattle.memory.specs.World.{World, Fixed}
+use Rattle.memory.specs.World.{World}
 use Rattle.registers.proofs.Kept.{cond-both}
 use Rattle.rules.proofs.Tests.{both-true}
 use Rattle.savelog.proofs.Laws.{round, records-cons, records-none}
 use Rattle.savelog.proofs.Prefix.{records-append}
 use Rattle.savelog.specs.Laws.{Copies, none, more}
 use Rattle.savelog.specs.Log.{Rec, width, addressEnd, recordBytes, stored, records, soundRecord, allSound, joined, logLimit, saveLengths, oneOf}
-use Rattle.promise.specs.Bus.{step, Call, inSave}
+use Rattle.promise.specs.Bus.{Call, inSave}
 use Rattle.promise.specs.Calls.{ByteWrite, refused, Kind, Reading, Clearing, Other, kindOf}
 use Rattle.promise.specs.Admitted.{granted, grantedAll, mapperAfter, answered, letIn, letInAll, recordsOf}
 use Rattle.promise.specs.Promise.{Bytes, Typed}
-use Rattle.promise.specs.Runs.{usedBytes, copiedBefore, copiesFrom}
+use Rattle.promise.specs.Runs.{Turn, made, usedBytes, copiedBefore, copiesFrom}
 use Rattle.promise.proofs.Writes.{record-length}
-use Rattle.promise.proofs.Lists.{Good, good-use}
-use Rattle.promise.proofs.Steps.{moved}
+use Rattle.promise.proofs.Open.{Good, good-use}
+use Rattle.promise.proofs.Runs.{made-moved}
 
 -- Records that a log for a save of `ram` bytes holds
 
@@ -113,11 +113,11 @@ abbrev Wholes : List (List ℕ) → Type 0
 Wholes [] = Unit {0}
 Wholes (l ∷ ls) = WholeCopy l × Wholes ls
 
-used-whole : (x : Fixed) (w : World) → Good x w → WholeCopy (usedBytes w)
-used-whole x w g =
+used-whole : (w : World) → Good w → WholeCopy (usedBytes w)
+used-whole w g =
     let u = good-use g in
     let e = length-take-le (w .state .used) (w .log) (u .1) in
-    (rw e (u .0), rw e (omega (arith, u .1, g .ready .holds .log)))
+    (rw e (u .0), rw e (omega (arith, u .1, g .holds .log)))
 
 before-whole : (k : Kind) (n : ℕ) (w : World) (ls : List (List ℕ)) → WholeCopy (usedBytes w) → Wholes ls → Wholes (copiedBefore k n w ++ ls)
 before-whole Reading n w ls h t = t
@@ -125,12 +125,12 @@ before-whole Clearing n w ls h t =
     cond-both (λ (ks : List (List ℕ)). Wholes (ks ++ ls)) (refused n) t (h, t)
 before-whole Other n w ls h t = t
 
-pub copies-whole : (x : Fixed) (w : World) (cs : List Call) → Good x w → Wholes (copiesFrom x w cs)
+pub copies-whole : (w : World) (ts : List Turn) → Good w → Wholes (copiesFrom w ts)
 unfolding copiesFrom
-copies-whole x w [] g = (used-whole x w g, tt)
-copies-whole x w (c ∷ cs) g =
-    before-whole (kindOf c) (step x w c .number) w (copiesFrom x (step x w c .after) cs) (used-whole x w g)
-    (copies-whole x (step x w c .after) cs (moved x w g c .good))
+copies-whole w [] g = (used-whole w g, tt)
+copies-whole w (t ∷ ts) g =
+    before-whole (kindOf (t .call)) (made w t .number) w (copiesFrom (made w t .after) ts) (used-whole w g)
+    (copies-whole (made w t .after) ts (made-moved w g t .good))
 
 -- and sound, if what they say together is
 

@@ -1,4 +1,5 @@
 pub mod Bus
+pub mod Open
 pub mod Mappers
 pub mod Writes
 pub mod Lists

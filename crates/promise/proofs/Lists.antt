@@ -1,20 +1,15 @@
 -- Lists of byte writes: what they leave together, and the laws of the promise's lists.
-use mathlib.Core.Bool.{true}
 use mathlib.Core.List.{List, [], _∷_, _++_, append-assoc, append-nil}
 use mathlib.Core.Path.{_≡_, refl, sym, _∙_}
-use Prim.Native.Nat.{ℕ, _%_, _≤_}
-use lib.Dec.{eqb, leb}
-use lib.ListN.{length}
-use borrow.Author.Tests.{eqb-true, leb-true}
+use Prim.Native.Nat.{ℕ}
 use Rattle.mbc.specs.declared.cartridge.Cartridge.{Cartridge}
 use Rattle.mbc.specs.declared.mbc.Mapper.{Mapper}
-use Rattle.memory.specs.World.{World, Fixed}
-use Rattle.mmu.proofs.Laws.{Stays, stays-refl, stays-trans, stays-ready}
+use Rattle.memory.specs.World.{World}
+use Rattle.mmu.proofs.Laws.{Stays, stays-refl, stays-trans}
 use Rattle.mmu.proofs.Saves.{Spares}
-use Rattle.mmu.specs.Access.{Holds, Ready}
-use Rattle.rules.proofs.Tests.{both-true}
+use Rattle.mmu.specs.Access.{Holds}
 use Rattle.savelog.proofs.Prefix.{applyAll-append}
-use Rattle.savelog.specs.Log.{Rec, width, applyAll, joined, useInRange}
+use Rattle.savelog.specs.Log.{Rec, applyAll, joined}
 use Rattle.promise.specs.Calls.{ByteWrite}
 use Rattle.promise.specs.Admitted.{mapperAfter, letIn, letInAll, recordsOf}
 use Rattle.promise.specs.Runs.{usedBytes}
@@ -40,20 +35,6 @@ pub joined-append : (a b : List (List ℕ)) → joined (a ++ b) ≡ joined a ++ 
 unfolding joined
 joined-append [] b = refl
 joined-append (c ∷ a) b = rw (joined-append a b, append-assoc)
-
--- a bus on which every call can be made
-pub record Good (x : Fixed) (w : World) : Type 0 where
-  pub ready : Ready x w
-  pub used : useInRange (w .state .used) (length (w .log)) ≡ true
-
-pub good-use : {x : Fixed} {w : World} → Good x w → (w .state .used % width ≡ 0) × (w .state .used ≤ length (w .log))
-unfolding useInRange
-good-use {x} {w} g =
-    let b = both-true (eqb (w .state .used % width) 0) (leb (w .state .used) (length (w .log))) (g .used) in
-    (eqb-true (w .state .used % width) 0 (b .0), leb-true (w .state .used) (length (w .log)) (b .1))
-
-pub stays-good : (x : Fixed) (w u : World) → Good x w → Stays w u → Good x u
-stays-good x w u g s = record { ready = stays-ready x w u (g .ready) s; used = s .used (g .used) }
 
 -- no byte write reached the mapper or the save
 pub record Quiet (w u : World) : Type 0 where

@@ -2,58 +2,65 @@
 use mathlib.Core.List.{List, [], _∷_, _++_, append-assoc}
 use mathlib.Core.Path.{_≡_, refl, ap, sym, _∙_}
 use Prim.Native.Nat.{ℕ}
-use Rattle.memory.specs.World.{World, Fixed}
+use Rattle.memory.specs.World.{World}
 use Rattle.savelog.proofs.Prefix.{applyAll-append}
 use Rattle.savelog.specs.Log.{Rec, applyAll, joined}
-use Rattle.promise.specs.Bus.{step, run, Call}
 use Rattle.promise.specs.Calls.{kindOf}
 use Rattle.promise.specs.Admitted.{granted, grantedAll, admittedBy, letInAll, recordsOf}
-use Rattle.promise.specs.Runs.{usedBytes, numbers, copiedBefore, copiesFrom}
-use Rattle.promise.proofs.Lists.{let-append, records-join, joined-append, Good}
-use Rattle.promise.proofs.Steps.{moved}
+use Rattle.promise.specs.Runs.{Turn, calls, made, run, usedBytes, numbers, copiedBefore, copiesFrom}
+use Rattle.promise.proofs.Lists.{let-append, records-join, joined-append}
+use Rattle.promise.proofs.Open.{Good}
+use Rattle.promise.proofs.Steps.{Moved, moved}
 
 -- the admitted writes on any bus
-abbrev pub admittedFrom : Fixed → World → List Call → List Rec
-admittedFrom x w cs = admittedBy (w .state .cartridge) (w .state .mapper) (numbers x w cs) cs
+abbrev pub admittedFrom : World → List Turn → List Rec
+admittedFrom w ts = admittedBy (w .state .cartridge) (w .state .mapper) (numbers w ts) (calls ts)
 
 -- what the first call stores
-abbrev pub first : Fixed → World → Call → List Rec
-first x w c = letInAll (w .state .cartridge) (w .state .mapper) (granted (step x w c .number) c)
+abbrev pub first : World → Turn → List Rec
+first w t = letInAll (w .state .cartridge) (w .state .mapper) (granted (made w t .number) (t .call))
 
-module _ (x : Fixed) where
-  pub run-good : (w : World) (cs : List Call) → Good x w → Good x (run x w cs)
-  unfolding run
-  run-good w [] g = g
-  run-good w (c ∷ cs) g = run-good (step x w c .after) cs (moved x w g c .good)
+pub made-moved : (w : World) → Good w → (t : Turn) → Moved w (t .call) (made w t)
+made-moved w g t = moved (t .read) w g (t .call)
 
-  pub admitted-more : (w : World) → Good x w → (c : Call) (cs : List Call) → admittedFrom x w (c ∷ cs) ≡ first x w c ++ admittedFrom x (step x w c .after) cs
-  unfolding numbers grantedAll
-  admitted-more w g c cs =
-      let m = moved x w g c in
-      rw (let-append (w .state .cartridge) (w .state .mapper) (granted (step x w c .number) c) _, ← m .mapper, m .cartridge)
+pub run-good : (w : World) (ts : List Turn) → Good w → Good (run w ts)
+unfolding run
+run-good w [] g = g
+run-good w (t ∷ ts) g = run-good (made w t .after) ts (made-moved w g t .good)
 
-  pub run-save : (w : World) (cs : List Call) → Good x w → run x w cs .save ≡ applyAll (w .save) (admittedFrom x w cs)
-  unfolding run numbers grantedAll letInAll applyAll
-  run-save w [] g = refl
-  run-save w (c ∷ cs) g =
-      let m = moved x w g c in
-      let u = step x w c .after in
-      run-save u cs (m .good)
-      ∙ ap (λ (s : List ℕ). applyAll s (admittedFrom x u cs)) (m .save)
-      ∙ sym (applyAll-append (w .save) (first x w c) (admittedFrom x u cs))
-      ∙ ap (applyAll (w .save)) (sym (admitted-more w g c cs))
+pub run-cartridge : (w : World) (ts : List Turn) → Good w → run w ts .state .cartridge ≡ w .state .cartridge
+unfolding run
+run-cartridge w [] g = refl
+run-cartridge w (t ∷ ts) g = let m = made-moved w g t in run-cartridge (made w t .after) ts (m .good) ∙ m .cartridge
 
-  pub run-log : (w : World) (cs : List Call) → Good x w → joined (copiesFrom x w cs) ≡ usedBytes w ++ recordsOf (admittedFrom x w cs)
-  unfolding copiesFrom numbers grantedAll letInAll recordsOf joined
-  run-log w [] g = refl
-  run-log w (c ∷ cs) g =
-      let m = moved x w g c in
-      let u = step x w c .after in
-      let k = copiedBefore (kindOf c) (step x w c .number) w in
-      joined-append k (copiesFrom x u cs)
-      ∙ ap (λ (l : List ℕ). joined k ++ l) (run-log u cs (m .good))
-      ∙ sym (append-assoc (joined k) (usedBytes u) (recordsOf (admittedFrom x u cs)))
-      ∙ ap (λ (l : List ℕ). l ++ recordsOf (admittedFrom x u cs)) (m .log)
-      ∙ append-assoc (usedBytes w) (recordsOf (first x w c)) (recordsOf (admittedFrom x u cs))
-      ∙ ap (λ (l : List ℕ). usedBytes w ++ l) (sym (records-join (first x w c) (admittedFrom x u cs)))
-      ∙ ap (λ (rs : List Rec). usedBytes w ++ recordsOf rs) (sym (admitted-more w g c cs))
+pub admitted-more : (w : World) → Good w → (t : Turn) (ts : List Turn) → admittedFrom w (t ∷ ts) ≡ first w t ++ admittedFrom (made w t .after) ts
+unfolding numbers grantedAll
+admitted-more w g t ts =
+    let m = made-moved w g t in
+    rw (let-append (w .state .cartridge) (w .state .mapper) (granted (made w t .number) (t .call)) _, ← m .mapper, m .cartridge)
+
+pub run-save : (w : World) (ts : List Turn) → Good w → run w ts .save ≡ applyAll (w .save) (admittedFrom w ts)
+unfolding run numbers grantedAll letInAll applyAll
+run-save w [] g = refl
+run-save w (t ∷ ts) g =
+    let m = made-moved w g t in
+    let u = made w t .after in
+    run-save u ts (m .good)
+    ∙ ap (λ (s : List ℕ). applyAll s (admittedFrom u ts)) (m .save)
+    ∙ sym (applyAll-append (w .save) (first w t) (admittedFrom u ts))
+    ∙ ap (applyAll (w .save)) (sym (admitted-more w g t ts))
+
+pub run-log : (w : World) (ts : List Turn) → Good w → joined (copiesFrom w ts) ≡ usedBytes w ++ recordsOf (admittedFrom w ts)
+unfolding copiesFrom numbers grantedAll letInAll recordsOf joined
+run-log w [] g = refl
+run-log w (t ∷ ts) g =
+    let m = made-moved w g t in
+    let u = made w t .after in
+    let k = copiedBefore (kindOf (t .call)) (made w t .number) w in
+    joined-append k (copiesFrom u ts)
+    ∙ ap (λ (l : List ℕ). joined k ++ l) (run-log u ts (m .good))
+    ∙ sym (append-assoc (joined k) (usedBytes u) (recordsOf (admittedFrom u ts)))
+    ∙ ap (λ (l : List ℕ). l ++ recordsOf (admittedFrom u ts)) (m .log)
+    ∙ append-assoc (usedBytes w) (recordsOf (first w t)) (recordsOf (admittedFrom u ts))
+    ∙ ap (λ (l : List ℕ). usedBytes w ++ l) (sym (records-join (first w t) (admittedFrom u ts)))
+    ∙ ap (λ (rs : List Rec). usedBytes w ++ recordsOf rs) (sym (admitted-more w g t ts))

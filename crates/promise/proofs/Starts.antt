@@ -19,9 +19,9 @@ use Rattle.savelog.specs.Log.{logLimit, useInRange}
 use Rattle.promise.specs.Bus.{Begun, begun}
 use Rattle.promise.specs.Each.{RefusedFresh}
 use Rattle.promise.specs.Promise.{Begins}
-use Rattle.promise.specs.Runs.{Lent, start, read}
+use Rattle.promise.specs.Runs.{Lent, start}
 use Rattle.promise.proofs.Bus.{orElse, lengthsRefused, lengthsFit, both-pass, lengths-pass, startedBy, freshRefused, beginning, logRefused}
-use Rattle.promise.proofs.Lists.{Good}
+use Rattle.promise.proofs.Open.{Good}
 
 -- what was begun and not refused
 by-begun : (P : Begun → Type 0) (n : ℕ) (m : Memory) (v w : List ℕ) → beginning n m v w .number ≡ 0
@@ -57,7 +57,7 @@ log-passes n z = leb-true n logLimit (passes (leb n logLimit) z)
     passes false z = absurd (omega arith)
 
 pub record Started (l : Lent) (b : Begun) : Type 0 where
-  pub good : Good (read l) (world (b .state) (b .vram) (b .wram) (l .image) (l .log))
+  pub good : Good (world (b .state) (b .vram) (b .wram) (l .image) (l .log))
   pub unused : b .state .used ≡ 0
   pub cartridge : b .state .cartridge ≡ mbc.cartridgeOf (l .banks) (l .code)
   pub mapper : b .state .mapper ≡ mbc.start (l .kind)
@@ -76,16 +76,12 @@ begun-started l e =
     let f = fresh-made (l .kind) (l .banks) (l .code) (p .0) in
     record {
       good = record {
-        ready = record {
-          holds = record {
-            state = rw (f .0) (fresh-range (mbc.cartridgeOf (l .banks) (l .code)) (l .kind) (l .colour) (f .1));
-            vram = length-replicate (length (l .vram)) 0 ∙ n .1;
-            wram = length-replicate (length (l .wram)) 0 ∙ n .2;
-            save = n .3;
-            log = log-passes (length (l .log)) (q .1);
-          };
-          rom = n .0;
-          sound = n .4;
+        holds = record {
+          state = rw (f .0) (fresh-range (mbc.cartridgeOf (l .banks) (l .code)) (l .kind) (l .colour) (f .1));
+          vram = length-replicate (length (l .vram)) 0 ∙ n .1;
+          wram = length-replicate (length (l .wram)) 0 ∙ n .2;
+          save = n .3;
+          log = log-passes (length (l .log)) (q .1);
         };
         used = rw (le-leb 0 (length (l .log)) (omega arith));
       };

@@ -25,7 +25,8 @@ use Rattle.promise.specs.Runs.{usedBytes, copiedBefore}
 use Rattle.promise.proofs.Bus.{orElse, refusedWrite, byteRoom, wordRoom, changed, refusedState, unless, inWorld}
 use Rattle.promise.proofs.Mappers.{High, transfer-mapper, oam-high, block-high}
 use Rattle.promise.proofs.Writes.{write-stores, write-after}
-use Rattle.promise.proofs.Lists.{mappersAfter, Good, stays-good, Quiet, quiet-refl, Made, Left, left-none, left-more}
+use Rattle.promise.proofs.Lists.{mappersAfter, Quiet, quiet-refl, Made, Left, left-none, left-more}
+use Rattle.promise.proofs.Open.{Good, stays-good}
 use Rattle.promise.proofs.Numbered.{
   by-unless,
   state-refusal,
@@ -40,8 +41,8 @@ use Rattle.promise.proofs.Numbered.{
 }
 use Rattle.promise.proofs.States.{Answers, reads, changes, clears, state-answers}
 
-pub record Moved (x : Fixed) (w : World) (c : Call) (o : Outcome) : Type 0 where
-  pub good : Good x (o .after)
+pub record Moved (w : World) (c : Call) (o : Outcome) : Type 0 where
+  pub good : Good (o .after)
   pub cartridge : o .after .state .cartridge ≡ w .state .cartridge
   pub mapper : o .after .state .mapper ≡ mappersAfter (w .state .cartridge) (w .state .mapper) (granted (o .number) c)
   pub save : o .after .save ≡ applyAll (w .save) (letInAll (w .state .cartridge) (w .state .mapper) (granted (o .number) c))
@@ -58,18 +59,18 @@ unfolding joined
 none-copied n w reading = refl
 none-copied n w other = refl
 
-module _ (x : Fixed) (w : World) (g : Good x w) where
+module _ (w : World) (g : Good w) where
   holds : Holds w
-  holds = g .ready .holds
+  holds = g .holds
 
   abbrev Uncopied : Call → ℕ → Type 0
   Uncopied c n = joined (copiedBefore (kindOf c) n w) ≡ []
 
   moved-left : (c : Call) (o : Outcome) {bs : List ByteWrite} → Uncopied c (o .number) → granted (o .number) c ≡ bs → Left bs w (o .after)
-      → Moved x w c o
+      → Moved w c o
   moved-left c o u e l =
       record {
-        good = stays-good x w (o .after) g (l .stays);
+        good = stays-good w (o .after) g (l .stays);
         cartridge = l .stays .cartridge;
         mapper = rw e (l .mapper);
         save = rw e (l .save);
@@ -77,13 +78,13 @@ module _ (x : Fixed) (w : World) (g : Good x w) where
       }
 
   -- a call that is refused
-  moved-refused : (c : Call) (n : ℕ) → Uncopied c n → refused n ≡ true → Moved x w c (outcome n 0 w)
+  moved-refused : (c : Call) (n : ℕ) → Uncopied c n → refused n ≡ true → Moved w c (outcome n 0 w)
   unfolding granted
   moved-refused c n u e = moved-left c (outcome n 0 w) u (rw e) (left-none w w (quiet-refl w holds))
 
   -- a call with no byte write
   module _ (c : Call) (k : NoClear (kindOf c)) (e : writesOf c ≡ []) where
-    moved-quiet : (o : Outcome) → Quiet w (o .after) → Moved x w c o
+    moved-quiet : (o : Outcome) → Quiet w (o .after) → Moved w c o
     unfolding granted
     moved-quiet o q =
         moved-left c o (none-copied (o .number) w k) (either (refused (o .number)) e) (left-none w (o .after) q)
@@ -92,13 +93,13 @@ module _ (x : Fixed) (w : World) (g : Good x w) where
         either true e = refl
         either false e = e
 
-    moved-read : (n v : ℕ) → Moved x w c (outcome n v w)
+    moved-read : (n v : ℕ) → Moved w c (outcome n v w)
     moved-read n v = moved-quiet (outcome n v w) (quiet-refl w holds)
 
-    moved-transfer : (v : ℕ) (k : Copy) → Clear k → High k
-        → Moved x w c (unless (refusedWrite x w) w (outcome 0 v (transferred x (writeAt x 1) k 0 w)))
-    moved-transfer v k a b =
-        by-unless (Moved x w c) (refusedWrite x w) w _
+    moved-transfer : (x : Fixed) (v : ℕ) (k : Copy) → Clear k → High k
+        → Moved w c (unless (refusedWrite x w) w (outcome 0 v (transferred x (writeAt x 1) k 0 w)))
+    moved-transfer x v k a b =
+        by-unless (Moved w c) (refusedWrite x w) w _
         (λ z.
         moved-quiet _
         (record {
@@ -109,27 +110,23 @@ module _ (x : Fixed) (w : World) (g : Good x w) where
         (λ h. moved-read (refusedWrite x w) 0)
 
   -- clearing
-  clear-good : Good x (inState w (withUsed (w .state) 0))
+  clear-good : Good (inState w (withUsed (w .state) 0))
   unfolding useInRange
   clear-good =
       record {
-        ready = record {
-          holds = record {
-            state = used-range (w .state) 0 ∙ holds .state;
-            vram = holds .vram;
-            wram = holds .wram;
-            save = holds .save;
-            log = holds .log;
-          };
-          rom = g .ready .rom;
-          sound = g .ready .sound;
+        holds = record {
+          state = used-range (w .state) 0 ∙ holds .state;
+          vram = holds .vram;
+          wram = holds .wram;
+          save = holds .save;
+          log = holds .log;
         };
         used = rw (le-leb 0 (length (w .log)) (omega arith));
       }
 
   -- a call on the state
   module _ (c : Call) (e : writesOf c ≡ []) where
-    moved-clear : kindOf c ≡ Clearing → Moved x w c (outcome 0 0 (inState w (withUsed (w .state) 0)))
+    moved-clear : kindOf c ≡ Clearing → Moved w c (outcome 0 0 (inState w (withUsed (w .state) 0)))
     unfolding granted mappersAfter letInAll applyAll recordsOf joined
     moved-clear k =
         record {
@@ -140,57 +137,57 @@ module _ (x : Fixed) (w : World) (g : Good x w) where
           log = rw (k, e) (append-nil (usedBytes w ++ []));
         }
 
-    moved-state : {k : Kind} {p : Performed} → Answers (w .state) k p → kindOf c ≡ k → Moved x w c (inWorld w p)
+    moved-state : {k : Kind} {p : Performed} → Answers (w .state) k p → kindOf c ≡ k → Moved w c (inWorld w p)
     unfolding changed joined
     moved-state (reads n v z) k = moved-read c (rw k reading) e n v
     moved-state (changes n {next} l) k =
-        by-cond (λ (d : Done). Moved x w c (outcome (d .number) 0 (inState w (d .memory)))) (eqb n 0) _ _
+        by-cond (λ (d : Done). Moved w c (outcome (d .number) 0 (inState w (d .memory)))) (eqb n 0) _ _
         (λ t.
         moved-quiet c (rw k other) e _
         (record { stays = kept-stays w holds next l; spares = record { save = refl; log = refl; used = l .used }; mapper = l .mapper }))
         (λ f. moved-read c (rw k other) e n 0)
     moved-state clears k =
         let n = refusedState (w .state) in
-        by-cond (λ (d : Done). Moved x w c (outcome (d .number) 0 (inState w (d .memory)))) (eqb n 0) _ _ (λ t. moved-clear k)
+        by-cond (λ (d : Done). Moved w c (outcome (d .number) 0 (inState w (d .memory)))) (eqb n 0) _ _ (λ t. moved-clear k)
         (λ f.
         let r = state-refusal (w .state) logLimit (eqb-false n 0 f) in
         moved-refused c n (rw (k, r)) r)
 
   -- a byte write
-  made-byte : (i v : ℕ) → (inSave i ≡ true → w .state .used + width ≤ length (w .log)) → Made (byte i v) w (writeAt x 2 w i v)
-  made-byte i v room =
+  made-byte : (x : Fixed) (i v : ℕ) → (inSave i ≡ true → w .state .used + width ≤ length (w .log)) → Made (byte i v) w (writeAt x 2 w i v)
+  made-byte x i v room =
       record { stays = write-stays x w holds 2 i v; mapper = write-after x w i v; stores = write-stores x w i v room }
 
 -- a word write: two byte writes
-left-word : (x : Fixed) (w : World) → Good x w → (i v : ℕ) → wordRoom (w .state .used) (length (w .log)) i ≡ 0
+left-word : (x : Fixed) (w : World) → Good w → (i v : ℕ) → wordRoom (w .state .used) (length (w .log)) i ≡ 0
     → Left (byte i (v % 256) ∷ byte (nextIndex i) (v / 256) ∷ []) w (wordAt x w i v)
 unfolding wordAt
 left-word x w g i v room =
     let u = writeAt x 2 w i (v % 256) in
-    let a = made-byte x w g i (v % 256) (λ t. omega (arith, low-fits (w .state .used) (length (w .log)) i room t)) in
-    let h = stays-good x w u g (a .stays) in
-    let b = made-byte x u h (nextIndex i) (v / 256)
+    let a = made-byte w g x i (v % 256) (λ t. omega (arith, low-fits (w .state .used) (length (w .log)) i room t)) in
+    let h = stays-good w u g (a .stays) in
+    let b = made-byte u h x (nextIndex i) (v / 256)
     (λ t. omega (arith, high-fits (w .state .used) (length (w .log)) i room t, a .stores .grown, a .stores .same)) in
     left-more a (left-more b (left-none _ _ (quiet-refl _ (b .stays .holds))))
 
-pub moved : (x : Fixed) (w : World) → Good x w → (c : Call) → Moved x w c (step x w c)
+pub moved : (x : Fixed) (w : World) → Good w → (c : Call) → Moved w c (step x w c)
 unfolding step kindOf writesOf granted joined
-moved x w g (call.ReadByte i) = moved-read x w g (call.ReadByte i) reading refl _ _
-moved x w g (call.ReadWord i) = moved-read x w g (call.ReadWord i) reading refl _ _
-moved x w g (call.ReadCgbLcdRam i bank) = moved-read x w g (call.ReadCgbLcdRam i bank) reading refl _ _
+moved x w g (call.ReadByte i) = moved-read w g (call.ReadByte i) reading refl _ _
+moved x w g (call.ReadWord i) = moved-read w g (call.ReadWord i) reading refl _ _
+moved x w g (call.ReadCgbLcdRam i bank) = moved-read w g (call.ReadCgbLcdRam i bank) reading refl _ _
 moved x w g (call.WriteByte i v) =
     let n = orElse (refusedWrite x w) (byteRoom (w .state .used) (length (w .log)) i) in
-    by-unless (Moved x w (call.WriteByte i v)) n w _
+    by-unless (Moved w (call.WriteByte i v)) n w _
     (λ z.
-    let a = made-byte x w g i v (byte-fits (w .state .used) (length (w .log)) i (or-second _ _ z)) in
-    moved-left x w g (call.WriteByte i v) _ refl (rw (byte-done i)) (left-more a (left-none _ _ (quiet-refl _ (a .stays .holds)))))
-    (λ h. moved-refused x w g (call.WriteByte i v) n refl (byte-refusal x w i h))
+    let a = made-byte w g x i v (byte-fits (w .state .used) (length (w .log)) i (or-second _ _ z)) in
+    moved-left w g (call.WriteByte i v) _ refl (rw (byte-done i)) (left-more a (left-none _ _ (quiet-refl _ (a .stays .holds)))))
+    (λ h. moved-refused w g (call.WriteByte i v) n refl (byte-refusal x w i h))
 moved x w g (call.WriteWord i v) =
     let n = orElse (refusedWrite x w) (wordRoom (w .state .used) (length (w .log)) i) in
-    by-unless (Moved x w (call.WriteWord i v)) n w _
-    (λ z. moved-left x w g (call.WriteWord i v) _ refl (rw (word-done i)) (left-word x w g i v (or-second _ _ z)))
-    (λ h. moved-refused x w g (call.WriteWord i v) n refl (word-refusal x w i h))
+    by-unless (Moved w (call.WriteWord i v)) n w _
+    (λ z. moved-left w g (call.WriteWord i v) _ refl (rw (word-done i)) (left-word x w g i v (or-second _ _ z)))
+    (λ h. moved-refused w g (call.WriteWord i v) n refl (word-refusal x w i h))
 moved x w g (call.DoDmaTransfer page) =
-    moved-transfer x w g (call.DoDmaTransfer page) other refl 0 (oamCopy page) (oam-clear page) (oam-high page)
-moved x w g call.DoHdma = moved-transfer x w g call.DoHdma other refl 36 (blockCopy (w .state)) (block-clear (w .state)) (block-high (w .state))
-moved x w g (call.State c) = moved-state x w g (call.State c) refl (state-answers (w .state) c) refl
+    moved-transfer w g (call.DoDmaTransfer page) other refl x 0 (oamCopy page) (oam-clear page) (oam-high page)
+moved x w g call.DoHdma = moved-transfer w g call.DoHdma other refl x 36 (blockCopy (w .state)) (block-clear (w .state)) (block-high (w .state))
+moved x w g (call.State c) = moved-state w g (call.State c) refl (state-answers (w .state) c) refl

@@ -2,7 +2,7 @@
 pub use Rattle.bus.specs.Calls.{Outcome, outcome}
 pub use Rattle.bus.specs.Fresh.{Begun, begun, freshCall}
 pub use Rattle.bus.specs.declared.writes.Moved.{Moved}
-unfoldable pub use Rattle.dispatch.specs.Step.{step, run}
+unfoldable pub use Rattle.dispatch.specs.Step.{step}
 pub use Rattle.dispatch.specs.declared.Performed.{Performed}
 pub use Rattle.dispatch.specs.declared.Call.{Call}
 pub use Rattle.dispatch.specs.declared.Call.the-variants as call

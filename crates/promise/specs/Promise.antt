@@ -6,15 +6,15 @@ use Prim.Native.Nat.{ℕ, _-_, _/_, _%_, _<_, _≤_}
 use lib.Dec.{ltb}
 use lib.ListN.{length, take}
 use Rattle.mbc.specs.Mbc.{cartridgeOf, start as mapperOf}
-use Rattle.memory.specs.World.{World}
-use Rattle.numbers.specs.Numbers.{done, noRoom}
+use Rattle.memory.specs.World.{World, Fixed}
+use Rattle.numbers.specs.Numbers.{done, noRoom, wrongLength}
 use Rattle.savelog.specs.Log.{stored, records, applyAll, recovery, recoverAll, joined, cutCopies}
 use Rattle.promise.specs.Bus.{inSave, nextIndex, byteOwed, wordOwed, step, Call}
 use Rattle.promise.specs.Bus.call as call
 use Rattle.promise.specs.Bus.on as on
 use Rattle.promise.specs.Calls.{ByteWrite, byte, writesOf}
 use Rattle.promise.specs.Admitted.{letInAll, recordsOf}
-use Rattle.promise.specs.Runs.{Lent, Fitting, start, read, after, admitted, copies}
+use Rattle.promise.specs.Runs.{Lent, Fitting, start, Turn, calls, after, fits, admitted, copies}
 
 -- A number of this language has no bound; a byte write's value is a u8, and the halves of a word write's are u8 too
 abbrev pub Bytes : List ByteWrite → Type 0
@@ -34,33 +34,37 @@ Recovers save (c ∷ cs) = (recovery save c .number ≡ done) × Recovers (recov
 abbrev pub free : World → ℕ
 free w = length (w .log) - w .state .used
 
-pub record Kept (l : Lent) (cs : List Call) : Type 0 where
+pub record Kept (l : Lent) (ts : List Turn) : Type 0 where
   -- "The save is that image with exactly those byte writes applied"
-  pub save : after l cs .save ≡ applyAll (l .image) (admitted l cs)
+  pub save : after l ts .save ≡ applyAll (l .image) (admitted l ts)
   -- "the log names them in order, address and value": the joined copies are their records, byte for byte
-  pub log : joined (copies l cs) ≡ recordsOf (admitted l cs)
+  pub log : joined (copies l ts) ≡ recordsOf (admitted l ts)
   -- and these are read back as they were written
-  pub names : Typed cs → records (joined (copies l cs)) ≡ admitted l cs
+  pub names : Typed (calls ts) → records (joined (copies l ts)) ≡ admitted l ts
   -- "If only the log's first n bytes survive, for any n": what is left of the copies
-  pub first : (n : ℕ) → joined (cutCopies n (copies l cs)) ≡ take n (joined (copies l cs))
+  pub first : (n : ℕ) → joined (cutCopies n (copies l ts)) ≡ take n (joined (copies l ts))
   -- "recovery over the image, copy by copy, gives the save as it stood right after the last write whose record is whole, or the image if none is"
-  pub cut : Typed cs → (n : ℕ) → recoverAll (l .image) (cutCopies n (copies l cs)) ≡ applyAll (l .image) (take (n / 3) (admitted l cs))
-  pub recovers : Typed cs → (n : ℕ) → Recovers (l .image) (cutCopies n (copies l cs))
+  pub cut : Typed (calls ts) → (n : ℕ)
+      → recoverAll (l .image) (cutCopies n (copies l ts)) ≡ applyAll (l .image) (take (n / 3) (admitted l ts))
+  pub recovers : Typed (calls ts) → (n : ℕ) → Recovers (l .image) (cutCopies n (copies l ts))
   -- for so it stood: if other calls follow, the writes of these come first among the admitted ones
-  pub stood : (later : List Call) → after l cs .save ≡ applyAll (l .image) (take (length (admitted l cs)) (admitted l (cs ++ later)))
-  -- "that were not refused": no write is refused but for room, "byte write in A000..BFFF, under 3 log bytes free; word write with either index
-  -- there, under 6 free", and no clearing at all
-  pub bytes : (i v : ℕ) → step (read l) (after l cs) (call.WriteByte i v) .number
-      ≡ cond (inSave i && ltb (free (after l cs)) 3) noRoom (byteOwed i)
-  pub words : (i v : ℕ) → step (read l) (after l cs) (call.WriteWord i v) .number
-      ≡ cond ((inSave i || inSave (nextIndex i)) && ltb (free (after l cs)) 6) noRoom (wordOwed i)
-  pub clears : step (read l) (after l cs) (call.State on.ClearLog) .number ≡ done
+  pub stood : (later : List Turn) → after l ts .save ≡ applyAll (l .image) (take (length (admitted l ts)) (admitted l (ts ++ later)))
+  -- "that were not refused": whatever is lent for reading, 4 where its lengths are wrong; else no write is refused but for room, "byte write in
+  -- A000..BFFF, under 3 log bytes free; word write with either index there, under 6 free"; and no clearing at all
+  pub bytes : (x : Fixed) (i v : ℕ)
+      → step x (after l ts) (call.WriteByte i v) .number
+      ≡ cond (fits (cartridgeOf (l .banks) (l .code)) x) (cond (inSave i && ltb (free (after l ts)) 3) noRoom (byteOwed i)) wrongLength
+  pub words : (x : Fixed) (i v : ℕ)
+      → step x (after l ts) (call.WriteWord i v) .number
+      ≡ cond (fits (cartridgeOf (l .banks) (l .code)) x)
+      (cond ((inSave i || inSave (nextIndex i)) && ltb (free (after l ts)) 6) noRoom (wordOwed i)) wrongLength
+  pub clears : (x : Fixed) → step x (after l ts) (call.State on.ClearLog) .number ≡ done
   -- what is used of the log is whole records, and lies within it
-  pub within : (after l cs .state .used % 3 ≡ 0) × (after l cs .state .used ≤ length (after l cs .log))
+  pub within : (after l ts .state .used % 3 ≡ 0) × (after l ts .state .used ≤ length (after l ts .log))
 
 -- "Take a fresh bus over a save image and any list of bus calls"
 abbrev pub Promise : Type 0
-Promise = (l : Lent) (cs : List Call) → start l .number ≡ done → Kept l cs
+Promise = (l : Lent) (ts : List Turn) → start l .number ≡ done → Kept l ts
 
 -- and there are such: a description and lengths as document 01 has them are not refused
 abbrev pub Begins : Type 0

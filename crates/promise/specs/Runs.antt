@@ -1,15 +1,17 @@
 -- A fresh bus over a save image, and a list of calls on it (demand 3): who is refused, what is admitted, what is copied off.
 -- They speak of `freshCall`, which `fresh::fresh` is, and of `step`, which `dispatch::perform` is for every call.
-use mathlib.Core.Bool.{Bool, true, cond}
+use mathlib.Core.Bool.{Bool, true, cond, _&&_}
 use mathlib.Core.List.{List, [], _∷_, _++_}
 use mathlib.Core.Path.{_≡_}
 use Prim.Native.Nat.{ℕ, _≤_}
+use lib.Dec.{eqb}
 use lib.ListN.{length, take}
 use Rattle.mbc.specs.Mbc.{romLen, ramLen, described, cartridgeOf, start as mapperOf}
-use Rattle.memory.specs.Ranges.{vramLen, wramLen}
-use Rattle.memory.specs.World.{World, world, Fixed, fixed}
+use Rattle.mbc.specs.declared.cartridge.Cartridge.{Cartridge}
+use Rattle.memory.specs.Ranges.{vramLen, wramLen, soundLen}
+use Rattle.memory.specs.World.{World, world, Fixed}
 use Rattle.savelog.specs.Log.{Rec}
-use Rattle.promise.specs.Bus.{Begun, freshCall, step, run, Call}
+use Rattle.promise.specs.Bus.{Begun, freshCall, Outcome, step, Call}
 use Rattle.promise.specs.Calls.{refused, Kind, Reading, Clearing, Other, kindOf}
 use Rattle.promise.specs.Admitted.{admittedBy}
 
@@ -32,9 +34,6 @@ start l =
     freshCall (l .kind) (l .banks) (l .code) (l .colour) (length (l .rom)) (l .vram) (l .wram) (length (l .image))
     (length (l .log)) (length (l .sound))
 
-abbrev pub read : Lent → Fixed
-read l = fixed (l .rom) (l .sound)
-
 abbrev pub begin : Lent → World
 begin l = world (start l .state) (start l .vram) (start l .wram) (l .image) (l .log)
 
@@ -49,18 +48,38 @@ pub record Fitting (l : Lent) : Type 0 where
   pub log : length (l .log) ≤ 65535
   pub sound : length (l .sound) ≡ 48
 
--- "any list of bus calls, refused ones too, each on the state and buffers the last one left"
-abbrev pub after : Lent → List Call → World
-after l cs = run (read l) (begin l) cs
+-- "any list of bus calls, refused ones too, each on the state and buffers the last one left". Each call is lent its own ROM and sound window for reading,
+-- of any bytes and any length: the host changes the window when it pays a sound write, and a wrong length is refused by 4.
+pub record Turn : Type 0 where
+  pub read : Fixed
+  pub call : Call
+
+abbrev pub calls : List Turn → List Call
+calls [] = []
+calls (t ∷ ts) = t .call ∷ calls ts
+
+abbrev pub made : World → Turn → Outcome
+made w t = step (t .read) w (t .call)
+
+unfoldable pub run : World → List Turn → World
+run w [] = w
+run w (t ∷ ts) = run (made w t .after) ts
+
+abbrev pub after : Lent → List Turn → World
+after l ts = run (begin l) ts
+
+-- the lengths that a cartridge asks of them: 4 is due where they are others
+abbrev pub fits : Cartridge → Fixed → Bool
+fits c x = eqb (length (x .rom)) (romLen c) && eqb (length (x .sound)) soundLen
 
 -- the number of each call, which tells the refused ones
-unfoldable pub numbers : Fixed → World → List Call → List ℕ
-numbers x w [] = []
-numbers x w (c ∷ cs) = step x w c .number ∷ numbers x (step x w c .after) cs
+unfoldable pub numbers : World → List Turn → List ℕ
+numbers w [] = []
+numbers w (t ∷ ts) = made w t .number ∷ numbers (made w t .after) ts
 
 -- the admitted writes: from the cartridge's description, the calls, and their numbers
-abbrev pub admitted : Lent → List Call → List Rec
-admitted l cs = admittedBy (cartridgeOf (l .banks) (l .code)) (mapperOf (l .kind)) (numbers (read l) (begin l) cs) cs
+abbrev pub admitted : Lent → List Turn → List Rec
+admitted l ts = admittedBy (cartridgeOf (l .banks) (l .code)) (mapperOf (l .kind)) (numbers (begin l) ts) (calls ts)
 
 -- "The log's used bytes are copied off before each clearing and at the end": a clearing that is refused clears nothing, and nothing is copied
 
@@ -72,9 +91,9 @@ copiedBefore Reading n w = []
 copiedBefore Clearing n w = cond (refused n) [] (usedBytes w ∷ [])
 copiedBefore Other n w = []
 
-unfoldable pub copiesFrom : Fixed → World → List Call → List (List ℕ)
-copiesFrom x w [] = usedBytes w ∷ []
-copiesFrom x w (c ∷ cs) = copiedBefore (kindOf c) (step x w c .number) w ++ copiesFrom x (step x w c .after) cs
+unfoldable pub copiesFrom : World → List Turn → List (List ℕ)
+copiesFrom w [] = usedBytes w ∷ []
+copiesFrom w (t ∷ ts) = copiedBefore (kindOf (t .call)) (made w t .number) w ++ copiesFrom (made w t .after) ts
 
-abbrev pub copies : Lent → List Call → List (List ℕ)
-copies l cs = copiesFrom (read l) (begin l) cs
+abbrev pub copies : Lent → List Turn → List (List ℕ)
+copies l ts = copiesFrom (begin l) ts
