@@ -1,4 +1,3 @@
-pub mod Open
 pub mod Oam
 pub mod Quick
 pub mod Starts

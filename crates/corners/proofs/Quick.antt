@@ -1,4 +1,5 @@
--- What is seen on such a bus, without the tests of 3 and 4: these read every lent length, which no computed row needs to do.
+-- What is seen on a bus on which every call can be made, without the tests of 3 and 4: these read every lent length, which no computed row needs to do.
+use mathlib.Core.Bool.{true}
 use mathlib.Core.List.{List, [], _∷_}
 use mathlib.Core.Path.{_≡_, refl, ap}
 use Prim.Native.Nat.{ℕ}
@@ -13,6 +14,8 @@ use Rattle.mmu.proofs.Laws.{Stays, stays-refl, kept-stays, write-stays, transfe
 use Rattle.mmu.specs.Access.{readIn, inState}
 use Rattle.mmu.specs.Write.{writeAt, transferred}
 use Rattle.numbers.specs.Numbers.{done}
+use Rattle.promise.proofs.Open.{Good, stays-good, alone-open, read-number, write-number}
+use Rattle.promise.specs.Runs.{fits}
 use Rattle.refusals.specs.Answers.{changed, byteGiven}
 use Rattle.refusals.specs.Refusal.{orElse, byteRoom, byteOwed, cyclesRefused}
 use Rattle.refusals.specs.declared.Done.{Done}
@@ -22,7 +25,6 @@ use Rattle.registers.specs.Transfers.{blockCopy}
 use Rattle.timer.specs.Timer.{updated}
 use Rattle.corners.specs.Rows.{Act, read, write, cycle, press, poll, block, callOf, Line, does, gives, shows, seen}
 use Rattle.corners.proofs.Oam.{written, write-written}
-use Rattle.corners.proofs.Open.{Good, stays-good, alone-open, read-open, write-open}
 
 abbrev changedIn : World → ℕ → Memory → Outcome
 changedIn w n next = inWorld w (performedDone (changed n (w .state) next))
@@ -46,38 +48,41 @@ changed-kept : (n : ℕ) (m : Memory) {next : Memory} → Kept m next → Kept m
 unfolding changed
 changed-kept n m k = cond-both (λ (d : Done). Kept m (d .memory)) (eqb n 0) k (kept-refl m)
 
-module _ (x : Fixed) (w : World) (g : Good x w) where
+module _ (x : Fixed) (w : World) (g : Good w) (right : fits (w .state .cartridge) x ≡ true) where
   same : (a : Act) → step x w (callOf a) ≡ quick x w a
   unfolding step stateStep callOf quick byteGiven changed unless orElse
-  same (read i) = rw (read-open x w g)
-  same (write i v) = rw (write-open x w g, write-written x w i v)
-  same (cycle n) = rw (alone-open x w g)
-  same (press b) = rw (alone-open x w g)
-  same poll = rw (alone-open x w g)
-  same block = rw (write-open x w g)
+  same (read i) = rw (read-number w g x, right)
+  same (write i v) = rw (write-number w g x, right, write-written x w i v)
+  same (cycle n) = rw (alone-open w g)
+  same (press b) = rw (alone-open w g)
+  same poll = rw (alone-open w g)
+  same block = rw (write-number w g x, right)
 
   stays : (a : Act) → Stays w (quick x w a .after)
   unfolding quick unless
-  stays (read i) = stays-refl w (g .ready .holds)
+  stays (read i) = stays-refl w (g .holds)
   stays (write i v) =
       cond-both (λ (o : Outcome). Stays w (o .after)) (eqb (byteRoom (w .state .used) (length (w .log)) i) 0)
-      (rw (← write-written x w i v) (write-stays x w (g .ready .holds) 2 i v)) (stays-refl w (g .ready .holds))
-  stays (cycle n) = kept-stays w (g .ready .holds) _ (changed-kept (cyclesRefused n) (w .state) (timer-kept (w .state) n))
+      (rw (← write-written x w i v) (write-stays x w (g .holds) 2 i v)) (stays-refl w (g .holds))
+  stays (cycle n) = kept-stays w (g .holds) _ (changed-kept (cyclesRefused n) (w .state) (timer-kept (w .state) n))
   stays (press b) =
       let p = joypad.pressCall (w .state .joypad) b in
-      kept-stays w (g .ready .holds) _ (changed-kept (p .number) (w .state) (controller-kept (w .state) (p .controller)))
-  stays poll = kept-stays w (g .ready .holds) _ (polled-kept (w .state))
-  stays block = transfer-stays x w (g .ready .holds) 1 (blockCopy (w .state)) 0
+      kept-stays w (g .holds) _ (changed-kept (p .number) (w .state) (controller-kept (w .state) (p .controller)))
+  stays poll = kept-stays w (g .holds) _ (polled-kept (w .state))
+  stays block = transfer-stays x w (g .holds) 1 (blockCopy (w .state)) 0
 
-  good : (a : Act) → Good x (quick x w a .after)
-  good a = stays-good x w (quick x w a .after) g (stays a)
+  good : (a : Act) → Good (quick x w a .after)
+  good a = stays-good w (quick x w a .after) g (stays a)
 
-pub seen-quickly : (x : Fixed) (w : World) → Good x w → (ls : List Line) → seen x w ls ≡ quickly x w ls
+  still-right : (a : Act) → fits (quick x w a .after .state .cartridge) x ≡ true
+  still-right a = rw (stays a .cartridge) right
+
+pub seen-quickly : (x : Fixed) (w : World) → Good w → fits (w .state .cartridge) x ≡ true → (ls : List Line) → seen x w ls ≡ quickly x w ls
 unfolding seen quickly
-seen-quickly x w g [] = refl
-seen-quickly x w g (does a ∷ ls) =
-    rw (same x w g a) (ap (λ (r : List (List ℕ)). (quick x w a .number ∷ []) ∷ r) (seen-quickly x (quick x w a .after) (good x w g a) ls))
-seen-quickly x w g (gives a v ∷ ls) =
-    rw (same x w g a)
-    (ap (λ (r : List (List ℕ)). (quick x w a .number ∷ quick x w a .value ∷ []) ∷ r) (seen-quickly x (quick x w a .after) (good x w g a) ls))
-seen-quickly x w g (shows f l ∷ ls) = ap (λ (r : List (List ℕ)). f w ∷ r) (seen-quickly x w g ls)
+seen-quickly x w g r [] = refl
+seen-quickly x w g r (does a ∷ ls) =
+    rw (same x w g r a) (ap (λ (s : List (List ℕ)). (quick x w a .number ∷ []) ∷ s) (seen-quickly x (quick x w a .after) (good x w g r a) (still-right x w g r a) ls))
+seen-quickly x w g r (gives a v ∷ ls) =
+    rw (same x w g r a)
+    (ap (λ (s : List (List ℕ)). (quick x w a .number ∷ quick x w a .value ∷ []) ∷ s) (seen-quickly x (quick x w a .after) (good x w g r a) (still-right x w g r a) ls))
+seen-quickly x w g r (shows f l ∷ ls) = ap (λ (s : List (List ℕ)). f w ∷ s) (seen-quickly x w g r ls)

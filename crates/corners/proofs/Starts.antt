@@ -15,10 +15,11 @@ use Rattle.memory.specs.Ranges.{vramLen, wramLen, soundLen}
 use Rattle.memory.specs.Start.{started}
 use Rattle.memory.specs.World.{World, world}
 use Rattle.numbers.specs.Numbers.{done}
+use Rattle.promise.proofs.Open.{Good}
+use Rattle.promise.specs.Runs.{fits}
 use Rattle.refusals.specs.Refusal.{orElse, lengthsFit, lengthsRefused, logRefused}
 use Rattle.savelog.specs.Log.{useInRange}
 use Rattle.corners.specs.Rows.{Lent, bytes, logLen, Description, Line, freshOn, fixedOn, seenOn, due, dueOn}
-use Rattle.corners.proofs.Open.{Good}
 use Rattle.corners.proofs.Quick.{quickly, seen-quickly}
 
 bytes-length : (f : ℕ → ℕ) (at n : ℕ) → length (bytes f at n) ≡ n
@@ -59,27 +60,27 @@ module _ (lent : Lent) (d : Description) (a : Allowed d) (colour : Bool) where
         lengths-open (cartridge d) (mapper d) colour,
       )
 
-  start-good : Good (fixedOn lent d) (startOn lent d colour)
+  start-good : Good (startOn lent d colour)
   unfolding started useInRange
   start-good =
       record {
-        ready = record {
-          holds = record {
-            state = fresh-range (cartridge d) (d .kind) colour (a .described);
-            vram = length-replicate (vramLen colour) 0;
-            wram = length-replicate (wramLen colour) 0;
-            save = bytes-length (lent .save) 0 _;
-            log = rw (bytes-length (lent .log) 0 logLen) (omega arith);
-          };
-          rom = bytes-length (lent .rom) 0 _;
-          sound = bytes-length (lent .sound) 0 soundLen;
+        holds = record {
+          state = fresh-range (cartridge d) (d .kind) colour (a .described);
+          vram = length-replicate (vramLen colour) 0;
+          wram = length-replicate (wramLen colour) 0;
+          save = bytes-length (lent .save) 0 _;
+          log = rw (bytes-length (lent .log) 0 logLen) (omega arith);
         };
         used = rw (le-leb 0 (length (bytes (lent .log) 0 logLen)) (omega arith));
       }
 
+  start-right : fits (startOn lent d colour .state .cartridge) (fixedOn lent d) ≡ true
+  unfolding started
+  start-right = rw (eq-eqb _ _ (bytes-length (lent .rom) 0 (mbc.romLen (cartridge d))), bytes-length (lent .sound) 0 soundLen)
+
   pub seen-on : (ls : List Line) → seenOn lent d ls colour ≡ (done ∷ []) ∷ quickly (fixedOn lent d) (startOn lent d colour) ls
   unfolding seenOn
-  seen-on ls = rw (fresh-open, seen-quickly (fixedOn lent d) (startOn lent d colour) start-good ls)
+  seen-on ls = rw (fresh-open, seen-quickly (fixedOn lent d) (startOn lent d colour) start-good start-right ls)
 
 -- a row on one kind of machine, and on both
 module _ (lent : Lent) (d : Description) (a : Allowed d) (ls : List Line) where
