@@ -3,7 +3,7 @@
 use mathlib.Core.Bool.{Bool, cond}
 use Prim.Native.Nat.{ℕ}
 use lib.Dec.{eqb}
-use Rattle.bus.specs.Calls.{Outcome, outcome, readByteCall, readWordCall, readCgbLcdRamCall, writeByteCall, writeWordCall, doDmaTransferCall, doHdmaCall}
+use Rattle.bus.specs.Calls.{Outcome, outcome, readByteCall, readWordCall, readCgbLcdRamCall}
 use Rattle.input_calls.specs.Input as input
 use Rattle.interrupt.specs.PanDocs.{bitOf}
 use Rattle.interrupt.specs.declared.Pending.{Pending}
@@ -17,6 +17,8 @@ use Rattle.refusals.specs.declared.Flag.{Flag}
 use Rattle.refusals.specs.declared.Waiting.{Waiting}
 use Rattle.screen_calls.specs.Screen as screen
 use Rattle.state_calls.specs.State as state
+use Rattle.transfer_calls.specs.Transfers.{doDmaTransferCall, doHdmaCall}
+use Rattle.write_calls.specs.Writes.{writeByteCall, writeWordCall}
 use Rattle.dispatch.specs.declared.Performed.{Performed}
 use Rattle.dispatch.specs.declared.Call.{Call}
 use Rattle.dispatch.specs.declared.Call.the-variants as call

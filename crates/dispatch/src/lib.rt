@@ -4,8 +4,6 @@ ghost use Rattle.memory.specs.World.{world, fixed};
 ghost use Rattle.bus.specs.Calls.{outcome};
 ghost use Rattle.dispatch.specs.Step.{step, stateStep, performed, performedDone, flagNumber, pendingNumber, waitingNumber};
 use bus::reads;
-use bus::writes;
-use bus::writes::Moved;
 use interrupt::Pending;
 use lcd::Lcd;
 use memory::Memory;
@@ -14,6 +12,7 @@ use refusals::Done;
 use refusals::Flag;
 use refusals::Waiting;
 use refusals::Word;
+use transfer_calls::Moved;
 
 // The calls on the state alone, named after the Rust's functions.
 pub enum StateCall {
@@ -212,7 +211,7 @@ pub fn perform(
             memory,
             reads::read_cgb_lcd_ram(memory, vram, i, bank),
         ),
-        Call::WriteByte(i, v) => of_done(writes::write_byte(
+        Call::WriteByte(i, v) => of_done(write_calls::write_byte(
             memory,
             rom,
             vram,
@@ -223,7 +222,7 @@ pub fn perform(
             i,
             v,
         )),
-        Call::WriteWord(i, v) => of_done(writes::write_word(
+        Call::WriteWord(i, v) => of_done(write_calls::write_word(
             memory,
             rom,
             vram,
@@ -234,7 +233,7 @@ pub fn perform(
             i,
             v,
         )),
-        Call::DoDmaTransfer(page) => of_done(writes::do_dma_transfer(
+        Call::DoDmaTransfer(page) => of_done(transfer_calls::do_dma_transfer(
             memory,
             rom,
             vram,
@@ -244,7 +243,15 @@ pub fn perform(
             sound,
             page,
         )),
-        Call::DoHdma => of_moved(writes::do_hdma(memory, rom, vram, wram, save, log, sound)),
+        Call::DoHdma => of_moved(transfer_calls::do_hdma(
+            memory,
+            rom,
+            vram,
+            wram,
+            save,
+            log,
+            sound,
+        )),
         Call::State(inner) => perform_state(memory, inner),
     }
 }

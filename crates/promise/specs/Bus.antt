@@ -1,7 +1,6 @@
 -- The definitions of the bus that the promise is made over, under one roof: where they stand is said here alone.
 pub use Rattle.bus.specs.Calls.{Outcome, outcome}
 pub use Rattle.bus.specs.Fresh.{Begun, begun, freshCall}
-pub use Rattle.bus.specs.declared.writes.Moved.{Moved}
 unfoldable pub use Rattle.dispatch.specs.Step.{step}
 pub use Rattle.dispatch.specs.declared.Performed.{Performed}
 pub use Rattle.dispatch.specs.declared.Call.{Call}
@@ -11,3 +10,4 @@ pub use Rattle.dispatch.specs.declared.StateCall.the-variants as on
 pub use Rattle.refusals.specs.Refusal.{nextIndex}
 unfoldable pub use Rattle.refusals.specs.Refusal.{inSave, byteOwed, wordOwed}
 pub use Rattle.refusals.specs.declared.Done.{Done}
+pub use Rattle.transfer_calls.specs.declared.Moved.{Moved}

@@ -3,7 +3,7 @@ use mathlib.Core.Bool.{Bool, true, false, cond, _&&_}
 use Prim.Native.Nat.{ℕ, _+_, _<_}
 use native.Mathlib.Omega.{arith}
 use lib.Dec.{eqb, leb, ltb}
-use Rattle.bus.specs.Calls.{Outcome, outcome, unless, writeByteCall}
+use Rattle.bus.specs.Calls.{Outcome, outcome, unless}
 use Rattle.input_calls.specs.Input.{updateTimerCall}
 use Rattle.memory.specs.Ranges.{inRange}
 use Rattle.memory.specs.World.{World, Fixed}
@@ -14,6 +14,7 @@ use Rattle.refusals.specs.declared.Done.{Done}
 use Rattle.refusals.specs.Refusal.{orElse, inSave, inSound, byteRoom, byteOwed, cyclesRefused}
 use Rattle.refusals.specs.Refusal.{stateRefused, lengthsFit, lengthsRefused, logRefused, writeRefused}
 use Rattle.savelog.specs.Log.{width, logLimit}
+use Rattle.write_calls.specs.Writes.{writeByteCall}
 
 either : (b : Bool) (x y : ℕ) → x < 10 → y < 10 → cond b x y < 10
 either true x y p q = p

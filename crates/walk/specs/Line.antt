@@ -2,7 +2,7 @@
 use mathlib.Core.Path.{_≡_}
 use mathlib.Core.List.{List, []}
 use Prim.Native.Nat.{ℕ, _%_, _≤_}
-use Rattle.bus.specs.Calls.{Outcome, readByteCall, writeByteCall}
+use Rattle.bus.specs.Calls.{Outcome, readByteCall}
 use Rattle.commands.specs.Walk.{commandOf, readText, writeText, updateText, strangeText, textOf}
 use Rattle.commands.specs.declared.command.Command.{Command}
 use Rattle.commands.specs.declared.command.Command.the-variants.{Read, Write, Update, Strange}
@@ -10,6 +10,7 @@ use Rattle.commands.specs.declared.text.Text.{Text}
 use Rattle.input_calls.specs.Input.{updateTimerCall}
 use Rattle.memory.specs.World.{World, Fixed, world}
 use Rattle.refusals.specs.declared.Done.{Done}
+use Rattle.write_calls.specs.Writes.{writeByteCall}
 
 -- ROM byte at a is a modulo 256
 abbrev pub romByte : ℕ → ℕ

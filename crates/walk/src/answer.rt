@@ -3,7 +3,8 @@ ghost use mathlib.Core.List.{[]};
 ghost use mathlib.Core.Path.{_≡_};
 ghost use Rattle.commands.specs.Walk.{readText, updateText, Shows};
 ghost use Rattle.memory.specs.World.{world, fixed};
-ghost use Rattle.bus.specs.Calls.{readByteCall, writeByteCall};
+ghost use Rattle.bus.specs.Calls.{readByteCall};
+ghost use Rattle.write_calls.specs.Writes.{writeByteCall};
 ghost use Rattle.input_calls.specs.Input.{updateTimerCall};
 ghost use Rattle.walk.specs.Line.{Answers, written, lineWalked};
 use commands::command;
@@ -46,7 +47,7 @@ fn write(
 ) -> Answer
     ensures { λ r. ⌜ Answers (r .text) (world (r .memory) (now (vram .exit)) (now (wram .exit)) (now (save .exit)) (now (log .exit))) (written index (writeByteCall (fixed (now (rom .entry)) (now (sound .entry))) (world memory (now (vram .entry)) (now (wram .entry)) (now (save .entry)) (now (log .entry))) index value)) ⌝ }
 {
-    let done = bus::writes::write_byte(memory, rom, vram, wram, save, log, sound, index, value);
+    let done = write_calls::write_byte(memory, rom, vram, wram, save, log, sound, index, value);
     let next = done.memory;
     Answer {
         text: text::write(index, done.number),

@@ -1,16 +1,10 @@
-// The calls that write what is lent. What refuses them is asked of the state and the lengths before anything is touched.
+// The calls that write a byte or a word to what is lent. What refuses them is asked of the state and the lengths before anything is touched.
 ghost use mathlib.Core.Path.{_≡_};
 ghost use Rattle.memory.specs.World.{world, fixed};
-ghost use Rattle.bus.specs.Calls.{outcome, writeByteCall, writeWordCall, doDmaTransferCall, doHdmaCall};
+ghost use Rattle.bus.specs.Calls.{outcome};
+ghost use Rattle.write_calls.specs.Writes.{writeByteCall, writeWordCall};
 use memory::Memory;
 use refusals::Done;
-
-// The number, the answer of do_hdma, and the state after the call.
-pub struct Moved {
-    pub number: u8,
-    pub cycles: u8,
-    pub memory: Memory,
-}
 
 pub fn write_byte(
     memory: Memory,
@@ -85,76 +79,6 @@ pub fn write_word(
     let owed = refusals::word_owed(index);
     Done {
         number: owed,
-        memory: next,
-    }
-}
-
-pub fn do_dma_transfer(
-    memory: Memory,
-    rom: &[u8],
-    vram: &mut [u8],
-    wram: &mut [u8],
-    save: &mut [u8],
-    log: &mut [u8],
-    sound: &[u8],
-    page: u8,
-) -> Done
-    ensures { λ r. ⌜ outcome (r .number) 0 (world (r .memory) (now (vram .exit)) (now (wram .exit)) (now (save .exit)) (now (log .exit))) ≡ doDmaTransferCall (fixed (now (rom .entry)) (now (sound .entry))) (world memory (now (vram .entry)) (now (wram .entry)) (now (save .entry)) (now (log .entry))) page ⌝ }
-{
-    let number = refusals::write_refused(
-        memory,
-        rom.len(),
-        vram.len(),
-        wram.len(),
-        save.len(),
-        sound.len(),
-        log.len(),
-    );
-    if number != 0 {
-        return Done {
-            number: number,
-            memory: memory,
-        };
-    }
-    let next = mmu::do_dma_transfer(memory, rom, vram, wram, save, log, sound, page);
-    Done {
-        number: numbers::DONE,
-        memory: next,
-    }
-}
-
-// One block of 16 bytes; its answer is 36, whether HDMA is on or off.
-pub fn do_hdma(
-    memory: Memory,
-    rom: &[u8],
-    vram: &mut [u8],
-    wram: &mut [u8],
-    save: &mut [u8],
-    log: &mut [u8],
-    sound: &[u8],
-) -> Moved
-    ensures { λ r. ⌜ outcome (r .number) (r .cycles) (world (r .memory) (now (vram .exit)) (now (wram .exit)) (now (save .exit)) (now (log .exit))) ≡ doHdmaCall (fixed (now (rom .entry)) (now (sound .entry))) (world memory (now (vram .entry)) (now (wram .entry)) (now (save .entry)) (now (log .entry))) ⌝ }
-{
-    let number = refusals::write_refused(
-        memory,
-        rom.len(),
-        vram.len(),
-        wram.len(),
-        save.len(),
-        sound.len(),
-        log.len(),
-    );
-    if number != 0 {
-        return Moved {
-            number: number,
-            cycles: 0,
-            memory: memory,
-        };
-    }
-    let next = mmu::do_hdma(memory, rom, vram, wram, save, log, sound);
-    Moved {
-        number: numbers::DONE,
-        cycles: 36,
         memory: next,
     }
 }

@@ -1,10 +1,10 @@
 -- Refused, or transferred within.
 use Rattle.bus.proofs.Passes.{write-passes}
 use Rattle.bus.proofs.Outcomes.{refused-outcome, accepted-outcome, same-outcome}
 use mathlib.Core.Path.{refl, sym, _∙_}
 use borrow.Author.Needs.{needs}
-use Rattle.bus.proofs.writes.do_hdma.Statement.{statement}
-use Rattle.bus.proofs.writes.do_hdma.Tie as tie
+use Rattle.transfer_calls.proofs.do_hdma.Statement.{statement}
+use Rattle.transfer_calls.proofs.do_hdma.Tie as tie
 
 write-refused-requires : tie.Need-write-refused-requires
 write-refused-requires c κs = search needs

@@ -1,11 +1,11 @@
 -- Refused, or written within.
 use Rattle.bus.proofs.Passes.{write-passes}
 use Rattle.bus.proofs.Outcomes.{refused-outcome, accepted-outcome, same-outcome}
 use Rattle.refusals.proofs.Answers.{both-pass}
 use mathlib.Core.Path.{sym, _∙_}
 use borrow.Author.Needs.{needs}
-use Rattle.bus.proofs.writes.write_byte.Statement.{statement}
-use Rattle.bus.proofs.writes.write_byte.Tie as tie
+use Rattle.write_calls.proofs.write_byte.Statement.{statement}
+use Rattle.write_calls.proofs.write_byte.Tie as tie
 
 write-refused-requires : tie.Need-write-refused-requires
 write-refused-requires c κs = search needs
