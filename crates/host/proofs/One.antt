@@ -2,7 +2,7 @@
 use mathlib.Core.List.{List}
 use mathlib.Core.Path.{_≡_, ap, sym, _∙_}
 use Rattle.image.specs.Load.{Stored}
-use Rattle.host.specs.Entry.{Changed, Given, Left, Fresh, Mapped}
+use Rattle.entry.specs.Entry.{Changed, Given, Left, Fresh, Mapped}
 use Rattle.host.specs.One.{OneChanged, OneGiven, OneLeft, OneFresh, OneMapped, OneStored, OneEntry}
 
 -- two values that are both the same part of o

@@ -4,7 +4,7 @@ use mathlib.Core.List.{List}
 use mathlib.Core.Path.{_≡_}
 use Prim.Native.Nat.{ℕ}
 use Rattle.image.specs.Load.{Stored, stored}
-use Rattle.host.specs.Entry.{Changed, changed, Given, given, Left, left, Fresh, fresh, Mapped, mapped}
+use Rattle.entry.specs.Entry.{Changed, changed, Given, given, Left, left, Fresh, fresh, Mapped, mapped}
 
 abbrev pub OneChanged : Type 0
 OneChanged = (o : Changed) (m n : ℕ) (i j : List ℕ) → changed m i ≡ o → changed n j ≡ o → (m ≡ n) × (i ≡ j)

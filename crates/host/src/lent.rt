@@ -6,9 +6,9 @@ ghost use Rattle.memory.specs.World.{fixed};
 ghost use Rattle.savelog.specs.Log.{outcome, recovery};
 ghost use lib.ListN.{length};
 ghost use Rattle.bus.specs.Fresh.{freshCall};
-ghost use Rattle.host.specs.Entry.{given, readEntry, left, worldEntry, fresh, freshEntry, usedEntry};
-use crate::on_bus;
+ghost use Rattle.entry.specs.Entry.{given, readEntry, left, worldEntry, fresh, freshEntry, usedEntry};
 use dispatch::Call;
+use entry::on_bus;
 
 #[no_mangle]
 pub extern "C" fn pouch_read_byte(

@@ -1,6 +1,6 @@
 // Entries for a mapper's own two calls, on the mapper that the image holds. They touch neither save nor log.
 ghost use mathlib.Core.Path.{_≡_};
-ghost use Rattle.host.specs.Entry.{given, mapperReadEntry, answerNumber, mapped, mapperWriteEntry};
+ghost use Rattle.entry.specs.Entry.{given, mapperReadEntry, answerNumber, mapped, mapperWriteEntry};
 use mbc::Answer;
 
 // The byte at 0000..7FFF or A000..BFFF.

@@ -2,10 +2,10 @@
 ghost use mathlib.Core.Path.{_≡_};
 ghost use Rattle.dispatch.specs.declared.StateCall.the-variants.{Load, Store, SetJoypadState, AreActionKeysEnabled, AreDirectionKeysEnabled, DoLcdControlWrite, DoLcdStatusWrite, DoScanlineWrite, DoLycWrite, CompareLyToLyc, EnableScreen, DisableScreen, ResetWindowLine, GetInterrupts, RequestInterrupt, RemoveInterrupt, IsHdmaEnabled, UpdateTimer, Press, Release, UpdateJoypad, ClearLog, Host};
 ghost use Rattle.lcd.specs.Lcd.{numbersOf};
-ghost use Rattle.host.specs.Entry.{changed, stateEntry, given, askEntry};
-use crate::ask;
-use crate::on_state;
+ghost use Rattle.entry.specs.Entry.{changed, stateEntry, given, askEntry};
 use dispatch::StateCall;
+use entry::ask;
+use entry::on_state;
 use lcd::Lcd;
 
 // Raw: the page, FF00..FFFF.

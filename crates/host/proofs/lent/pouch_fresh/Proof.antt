@@ -1,7 +1,7 @@
 -- The image's length, what refuses the start, or both done.
 use denote.Ref.{now}
-use Rattle.host.proofs.Entries.{fresh-length, fresh-refused, fresh-done}
-use Rattle.host.proofs.Laws.{fresh-storable}
+use Rattle.entry.proofs.Entries.{fresh-length, fresh-refused, fresh-done}
+use Rattle.entry.proofs.Laws.{fresh-storable}
 use borrow.Author.Needs.{needs}
 use Rattle.host.proofs.lent.pouch_fresh.Statement.{statement}
 use Rattle.host.proofs.lent.pouch_fresh.Tie as tie

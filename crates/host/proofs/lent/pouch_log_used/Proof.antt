@@ -1,7 +1,7 @@
 -- What the image gave.
 use mathlib.Core.Path.{ap}
 use Rattle.image.specs.declared.Loaded.{Loaded}
-use Rattle.host.specs.Entry.{given}
+use Rattle.entry.specs.Entry.{given}
 use borrow.Author.Needs.{needs}
 use Rattle.host.proofs.lent.pouch_log_used.Statement.{statement}
 use Rattle.host.proofs.lent.pouch_log_used.Tie as tie

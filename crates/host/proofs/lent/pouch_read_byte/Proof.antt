@@ -1,5 +1,5 @@
 -- An image that is refused, or what the read gave.
-use Rattle.host.proofs.Entries.{unloaded-read, byte-read}
+use Rattle.entry.proofs.Entries.{unloaded-read, byte-read}
 use borrow.Author.Needs.{needs}
 use Rattle.host.proofs.lent.pouch_read_byte.Statement.{statement}
 use Rattle.host.proofs.lent.pouch_read_byte.Tie as tie

@@ -1,5 +1,5 @@
 -- An image that is refused, or what the read gave.
-use Rattle.host.proofs.Entries.{unloaded-read, lcd-ram-read}
+use Rattle.entry.proofs.Entries.{unloaded-read, lcd-ram-read}
 use borrow.Author.Needs.{needs}
 use Rattle.host.proofs.lent.pouch_read_cgb_lcd_ram.Statement.{statement}
 use Rattle.host.proofs.lent.pouch_read_cgb_lcd_ram.Tie as tie

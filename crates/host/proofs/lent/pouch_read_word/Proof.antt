@@ -1,5 +1,5 @@
 -- An image that is refused, or what the read gave.
-use Rattle.host.proofs.Entries.{unloaded-read, word-read}
+use Rattle.entry.proofs.Entries.{unloaded-read, word-read}
 use borrow.Author.Needs.{needs}
 use Rattle.host.proofs.lent.pouch_read_word.Statement.{statement}
 use Rattle.host.proofs.lent.pouch_read_word.Tie as tie

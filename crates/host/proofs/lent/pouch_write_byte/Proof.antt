@@ -1,5 +1,5 @@
 -- The call; it gives no value.
-use Rattle.host.proofs.Entries.{with-zero, byte-no-value}
+use Rattle.entry.proofs.Entries.{with-zero, byte-no-value}
 use borrow.Author.Needs.{needs}
 use Rattle.host.proofs.lent.pouch_write_byte.Statement.{statement}
 use Rattle.host.proofs.lent.pouch_write_byte.Tie as tie

@@ -1,5 +1,5 @@
 -- The call; it gives no value.
-use Rattle.host.proofs.Entries.{with-zero, word-no-value}
+use Rattle.entry.proofs.Entries.{with-zero, word-no-value}
 use borrow.Author.Needs.{needs}
 use Rattle.host.proofs.lent.pouch_write_word.Statement.{statement}
 use Rattle.host.proofs.lent.pouch_write_word.Tie as tie

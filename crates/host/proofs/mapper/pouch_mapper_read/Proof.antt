@@ -1,5 +1,5 @@
 -- An image that is refused, or what the mapper gave.
-use Rattle.host.proofs.Entries.{unloaded-mapper-read, mapper-read}
+use Rattle.entry.proofs.Entries.{unloaded-mapper-read, mapper-read}
 use borrow.Author.Needs.{needs}
 use Rattle.host.proofs.mapper.pouch_mapper_read.Statement.{statement}
 use Rattle.host.proofs.mapper.pouch_mapper_read.Tie as tie

@@ -1,6 +1,6 @@
 -- An image that is refused, an index that is, or both done.
-use Rattle.host.proofs.Entries.{unloaded-mapper, refused-mapper, done-mapper}
-use Rattle.host.proofs.Laws.{loaded-right, mapper-storable}
+use Rattle.entry.proofs.Entries.{unloaded-mapper, refused-mapper, done-mapper}
+use Rattle.entry.proofs.Laws.{loaded-right, mapper-storable}
 use borrow.Author.Needs.{needs}
 use Rattle.host.proofs.mapper.pouch_mapper_write.Statement.{statement}
 use Rattle.host.proofs.mapper.pouch_mapper_write.Tie as tie

@@ -2,11 +2,11 @@
 use Rattle.image.specs.Load.{storable}
 use Rattle.dispatch.specs.declared.Performed.{Performed}
 use mathlib.Core.Path.{ap, _∙_}
-use Rattle.host.proofs.Entries.{unloaded-state, refused-state, done-state}
-use Rattle.host.proofs.Laws.{loaded-right, state-storable}
+use Rattle.entry.proofs.Entries.{unloaded-state, refused-state, done-state}
+use Rattle.entry.proofs.Laws.{loaded-right, state-storable}
 use borrow.Author.Needs.{needs}
-use Rattle.host.proofs.on_state.Statement.{statement}
-use Rattle.host.proofs.on_state.Tie as tie
+use Rattle.entry.proofs.on_state.Statement.{statement}
+use Rattle.entry.proofs.on_state.Tie as tie
 
 decode-requires : tie.Need-decode-requires
 decode-requires c κs = search needs

@@ -26,7 +26,7 @@ use Rattle.promise.proofs.Each.{refused-promise}
 use Rattle.promise.proofs.Numbered.{by-unless}
 use Rattle.refusals.specs.declared.Byte.{Byte}
 use Rattle.refusals.specs.declared.Word.{Word}
-use Rattle.host.specs.Entry.{
+use Rattle.entry.specs.Entry.{
   changed,
   encoded,
   stateEntry,

@@ -2,11 +2,11 @@
 use Rattle.image.specs.Load.{storable}
 use Rattle.bus.specs.Calls.{Outcome}
 use mathlib.Core.Path.{ap, _∙_}
-use Rattle.host.proofs.Entries.{unloaded-bus, refused-bus, done-bus}
-use Rattle.host.proofs.Laws.{loaded-right, step-storable}
+use Rattle.entry.proofs.Entries.{unloaded-bus, refused-bus, done-bus}
+use Rattle.entry.proofs.Laws.{loaded-right, step-storable}
 use borrow.Author.Needs.{needs}
-use Rattle.host.proofs.on_bus.Statement.{statement}
-use Rattle.host.proofs.on_bus.Tie as tie
+use Rattle.entry.proofs.on_bus.Statement.{statement}
+use Rattle.entry.proofs.on_bus.Tie as tie
 
 decode-requires : tie.Need-decode-requires
 decode-requires c κs = search needs

@@ -1,8 +1,8 @@
 -- An image that is refused, or what the call gave.
-use Rattle.host.proofs.Entries.{unloaded-ask, asked}
+use Rattle.entry.proofs.Entries.{unloaded-ask, asked}
 use borrow.Author.Needs.{needs}
-use Rattle.host.proofs.ask.Statement.{statement}
-use Rattle.host.proofs.ask.Tie as tie
+use Rattle.entry.proofs.ask.Statement.{statement}
+use Rattle.entry.proofs.ask.Tie as tie
 
 decode-requires : tie.Need-decode-requires
 decode-requires c κs = search needs
