@@ -6,3 +6,4 @@ pub mod LoadLaws
 pub mod Round
 pub mod OpenLaws
 pub mod PatchLaws
+pub mod LoadedPatches
