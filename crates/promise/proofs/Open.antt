@@ -1,6 +1,6 @@
 -- A bus on which every call can be made: none is refused by 3; by 4 one is where the ROM or the sound window that it is lent has a wrong length.
 use mathlib.Core.Bool.{Bool, true, false, cond}
-use mathlib.Core.Path.{_≡_, refl, ap, _∙_}
+use mathlib.Core.Path.{_≡_, refl}
 use Prim.Native.Nat.{ℕ, _%_, _≤_}
 use native.Mathlib.Omega.{arith}
 use lib.Dec.{eqb, leb}

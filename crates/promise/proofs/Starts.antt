@@ -24,7 +24,7 @@ use Rattle.promise.proofs.Bus.{orElse, lengthsRefused, lengthsFit, both
 use Rattle.promise.proofs.Open.{Good}
 
 -- what was begun and not refused
-by-begun : (P : Begun → Type 0) (n : ℕ) (m : Memory) (v w : List ℕ) → beginning n m v w .number ≡ 0
+pub by-begun : (P : Begun → Type 0) (n : ℕ) (m : Memory) (v w : List ℕ) → beginning n m v w .number ≡ 0
     → (n ≡ 0 → P (begun 0 m (replicate (length v) 0) (replicate (length w) 0))) → P (beginning n m v w)
 unfolding beginning
 by-begun P n m v w z f = by-test (eqb n 0) refl z

@@ -1,0 +1,4 @@
+pub mod Fine
+pub mod Bytes
+pub mod Entries
+pub mod Boundary
