@@ -1,4 +1,4 @@
--- A C host: what it holds in its hands between two entries, and which entry makes a call (crate host, specs/Entry.antt).
+-- A C host: what it holds in its hands between two entries, and which entry makes a call (crate entry, specs/Entry.antt).
 use mathlib.Core.Bool.{cond}
 use mathlib.Core.List.{List, [], _∷_, _++_}
 use Prim.Native.Nat.{ℕ}
