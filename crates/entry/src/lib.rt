@@ -3,6 +3,9 @@
 ghost use mathlib.Core.Path.{_≡_};
 ghost use Rattle.memory.specs.World.{fixed};
 ghost use Rattle.entry.specs.Entry.{changed, stateEntry, given, askEntry, left, worldEntry};
+
+pub mod reads;
+
 use dispatch::Call;
 use dispatch::StateCall;
 

@@ -23,13 +23,7 @@ pub extern "C" fn pouch_read_byte(
 ) -> u8
     ensures { λ r. ⌜ given r (now (value .exit)) ≡ readEntry (fixed (now (rom .entry)) (now (sound .entry))) (now (image .entry)) (now (vram .entry)) (now (wram .entry)) (now (save .entry)) (ReadByte index) ⌝ }
 {
-    let loaded = image::decode(image);
-    if loaded.number != 0 {
-        *value = 0;
-        return loaded.number;
-    }
-    let memory = loaded.state;
-    let read = bus::reads::read_byte(memory, rom, vram, wram, save, sound, index);
+    let read = entry::reads::read_byte(image, rom, vram, wram, save, sound, index);
     *value = read.value;
     read.number
 }
@@ -48,13 +42,7 @@ pub extern "C" fn pouch_read_word(
 ) -> u8
     ensures { λ r. ⌜ given r (now (value .exit)) ≡ readEntry (fixed (now (rom .entry)) (now (sound .entry))) (now (image .entry)) (now (vram .entry)) (now (wram .entry)) (now (save .entry)) (ReadWord index) ⌝ }
 {
-    let loaded = image::decode(image);
-    if loaded.number != 0 {
-        *value = 0;
-        return loaded.number;
-    }
-    let memory = loaded.state;
-    let read = bus::reads::read_word(memory, rom, vram, wram, save, sound, index);
+    let read = entry::reads::read_word(image, rom, vram, wram, save, sound, index);
     *value = read.value;
     read.number
 }
