@@ -99,7 +99,7 @@ fn of_flag(memory: Memory, flag: Flag) -> Performed
 }
 
 // The interrupt's bit; 5 for none.
-fn pending_number(pending: Pending) -> u16
+pub fn pending_number(pending: Pending) -> u16
     ensures { λ r. ⌜ r ≡ pendingNumber pending ⌝ }
 {
     match pending {

@@ -84,7 +84,7 @@ changed-storable : (k : ℕ) (m n : Memory) → storable m ≡ true → storable
 unfolding changed
 changed-storable k m n h e = by-cond (λ (d : Done). storable (d .memory) ≡ true) (eqb k 0) _ _ (λ t. e) (λ f. h)
 
-cleared : (m : Memory) → storable m ≡ true → storable (withUsed m 0) ≡ true
+pub cleared : (m : Memory) → storable m ≡ true → storable (withUsed m 0) ≡ true
 unfolding useInRange
 cleared m h = joins (withUsed m 0) (used-range m 0 ∙ parts m h .0) refl
 

@@ -1,15 +1,13 @@
 -- The laws of proofs/PatchLaws.antt for an image that loads, whose state nobody need have made: what the types say holds of it (`loaded-typed`).
-use mathlib.Core.Bool.{Bool, true, false, _&&_}
+use mathlib.Core.Bool.{true}
 use mathlib.Core.Path.{_≡_, refl, sym, ap, _∙_}
 use mathlib.Core.List.{List, [], _∷_, _++_}
 use Prim.Native.Nat.{ℕ, _+_, _*_, _^_, _<_, _≤_}
 use native.Mathlib.Omega.{arith}
-use lib.Dec.{eqb}
 use lib.ListN.{length, take, drop, set, length-drop}
 use lib.Seq.{length-take-le}
 use mir.Syntax.{w32}
 use mir.Facts.{sfits-toZ}
-use borrow.Author.Tests.{eqb-true}
 use Rattle.numbers.specs.Numbers.{done}
 use Rattle.packing.specs.Packing.{Below, packed, unpacked, repacked, eights, fives}
 use Rattle.packing.proofs.Laws.{below-drop, unpack-fit}
@@ -20,14 +18,15 @@ use Rattle.memory.specs.declared.Clock.{Clock}
 use Rattle.memory.specs.declared.Memory.{Memory}
 use Rattle.memory.specs.World.{withOam, withPage, withJoypad, withClock, withMapper, withUsed}
 use Rattle.image.specs.Layout.{fieldWidths, imageOf}
-use Rattle.image.specs.Load.{colorsOf, sound, storable, loaded, valuesOf, fieldsIn, stateOf, loadCall}
+use Rattle.image.specs.Load.{colorsOf, storable, stateOf, loadCall}
 use Rattle.image.specs.Laws.{Typed}
 use Rattle.image.specs.Words.{wordWidths, wordList, wordsIn, fieldsOf}
 use Rattle.image.specs.Patches.{mappingPut, clockPut, joypadPut}
 use Rattle.image.proofs.ColorLaws.{channels-length, channels-colors}
 use Rattle.image.proofs.Parts.{repacked-length}
 use Rattle.image.proofs.LoadLaws.{below-take, made, state-read}
-use Rattle.image.proofs.Round.{number-done, image-back}
+use Rattle.image.proofs.OpenLaws.{load-length, load-state, load-image}
+use Rattle.image.proofs.Round.{image-back}
 use Rattle.image.proofs.PatchLaws.{Bytes, mapping-image, clock-image, oam-image, page-image, joypad-image}
 
 colors-length : (l : List ℕ) → length l ≡ 96 → length (colorsOf l) ≡ 32
@@ -75,41 +74,29 @@ module _ (l : List ℕ) (size : length l ≡ 665) (below : Below 256 l) where
       (colors-length s (repacked-length (eights 60) (fives 96) (take 60 (drop 572 l)))))
 
 module _ (l : List ℕ) (below : Below 256 l) (h : loadCall l .number ≡ done) where
-  loaded-parts : (length l ≡ 665) × (loadCall l ≡ loaded done (stateOf l))
-  unfolding loadCall
-  loaded-parts =
-      let a = number-done (eqb (length l) 665) (sound (fieldsIn (valuesOf l)) && storable (stateOf l)) (stateOf l) h in
-      (eqb-true (length l) 665 (a .0), rw (a .0, a .1))
-
-  pub loaded-length : length l ≡ 665
-  loaded-length = loaded-parts .0
-
   pub loaded-typed : Typed (loadCall l .state)
-  loaded-typed = rw (loaded-parts .1) (state-typed l loaded-length below)
+  loaded-typed = rw (load-state l h) (state-typed l (load-length l h) below)
 
   pub loaded-storable : storable (loadCall l .state) ≡ true
   loaded-storable = image-back l below h .0
 
-  pub loaded-image : imageOf (loadCall l .state) ≡ l
-  loaded-image = image-back l below h .1
-
   pub loaded-mapping : (p : Mapper) (u : ℕ) → storable (withUsed (withMapper (loadCall l .state) p) u) ≡ true
       → mappingPut l p u ≡ imageOf (withUsed (withMapper (loadCall l .state) p) u)
   loaded-mapping p u k =
-      ap (λ (x : List ℕ). mappingPut x p u) (sym loaded-image) ∙ mapping-image (loadCall l .state) loaded-typed loaded-storable p u k
+      ap (λ (x : List ℕ). mappingPut x p u) (sym (load-image l h below)) ∙ mapping-image (loadCall l .state) loaded-typed loaded-storable p u k
 
   pub loaded-clock : (c : Clock) → c .div < 256 → storable (withClock (loadCall l .state) c (loadCall l .state .page)) ≡ true
       → clockPut l c ≡ imageOf (withClock (loadCall l .state) c (loadCall l .state .page))
-  loaded-clock c d k = ap (λ (x : List ℕ). clockPut x c) (sym loaded-image) ∙ clock-image (loadCall l .state) loaded-typed loaded-storable c d k
+  loaded-clock c d k = ap (λ (x : List ℕ). clockPut x c) (sym (load-image l h below)) ∙ clock-image (loadCall l .state) loaded-typed loaded-storable c d k
 
   pub loaded-joypad : (j : Controller) → j .released < 256 → j .state < 256
       → joypadPut l j ≡ imageOf (withJoypad (loadCall l .state) j (loadCall l .state .page))
-  loaded-joypad j r s = ap (λ (x : List ℕ). joypadPut x j) (sym loaded-image) ∙ joypad-image (loadCall l .state) loaded-typed loaded-storable j r s
+  loaded-joypad j r s = ap (λ (x : List ℕ). joypadPut x j) (sym (load-image l h below)) ∙ joypad-image (loadCall l .state) loaded-typed loaded-storable j r s
 
   pub loaded-oam : (i v : ℕ) → i < 256 → v < 256 → set l i v ≡ imageOf (withOam (loadCall l .state) (set (loadCall l .state .oam) i v))
   loaded-oam i v hi hv =
-      ap (λ (x : List ℕ). set x i v) (sym loaded-image) ∙ sym (oam-image (loadCall l .state) loaded-typed loaded-storable i v hi hv)
+      ap (λ (x : List ℕ). set x i v) (sym (load-image l h below)) ∙ sym (oam-image (loadCall l .state) loaded-typed loaded-storable i v hi hv)
 
   pub loaded-page : (i v : ℕ) → i < 256 → v < 256 → set l (256 + i) v ≡ imageOf (withPage (loadCall l .state) (set (loadCall l .state .page) i v))
   loaded-page i v hi hv =
-      ap (λ (x : List ℕ). set x (256 + i) v) (sym loaded-image) ∙ sym (page-image (loadCall l .state) loaded-typed loaded-storable i v hi hv)
+      ap (λ (x : List ℕ). set x (256 + i) v) (sym (load-image l h below)) ∙ sym (page-image (loadCall l .state) loaded-typed loaded-storable i v hi hv)

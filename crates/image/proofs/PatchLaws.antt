@@ -194,7 +194,7 @@ below-set k (x ∷ l) zero v h b (suc j) = h (suc j)
 below-set k (x ∷ l) (suc i) v h b zero = h 0
 below-set k (x ∷ l) (suc i) v h b (suc j) = below-set k l i v (λ n. h (suc n)) b j
 
-bytes-set : (l : List ℕ) (i v : ℕ) → Bytes l → v < 256 → Bytes (set l i v)
+pub bytes-set : (l : List ℕ) (i v : ℕ) → Bytes l → v < 256 → Bytes (set l i v)
 bytes-set l i v h b = (simp length-set (h .0), below-set 256 l i v (h .1) b)
 
 pub typed-bytes : (m : Memory) → Typed m → (o p : List ℕ) → Bytes o → Bytes p → Typed (withPage (withOam m o) p)
