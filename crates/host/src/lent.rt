@@ -211,8 +211,7 @@ pub extern "C" fn pouch_recover(save: &mut [u8], log: &[u8]) -> u8
 pub extern "C" fn pouch_log_used(image: &[u8], value: &mut u16) -> u8
     ensures { λ r. ⌜ given r (now (value .exit)) ≡ usedEntry (now (image .entry)) ⌝ }
 {
-    let loaded = image::decode(image);
-    let memory = loaded.state;
-    *value = memory.used;
-    loaded.number
+    let asked = entry::fields::log_used(image);
+    *value = asked.value;
+    asked.number
 }

@@ -5,6 +5,9 @@ ghost use Rattle.lcd.specs.Lcd.{numbersOf};
 ghost use Rattle.entry.specs.Entry.{changed, stateEntry, given, askEntry};
 use dispatch::StateCall;
 use entry::ask;
+use entry::clock;
+use entry::fields;
+use entry::interrupts;
 use entry::on_state;
 use lcd::Lcd;
 
@@ -111,7 +114,7 @@ pub extern "C" fn pouch_reset_window_line(image: &mut [u8]) -> u8
 pub extern "C" fn pouch_get_interrupts(image: &[u8], value: &mut u16) -> u8
     ensures { λ r. ⌜ given r (now (value .exit)) ≡ askEntry (now (image .entry)) GetInterrupts ⌝ }
 {
-    let asked = ask(image, StateCall::GetInterrupts);
+    let asked = interrupts::get_interrupts(image);
     *value = asked.value;
     asked.number
 }
@@ -120,21 +123,21 @@ pub extern "C" fn pouch_get_interrupts(image: &[u8], value: &mut u16) -> u8
 pub extern "C" fn pouch_request_interrupt(image: &mut [u8], interrupt: u8) -> u8
     ensures { λ r. ⌜ changed r (now (image .exit)) ≡ stateEntry (now (image .entry)) (RequestInterrupt interrupt) ⌝ }
 {
-    on_state(image, StateCall::RequestInterrupt(interrupt))
+    interrupts::request_interrupt(image, interrupt)
 }
 
 #[no_mangle]
 pub extern "C" fn pouch_remove_interrupt(image: &mut [u8], interrupt: u8) -> u8
     ensures { λ r. ⌜ changed r (now (image .exit)) ≡ stateEntry (now (image .entry)) (RemoveInterrupt interrupt) ⌝ }
 {
-    on_state(image, StateCall::RemoveInterrupt(interrupt))
+    interrupts::remove_interrupt(image, interrupt)
 }
 
 #[no_mangle]
 pub extern "C" fn pouch_is_hdma_enabled(image: &[u8], value: &mut u16) -> u8
     ensures { λ r. ⌜ given r (now (value .exit)) ≡ askEntry (now (image .entry)) IsHdmaEnabled ⌝ }
 {
-    let asked = ask(image, StateCall::IsHdmaEnabled);
+    let asked = fields::is_hdma_enabled(image);
     *value = asked.value;
     asked.number
 }
@@ -144,7 +147,7 @@ pub extern "C" fn pouch_is_hdma_enabled(image: &[u8], value: &mut u16) -> u8
 pub extern "C" fn pouch_update_timer(image: &mut [u8], cycles: u32) -> u8
     ensures { λ r. ⌜ changed r (now (image .exit)) ≡ stateEntry (now (image .entry)) (UpdateTimer cycles) ⌝ }
 {
-    on_state(image, StateCall::UpdateTimer(cycles))
+    clock::update_timer(image, cycles)
 }
 
 #[no_mangle]
@@ -174,7 +177,7 @@ pub extern "C" fn pouch_update_joypad(image: &mut [u8]) -> u8
 pub extern "C" fn pouch_clear_log(image: &mut [u8]) -> u8
     ensures { λ r. ⌜ changed r (now (image .exit)) ≡ stateEntry (now (image .entry)) ClearLog ⌝ }
 {
-    on_state(image, StateCall::ClearLog)
+    fields::clear_log(image)
 }
 
 // The host sets the eight numbers of the screen, to any values.
