@@ -100,14 +100,14 @@ module _ (x : Fixed) (w : World) (h : storable (w .state) ≡ true) where
   abbrev Fine : Outcome → Type 0
   Fine o = storable (o .after .state) ≡ true
 
-  stays-storable : useInRange (w .state .used) (length (w .log)) ≡ true → (u : World) → Stays w u → storable (u .state) ≡ true
+  pub stays-storable : useInRange (w .state .used) (length (w .log)) ≡ true → (u : World) → Stays w u → storable (u .state) ≡ true
   stays-storable e u s = joins (u .state) (s .holds .state) (wider (u .state .used) (length (u .log)) (s .holds .log) (s .used e))
 
   -- what is not refused is ready
   ready : refusedWrite x w ≡ 0 → Ready x w
   ready e = write-passes (x .rom) (x .sound) (w .state) (w .vram) (w .wram) (w .save) (w .log) e
 
-  in-log : refusedWrite x w ≡ 0 → useInRange (w .state .used) (length (w .log)) ≡ true
+  pub in-log : refusedWrite x w ≡ 0 → useInRange (w .state .used) (length (w .log)) ≡ true
   unfolding writeRefused inRange
   in-log e = both-true (stateInRange (w .state)) _ (state-passes (w .state) (length (w .log)) (both-pass _ _ e .0)) .1
 

@@ -34,7 +34,7 @@ module _ (i : List ℕ) {o : Opened} (e : o ≡ openCall i) where
   unfolding openCall
   open-core = ap (λ (a : Opened). a .core) e
 
-  open-number : o .number ≡ loadCall i .number
+  pub open-number : o .number ≡ loadCall i .number
   unfolding openCall
   open-number = ap (λ (a : Opened). a .number) e
 

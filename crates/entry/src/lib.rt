@@ -9,6 +9,7 @@ pub mod clock;
 pub mod fields;
 pub mod interrupts;
 pub mod reads;
+pub mod writes;
 
 use dispatch::Call;
 use dispatch::StateCall;

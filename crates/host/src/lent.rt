@@ -83,17 +83,7 @@ pub extern "C" fn pouch_write_byte(
 ) -> u8
     ensures { λ r. ⌜ left r 0 (now (image .exit)) (now (vram .exit)) (now (wram .exit)) (now (save .exit)) (now (log .exit)) ≡ worldEntry (fixed (now (rom .entry)) (now (sound .entry))) (now (image .entry)) (now (vram .entry)) (now (wram .entry)) (now (save .entry)) (now (log .entry)) (WriteByte index byte) ⌝ }
 {
-    let done = on_bus(
-        image,
-        rom,
-        vram,
-        wram,
-        save,
-        log,
-        sound,
-        Call::WriteByte(index, byte),
-    );
-    done.number
+    entry::writes::write_byte(image, rom, vram, wram, save, log, sound, index, byte)
 }
 
 // Low byte first.
@@ -111,17 +101,7 @@ pub extern "C" fn pouch_write_word(
 ) -> u8
     ensures { λ r. ⌜ left r 0 (now (image .exit)) (now (vram .exit)) (now (wram .exit)) (now (save .exit)) (now (log .exit)) ≡ worldEntry (fixed (now (rom .entry)) (now (sound .entry))) (now (image .entry)) (now (vram .entry)) (now (wram .entry)) (now (save .entry)) (now (log .entry)) (WriteWord index word) ⌝ }
 {
-    let done = on_bus(
-        image,
-        rom,
-        vram,
-        wram,
-        save,
-        log,
-        sound,
-        Call::WriteWord(index, word),
-    );
-    done.number
+    entry::writes::write_word(image, rom, vram, wram, save, log, sound, index, word)
 }
 
 #[no_mangle]
