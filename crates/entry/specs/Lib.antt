@@ -1,3 +1,1 @@
 pub mod Entry
-pub mod InPlace
-pub mod Writes

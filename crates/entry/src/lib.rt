@@ -1,16 +1,9 @@
 // What an entry of the C boundary does, by value and on slices: decode the image, make the call, encode the state (specs/Entry.antt). Crate host exports
 // the entries themselves. None has a `requires`.
-// `clock`, `interrupts` and `fields` do the same on the image itself, for calls that take little of the state.
+// The crates quick_reads, quick_writes and quick_state do the same on the image itself, for calls that take little of the state.
 ghost use mathlib.Core.Path.{_≡_};
 ghost use Rattle.memory.specs.World.{fixed};
 ghost use Rattle.entry.specs.Entry.{changed, stateEntry, given, askEntry, left, worldEntry};
-
-pub mod clock;
-pub mod fields;
-pub mod interrupts;
-pub mod reads;
-pub mod writes;
-
 use dispatch::Call;
 use dispatch::StateCall;
 

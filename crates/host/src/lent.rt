@@ -23,7 +23,7 @@ pub extern "C" fn pouch_read_byte(
 ) -> u8
     ensures { λ r. ⌜ given r (now (value .exit)) ≡ readEntry (fixed (now (rom .entry)) (now (sound .entry))) (now (image .entry)) (now (vram .entry)) (now (wram .entry)) (now (save .entry)) (ReadByte index) ⌝ }
 {
-    let read = entry::reads::read_byte(image, rom, vram, wram, save, sound, index);
+    let read = quick_reads::read_byte(image, rom, vram, wram, save, sound, index);
     *value = read.value;
     read.number
 }
@@ -42,7 +42,7 @@ pub extern "C" fn pouch_read_word(
 ) -> u8
     ensures { λ r. ⌜ given r (now (value .exit)) ≡ readEntry (fixed (now (rom .entry)) (now (sound .entry))) (now (image .entry)) (now (vram .entry)) (now (wram .entry)) (now (save .entry)) (ReadWord index) ⌝ }
 {
-    let read = entry::reads::read_word(image, rom, vram, wram, save, sound, index);
+    let read = quick_reads::read_word(image, rom, vram, wram, save, sound, index);
     *value = read.value;
     read.number
 }
@@ -83,7 +83,7 @@ pub extern "C" fn pouch_write_byte(
 ) -> u8
     ensures { λ r. ⌜ left r 0 (now (image .exit)) (now (vram .exit)) (now (wram .exit)) (now (save .exit)) (now (log .exit)) ≡ worldEntry (fixed (now (rom .entry)) (now (sound .entry))) (now (image .entry)) (now (vram .entry)) (now (wram .entry)) (now (save .entry)) (now (log .entry)) (WriteByte index byte) ⌝ }
 {
-    entry::writes::write_byte(image, rom, vram, wram, save, log, sound, index, byte)
+    quick_writes::write_byte(image, rom, vram, wram, save, log, sound, index, byte)
 }
 
 // Low byte first.
@@ -101,7 +101,7 @@ pub extern "C" fn pouch_write_word(
 ) -> u8
     ensures { λ r. ⌜ left r 0 (now (image .exit)) (now (vram .exit)) (now (wram .exit)) (now (save .exit)) (now (log .exit)) ≡ worldEntry (fixed (now (rom .entry)) (now (sound .entry))) (now (image .entry)) (now (vram .entry)) (now (wram .entry)) (now (save .entry)) (now (log .entry)) (WriteWord index word) ⌝ }
 {
-    entry::writes::write_word(image, rom, vram, wram, save, log, sound, index, word)
+    quick_writes::write_word(image, rom, vram, wram, save, log, sound, index, word)
 }
 
 #[no_mangle]
@@ -191,7 +191,7 @@ pub extern "C" fn pouch_recover(save: &mut [u8], log: &[u8]) -> u8
 pub extern "C" fn pouch_log_used(image: &[u8], value: &mut u16) -> u8
     ensures { λ r. ⌜ given r (now (value .exit)) ≡ usedEntry (now (image .entry)) ⌝ }
 {
-    let asked = entry::fields::log_used(image);
+    let asked = quick_state::fields::log_used(image);
     *value = asked.value;
     asked.number
 }

@@ -5,11 +5,11 @@ ghost use Rattle.lcd.specs.Lcd.{numbersOf};
 ghost use Rattle.entry.specs.Entry.{changed, stateEntry, given, askEntry};
 use dispatch::StateCall;
 use entry::ask;
-use entry::clock;
-use entry::fields;
-use entry::interrupts;
 use entry::on_state;
 use lcd::Lcd;
+use quick_state::clock;
+use quick_state::fields;
+use quick_state::interrupts;
 
 // Raw: the page, FF00..FFFF.
 #[no_mangle]

@@ -12,11 +12,12 @@ use Rattle.numbers.specs.Numbers.{done, outOfRange, wrongLength}
 use Rattle.packing.specs.Packing.{Below}
 use Rattle.savelog.specs.Log.{logLimit}
 use Rattle.memory.specs.declared.Memory.{Memory}
-use Rattle.memory.specs.Ranges.{inRange}
+use Rattle.memory.specs.Ranges.{inRange, coreOf}
 use Rattle.memory.specs.Start.{zeroed}
 use Rattle.image.specs.Layout.{imageOf}
-use Rattle.image.specs.Load.{storable, sound, fieldsIn, valuesOf, stateOf, loaded, loadCall}
+use Rattle.image.specs.Load.{storable, sound, fieldsIn, valuesOf, stateOf, loaded, loadCall, openCall}
 use Rattle.image.specs.declared.Loaded.{Loaded}
+use Rattle.image.specs.declared.Opened.{Opened}
 use Rattle.image.proofs.LoadLaws.{state-read}
 use Rattle.image.proofs.Round.{number-done, image-back}
 
@@ -66,3 +67,13 @@ module _ (l : List ℕ) where
           ∙ ap (λ (m : Memory). getD (m .page) i 0) (state-read l load-length below)
           ∙ getD-take 256 (drop 256 l) i 0 k
           ∙ getD-drop 256 l i 0
+
+-- what `open` gave
+module _ (l : List ℕ) {o : Opened} (e : o ≡ openCall l) where
+  pub open-number : o .number ≡ loadCall l .number
+  unfolding openCall
+  open-number = ap (λ (a : Opened). a .number) e
+
+  pub open-core : o .core ≡ coreOf (loadCall l .state)
+  unfolding openCall
+  open-core = ap (λ (a : Opened). a .core) e

@@ -1,0 +1,22 @@
+-- Refused by the image or the lengths, or the byte.
+use mathlib.Core.Path.{sym, _∙_}
+use Rattle.refusals.proofs.Answers.{both-pass}
+use Rattle.quick_reads.proofs.ReadLaws.{read-ready, refused-byte-read, done-byte-read}
+use borrow.Author.Needs.{needs}
+use Rattle.quick_reads.proofs.read_byte.Statement.{statement}
+use Rattle.quick_reads.proofs.read_byte.Tie as tie
+
+open-lent-requires : tie.Need-open-lent-requires
+open-lent-requires c κs = search needs
+
+returns : tie.Need-returns
+returns c = refused-byte-read _ _ _ _ _ (c .before .before .open-lent .ensures .0) _ (c .if1 .taken)
+
+byte-at-requires : tie.Need-byte-at-requires
+byte-at-requires c κs = ((both-pass _ _ (sym (c .before .before .before .open-lent .ensures .0) ∙ c .before .if1 .left) .0, c .before .before .before .open-lent .ensures .1), read-ready _ _ _ _ _ (c .before .before .before .open-lent .ensures .0) (c .before .if1 .left))
+
+returns-2 : tie.Need-returns-2
+returns-2 c = done-byte-read _ _ _ _ _ (c .before .before .before .before .open-lent .ensures .0) (c .before .before .if1 .left) _ (c .byte-at .ensures)
+
+pub read-byte-spec : {M : Type 1} → statement M
+read-byte-spec = tie.close (tie.spec open-lent-requires returns byte-at-requires returns-2)

@@ -1,0 +1,174 @@
+-- A quick write: it starts no transfer, what it leaves is a state in range with the types of one, and the image changed in place is that state's.
+use mathlib.Core.Bool.{Bool, true, false, cond}
+use mathlib.Core.List.{List, []}
+use mathlib.Core.Logic.{_⊎_, inl, inr, ⊎-elim}
+use mathlib.Core.Path.{_≡_, refl, sym, ap, subst, _∙_}
+use Prim.Native.Nat.{ℕ, _+_, _-_, _<_, _≤_}
+use native.Mathlib.Omega.{arith}
+use lib.Dec.{ltb}
+use lib.ListN.{length, set}
+use borrow.Author.Tests.{ltb-true, ltb-false, lt-ltb, le-ltb}
+use Rattle.image.proofs.PatchLaws.{typed-with, typed-bytes, bytes-set, oam-image, page-image}
+use Rattle.image.specs.Laws.{Typed}
+use Rattle.image.specs.Layout.{imageOf}
+use Rattle.image.specs.Load.{storable}
+use Rattle.mbc.proofs.Bools.{by-cond}
+use Rattle.mbc.specs.Mbc.{after, answer}
+use Rattle.mbc.specs.declared.mbc.Answer.{Answer}
+use Rattle.mbc.specs.declared.mbc.Answer.the-variants.{Stored, NotStored}
+use Rattle.memory.specs.World.{World, world, Fixed, withOam, withUsed}
+use Rattle.memory.specs.declared.Memory.{Memory}
+use Rattle.mmu.proofs.Laws.{write-plain}
+use Rattle.mmu.proofs.Places.{put-rom, put-oam, put-register}
+use Rattle.mmu.specs.Access.{Holds, mapperPut, savedState, saved, savePut, inState, putAt, put}
+use Rattle.mmu.specs.PanDocs.{echo}
+use Rattle.mmu.specs.Write.{writeAt}
+use Rattle.registers.proofs.Kept.{cond-both}
+use Rattle.registers.proofs.Rest.{rest-write, sound-write, high-write}
+use Rattle.registers.specs.Page.{writeRegister}
+use Rattle.registers.specs.State.{stored}
+use Rattle.savelog.specs.Log.{width}
+use Rattle.entry.specs.Entry.{left}
+use Rattle.quick_writes.specs.Writes.{quick, leftBy, ownPut}
+
+-- The page's quick indexes are the sound window and the bytes behind the registers
+
+abbrev Sound : ℕ → Type 0
+Sound i = (0xFF10 ≤ i) × (i < 0xFF40)
+
+abbrev Behind : ℕ → Type 0
+Behind i = (0xFF80 ≤ i) × (i < 0xFFFF)
+
+quick-page : (i : ℕ) → quick i ≡ true → 0xFF00 ≤ i → Sound i ⊎ Behind i
+unfolding quick
+quick-page i q h =
+    by-cond (λ (t : Bool). t ≡ true → Sound i ⊎ Behind i) (ltb i 0xFF10) (ltb i 0xFF00) _ (λ t e. absurd (omega (arith, ltb-true i 0xFF00 e)))
+    (λ f.
+    by-cond (λ (t : Bool). t ≡ true → Sound i ⊎ Behind i) (ltb i 0xFF40) true _ (λ t e. inl (ltb-false i 0xFF10 f, ltb-true i 0xFF40 t))
+    (λ g.
+    by-cond (λ (t : Bool). t ≡ true → Sound i ⊎ Behind i) (ltb i 0xFF80) false (ltb i 0xFFFF)
+    (λ t e. let z : _≡_ {A = ℕ} 0 1 = cc in absurd (omega arith)) (λ k e. inr (ltb-false i 0xFF80 k, ltb-true i 0xFFFF e))))
+    q
+
+-- no transfer is started there
+quick-other : (i k : ℕ) → quick i ≡ true → 0xFF40 ≤ k → k < 0xFF80 → i ≡ k → ⊥
+quick-other i k q a b e = ⊎-elim (λ s. omega (arith, s)) (λ s. omega (arith, s)) (quick-page i q (omega arith))
+
+echo-above : (index : ℕ) → 0xFE00 ≤ index → echo index ≡ index
+unfolding echo
+echo-above index h = rw (le-ltb index 0xE000 (omega arith), le-ltb index 0xFE00 h)
+
+pub quick-plain : (x : Fixed) (w : World) (d index v : ℕ) → quick (echo index) ≡ true → writeAt x d w index v ≡ put w index v
+quick-plain x w d index v q =
+    write-plain x w d index v
+    (λ e. quick-other (echo index) 0xFF46 q (omega arith) (omega arith) (echo-above index (omega arith) ∙ e))
+    (λ e. quick-other (echo index) 0xFF55 q (omega arith) (omega arith) (echo-above index (omega arith) ∙ e))
+
+module _ (m : Memory) (at v : ℕ) where
+  sound-register : 0x10 ≤ at → at < 0x40 → writeRegister m at v ≡ m
+  sound-register h l =
+      rest-write m at v (λ e. omega arith) (λ e. omega arith) (λ e. omega arith) (λ e. omega arith) (λ e. omega arith) (λ e. omega arith) (λ e. omega arith)
+      (λ e. omega arith) (λ e. omega arith) (λ e. omega arith) (λ e. omega arith) (λ e. omega arith) (λ e. omega arith) (λ e. omega arith) (λ e. omega arith)
+      (λ e. omega arith) (λ e. omega arith) (λ e. omega arith) (λ e. omega arith) (λ e. omega arith) (λ e. omega arith)
+      ∙ sound-write m at v h l
+
+  behind-register : 0x80 ≤ at → at < 0xFF → writeRegister m at v ≡ stored m at v
+  behind-register h l =
+      rest-write m at v (λ e. omega arith) (λ e. omega arith) (λ e. omega arith) (λ e. omega arith) (λ e. omega arith) (λ e. omega arith) (λ e. omega arith)
+      (λ e. omega arith) (λ e. omega arith) (λ e. omega arith) (λ e. omega arith) (λ e. omega arith) (λ e. omega arith) (λ e. omega arith) (λ e. omega arith)
+      (λ e. omega arith) (λ e. omega arith) (λ e. omega arith) (λ e. omega arith) (λ e. omega arith) (λ e. omega arith)
+      ∙ high-write m at v (omega arith) (omega arith)
+
+-- What a quick write leaves has the types of a state
+
+abbrev TypedIn : World → Type 0
+TypedIn w = Typed (w .state)
+
+module _ (w : World) (t : Typed (w .state)) (i v : ℕ) (hv : v < 256) where
+  mapper-typed : Typed (mapperPut (w .state) i v)
+  mapper-typed =
+      typed-with (w .state) t (w .state .oam) (w .state .page) (w .state .joypad) (w .state .clock) (after (w .state .cartridge) (w .state .mapper) i v)
+      (w .state .used) (t .oam) (t .page) (t .released) (t .state) (t .div)
+
+  saved-typed : (a : Answer) → TypedIn (saved a w)
+  saved-typed (Stored at b) =
+      typed-with (w .state) t (w .state .oam) (w .state .page) (w .state .joypad) (w .state .clock) (w .state .mapper) (w .state .used + width) (t .oam)
+      (t .page) (t .released) (t .state) (t .div)
+  saved-typed NotStored = t
+
+  save-typed : TypedIn (savePut w i v)
+  unfolding savePut
+  save-typed =
+      cond-both TypedIn (ltb (length (w .log)) (w .state .used + width)) t (saved-typed (answer (w .state .cartridge) (w .state .mapper) i v))
+
+  oam-typed : Typed (withOam (w .state) (set (w .state .oam) (i - 0xFE00) v))
+  oam-typed =
+      typed-bytes (w .state) t (set (w .state .oam) (i - 0xFE00) v) (w .state .page) (bytes-set (w .state .oam) (i - 0xFE00) v (t .oam) hv) (t .page)
+
+  stored-typed : (at : ℕ) → Typed (stored (w .state) at v)
+  stored-typed at = typed-bytes (w .state) t (w .state .oam) (set (w .state .page) at v) (t .oam) (bytes-set (w .state .page) at v (t .page) hv)
+
+  register-typed : quick i ≡ true → 0xFF00 ≤ i → Typed (writeRegister (w .state) (i - 0xFF00) v)
+  register-typed q h =
+      ⊎-elim (λ s. subst Typed (sym (sound-register (w .state) (i - 0xFF00) v (omega (arith, s)) (omega (arith, s)))) t)
+      (λ s. subst Typed (sym (behind-register (w .state) (i - 0xFF00) v (omega (arith, s)) (omega (arith, s)))) (stored-typed (i - 0xFF00)))
+      (quick-page i q h)
+
+  put-at-typed : quick i ≡ true → TypedIn (putAt w i v)
+  unfolding putAt
+  put-at-typed q =
+      cond-both TypedIn (ltb i 0x8000) mapper-typed
+      (cond-both TypedIn (ltb i 0xA000) t
+      (cond-both TypedIn (ltb i 0xC000) save-typed
+      (cond-both TypedIn (ltb i 0xE000) t
+      (by-cond TypedIn (ltb i 0xFF00) _ _ (λ b. oam-typed) (λ b. register-typed q (ltb-false i 0xFF00 b))))))
+
+pub put-typed : (w : World) → Typed (w .state) → (index v : ℕ) → v < 256 → quick (echo index) ≡ true → Typed (put w index v .state)
+put-typed w t index v hv q = put-at-typed w t (echo index) v hv q
+
+-- A byte of OAM or page in the image: what a write leaves, as the world with another state, and the image that it has
+pub record Own (w : World) (index i v : ℕ) : Type 0 where
+  pub next : Memory
+  pub same : inState w next ≡ put w index v
+  pub image : ownPut (imageOf (w .state)) i v ≡ imageOf next
+
+module _ (w : World) (t : Typed (w .state)) (h : storable (w .state) ≡ true) (index i v : ℕ) (hv : v < 256) (e : i ≡ echo index) where
+  own-oam : 0xFE00 ≤ i → i < 0xFF00 → Own w index i v
+  unfolding ownPut
+  own-oam a l =
+      record {
+        next = withOam (w .state) (set (w .state .oam) (i - 0xFE00) v);
+        same = put-oam w index i v e (omega arith) l refl;
+        image = rw (lt-ltb i 0xFF00 l) (sym (oam-image (w .state) t h (i - 0xFE00) v (omega arith) hv));
+      }
+
+  own-sound : Sound i → Own w index i v
+  unfolding ownPut
+  own-sound s =
+      let k = s .0 in
+      let l = s .1 in
+      record {
+        next = w .state;
+        same = put-register w index i v e (omega arith) (sym (sound-register (w .state) (i - 0xFF00) v (omega arith) (omega arith)));
+        image = rw (le-ltb i 0xFF00 (omega arith), lt-ltb i 0xFF40 l);
+      }
+
+  own-behind : Behind i → Own w index i v
+  unfolding ownPut
+  own-behind s =
+      let k = s .0 in
+      let l = s .1 in
+      let p : i - 0xFE00 ≡ 256 + (i - 0xFF00) = omega arith in
+      record {
+        next = stored (w .state) (i - 0xFF00) v;
+        same = put-register w index i v e (omega arith) (sym (behind-register (w .state) (i - 0xFF00) v (omega arith) (omega arith)));
+        image =
+            rw (le-ltb i 0xFF00 (omega arith), le-ltb i 0xFF40 (omega arith), p) (sym (page-image (w .state) t h (i - 0xFF00) v (omega arith) hv));
+      }
+
+  own-by : (b : Bool) → ltb i 0xFF00 ≡ b → quick i ≡ true → 0xFE00 ≤ i → Own w index i v
+  own-by true f q a = own-oam a (ltb-true i 0xFF00 f)
+  own-by false f q a = ⊎-elim (λ s. own-sound s) (λ s. own-behind s) (quick-page i q (ltb-false i 0xFF00 f))
+
+  pub own-put : quick i ≡ true → 0xFE00 ≤ i → Own w index i v
+  own-put q a = own-by (ltb i 0xFF00) refl q a

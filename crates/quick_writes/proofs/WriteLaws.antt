@@ -1,0 +1,292 @@
+-- A quick write on an image that is taken: what the parts of src/writes.rt ask for, what each region's part leaves, and that the next write finds an image
+-- that is taken. Then how a write answers, by what refuses it.
+use mathlib.Core.Bool.{Bool, true, false, cond, _||_}
+use mathlib.Core.List.{List, []}
+use mathlib.Core.Logic.{⊎-elim}
+use mathlib.Core.Path.{_≡_, refl, sym, ap, subst, _∙_}
+use Prim.Native.Nat.{ℕ, _+_, _*_, _-_, _/_, _%_, _<_, _≤_}
+use native.Mathlib.Omega.{arith}
+use lib.Dec.{eqb, ltb}
+use lib.ListN.{length, set}
+use borrow.Author.Tests.{eq-eqb, eqb-true, ne-eqb, lt-ltb, le-ltb, ltb-false}
+use Rattle.bus.proofs.Passes.{write-passes}
+use Rattle.bus.specs.Calls.{Outcome, outcome, unless}
+use Rattle.dispatch.specs.Step.{step}
+use Rattle.dispatch.specs.declared.Call.{Call}
+use Rattle.dispatch.specs.declared.Call.the-variants as call
+use Rattle.image.proofs.LoadedPatches.{loaded-typed, loaded-storable, loaded-mapping}
+use Rattle.image.proofs.OpenLaws.{load-length, load-range, load-image, open-number, open-core}
+use Rattle.image.proofs.PatchLaws.{slim}
+use Rattle.image.proofs.Round.{state-back}
+use Rattle.image.specs.Laws.{Typed}
+use Rattle.image.specs.Layout.{imageOf}
+use Rattle.image.specs.Load.{storable, loaded, loadCall, openCall}
+use Rattle.image.specs.Patches.{Slim, mappingPut}
+use Rattle.image.specs.declared.Loaded.{Loaded}
+use Rattle.image.specs.declared.Opened.{Opened}
+use Rattle.mbc.proofs.Bools.{by-cond}
+use Rattle.mbc.specs.Mbc.{inRange, ramLen, after}
+use Rattle.memory.specs.Ranges.{coreOf}
+use Rattle.memory.specs.World.{World, world, Fixed, fixed, withUsed}
+use Rattle.memory.specs.declared.Core.{Core}
+use Rattle.memory.specs.declared.Memory.{Memory}
+use Rattle.mmu.proofs.Laws.{Stays, put-stays}
+use Rattle.mmu.proofs.Places.{holds-mapper, holds-vram, holds-wram, put-rom, put-vram, put-save, put-wram}
+use Rattle.mmu.specs.Access.{Holds, mapperPut, savePut, inState, inVram, inWram, put}
+use Rattle.mmu.specs.PanDocs.{echo, vramAt, wramAt}
+use Rattle.mmu.specs.Write.{writeAt, wordAt}
+use Rattle.numbers.specs.Numbers.{done}
+use Rattle.packing.specs.Packing.{Below}
+use Rattle.refusals.proofs.Answers.{both-pass}
+use Rattle.refusals.proofs.Core.{write-core}
+use Rattle.refusals.specs.Refusal.{orElse, writeRefused, coreWriteRefused, refusedWrite, inSound, nextIndex, byteRoom, wordRoom, byteOwed, wordOwed}
+use Rattle.savelog.specs.Log.{logLimit, useInRange}
+use Rattle.entry.specs.Entry.{Left, left, leftIn, encodedIn, worldEntry}
+use Rattle.quick_writes.specs.Writes.{quick, worldOf, Taken, leftBy, ownPut}
+use Rattle.entry.proofs.Laws.{stays-storable, in-log}
+use Rattle.quick_writes.proofs.Quick.{quick-plain, put-typed, own-put}
+
+-- the image and the memories of what a write leaves
+as-left : (w : World) (index b : ℕ) {u : World} {j : List ℕ} → u ≡ put w index b → j ≡ imageOf (u .state)
+    → left 0 0 j (u .vram) (u .wram) (u .save) (u .log) ≡ leftBy (put w index b)
+as-left w index b e f = rw f (ap leftBy e)
+
+module _ {i v w s l : List ℕ} (t : Taken i v w s l) where
+  taken-storable : storable (loadCall i .state) ≡ true
+  taken-storable = loaded-storable i (t .bytes) (t .number)
+
+  taken-typed : Typed (loadCall i .state)
+  taken-typed = loaded-typed i (t .bytes) (t .number)
+
+  taken-image : i ≡ imageOf (loadCall i .state)
+  taken-image = sym (load-image i (t .number) (t .bytes))
+
+  put-storable : (index b : ℕ) → storable (put (worldOf i v w s l) index b .state) ≡ true
+  put-storable index b =
+      let W = worldOf i v w s l in
+      stays-storable (fixed [] []) W taken-storable (t .used) (put W index b) (put-stays W (t .holds) index b)
+
+  left-storable : (index b : ℕ) {u : World} → u ≡ put (worldOf i v w s l) index b → storable (u .state) ≡ true
+  left-storable index b e = ap (λ (a : World). storable (a .state)) e ∙ put-storable index b
+
+  pub taken-length : length i ≡ 665
+  taken-length = load-length i (t .number)
+
+  -- what the parts ask for, of the state without its arrays
+  module _ {c : Core} (e : c ≡ coreOf (loadCall i .state)) where
+    pub taken-mapper : inRange (c .cartridge) (c .mapper) ≡ true
+    taken-mapper = rw e (holds-mapper (t .holds))
+
+    pub taken-slim : Slim (c .mapper)
+    taken-slim = rw e (slim (loadCall i .state) taken-storable)
+
+    pub taken-save : length s ≡ ramLen (c .cartridge) (c .mapper)
+    taken-save = rw e (t .holds .save)
+
+    pub taken-vram : c .banks .vram * 0x2000 + 0x2000 ≤ length v
+    taken-vram = rw e (holds-vram (t .holds))
+
+    pub taken-wram : (0x1000 ≤ length w) × (c .banks .wram * 0x1000 + 0x1000 ≤ length w)
+    taken-wram = rw e (holds-wram (t .holds))
+
+    -- each region
+    module _ (index k b : ℕ) (q : k ≡ echo index) where
+      pub after-slim : k < 0x8000 → Slim (after (c .cartridge) (c .mapper) k b)
+      after-slim h = rw e (slim (mapperPut (loadCall i .state) k b) (left-storable index b (put-rom (worldOf i v w s l) index k b q h refl)))
+
+      pub left-rom : k < 0x8000 → {j : List ℕ} → j ≡ mappingPut i (after (c .cartridge) (c .mapper) k b) (c .used)
+          → left 0 0 j v w s l ≡ leftBy (put (worldOf i v w s l) index b)
+      left-rom h f =
+          let m = loadCall i .state in
+          let p = put-rom (worldOf i v w s l) index k b q h refl in
+          as-left (worldOf i v w s l) index b p
+          (f
+          ∙ ap (λ (d : Core). mappingPut i (after (d .cartridge) (d .mapper) k b) (d .used)) e
+          ∙ loaded-mapping i (t .bytes) (t .number) (after (m .cartridge) (m .mapper) k b) (m .used) (left-storable index b p))
+
+      pub left-vram : 0x8000 ≤ k → k < 0xA000 → {j : List ℕ} → j ≡ set v (vramAt (c .banks .vram) k) b
+          → left 0 0 i j w s l ≡ leftBy (put (worldOf i v w s l) index b)
+      left-vram g h f =
+          as-left (worldOf i v w s l) index b (put-vram (worldOf i v w s l) index k b q g h (f ∙ ap (λ (d : Core). set v (vramAt (d .banks .vram) k) b) e)) taken-image
+
+      pub left-save : 0xA000 ≤ k → k < 0xC000 → {r : ℕ} {j s' l' : List ℕ} → j ≡ mappingPut i (c .mapper) r
+          → ((m : Memory) → m .cartridge ≡ c .cartridge → m .mapper ≡ c .mapper → m .used ≡ c .used
+          → world (withUsed m r) [] [] s' l' ≡ savePut (world m [] [] s l) k b)
+          → left 0 0 j v w s' l' ≡ leftBy (put (worldOf i v w s l) index b)
+      left-save g h {r} f n =
+          let m = loadCall i .state in
+          let p = put-save (worldOf i v w s l) index k b q g h
+          (n m (sym (ap (λ (d : Core). d .cartridge) e)) (sym (ap (λ (d : Core). d .mapper) e)) (sym (ap (λ (d : Core). d .used) e))) in
+          as-left (worldOf i v w s l) index b p
+          (f
+          ∙ ap (λ (d : Core). mappingPut i (d .mapper) r) e
+          ∙ loaded-mapping i (t .bytes) (t .number) (m .mapper) r (left-storable index b p))
+
+      pub left-wram : 0xC000 ≤ k → k < 0xE000 → {j : List ℕ} → j ≡ set w (wramAt (c .banks .wram) k) b
+          → left 0 0 i v j s l ≡ leftBy (put (worldOf i v w s l) index b)
+      left-wram g h f =
+          as-left (worldOf i v w s l) index b (put-wram (worldOf i v w s l) index k b q g h (f ∙ ap (λ (d : Core). set w (wramAt (d .banks .wram) k) b) e)) taken-image
+
+      pub left-own : 0xFE00 ≤ k → quick k ≡ true → b < 256 → {j : List ℕ} → j ≡ ownPut i k b
+          → left 0 0 j v w s l ≡ leftBy (put (worldOf i v w s l) index b)
+      left-own g y z f =
+          let o = own-put (worldOf i v w s l) taken-typed taken-storable index k b z q y g in
+          as-left (worldOf i v w s l) index b (o .same) (f ∙ ap (λ (a : List ℕ). ownPut a k b) taken-image ∙ o .image)
+
+  -- and the next write finds an image that is taken
+  pub taken-put : (index b : ℕ) → b < 256 → quick (echo index) ≡ true → {j v' w' s' l' : List ℕ}
+      → left 0 0 j v' w' s' l' ≡ leftBy (put (worldOf i v w s l) index b)
+      → Taken j v' w' s' l' × (worldOf j v' w' s' l' ≡ put (worldOf i v w s l) index b)
+  taken-put index b z q e =
+      let u = put (worldOf i v w s l) index b in
+      let y = put-stays (worldOf i v w s l) (t .holds) index b in
+      let r = state-back (u .state) (put-typed (worldOf i v w s l) taken-typed index b z q) (put-storable index b) in
+      let n : loadCall (imageOf (u .state)) .state ≡ u .state = ap (λ (d : Loaded). d .state) (r .1 .1) in
+      subst (λ (a : Left). Taken (a .image) (a .vram) (a .wram) (a .save) (a .log) × (worldOf (a .image) (a .vram) (a .wram) (a .save) (a .log) ≡ u)) (sym e) (
+        record {
+          bytes = r .1 .0;
+          number = ap (λ (d : Loaded). d .number) (r .1 .1);
+          holds = subst (λ (m : Memory). Holds (world m (u .vram) (u .wram) (u .save) (u .log))) (sym n) (y .holds);
+          used = ap (λ (m : Memory). useInRange (m .used) (length (u .log))) n ∙ y .used (t .used);
+        },
+        ap (λ (m : Memory). world m (u .vram) (u .wram) (u .save) (u .log)) n,
+      )
+
+-- How a write answers
+
+zero-else : (a : ℕ) → orElse 0 a ≡ a
+unfolding orElse
+zero-else a = refl
+
+either-way : (b : Bool) {x y : Left} → x ≡ y → cond b x y ≡ y
+either-way true e = e
+either-way false e = refl
+
+module _ (x : Fixed) (i v w s l : List ℕ) (below : Below 256 i) (c : Call) (room k : ℕ) (u : World)
+    (f : step x (worldOf i v w s l) c ≡ unless (orElse (refusedWrite x (worldOf i v w s l)) room) (worldOf i v w s l) (outcome k 0 u)) where
+  untaken : (loadCall i .number ≡ 0 → ⊥) → {n : ℕ} → n ≡ orElse (orElse (loadCall i .number) (refusedWrite x (worldOf i v w s l))) room
+      → left n 0 i v w s l ≡ worldEntry x i v w s l c
+  unfolding worldEntry orElse
+  untaken h e = rw (e, ne-eqb (loadCall i .number) 0 h, ne-eqb (loadCall i .number) 0 h)
+
+  refused : loadCall i .number ≡ 0 → {n : ℕ} → n ≡ orElse (orElse (loadCall i .number) (refusedWrite x (worldOf i v w s l))) room → (n ≡ 0 → ⊥)
+      → left n 0 i v w s l ≡ worldEntry x i v w s l c
+  unfolding worldEntry encodedIn unless
+  refused z {n} e h =
+      let d : n ≡ orElse (refusedWrite x (worldOf i v w s l)) room = e ∙ rw z (ap (λ (a : ℕ). orElse a room) (zero-else (refusedWrite x (worldOf i v w s l)))) in
+      let g = load-image i z below in
+      rw (z, f, ← d, ne-eqb n 0 h) (sym (either-way (ltb 1 n) (ap (λ (a : List ℕ). left n 0 a v w s l) (sym g)) ∙ ap (λ (a : List ℕ). left n 0 a v w s l) g))
+
+  refused-by : (t : Bool) → eqb (loadCall i .number) 0 ≡ t → {n : ℕ} → n ≡ orElse (orElse (loadCall i .number) (refusedWrite x (worldOf i v w s l))) room
+      → (n ≡ 0 → ⊥) → left n 0 i v w s l ≡ worldEntry x i v w s l c
+  refused-by true q e h = refused (eqb-true (loadCall i .number) 0 q) e h
+  refused-by false q e h =
+      untaken (λ z. let y : true ≡ false = sym (eq-eqb (loadCall i .number) 0 z) ∙ q in let o : _≡_ {A = ℕ} 0 1 = cc in absurd (omega arith)) e
+
+  module _ {n : ℕ} (e : n ≡ orElse (orElse (loadCall i .number) (refusedWrite x (worldOf i v w s l))) room) where
+    write-refused : (n ≡ 0 → ⊥) → left n 0 i v w s l ≡ worldEntry x i v w s l c
+    write-refused h = refused-by (eqb (loadCall i .number) 0) refl e h
+
+    write-done : n ≡ 0 → k ≤ 1 → {j v' w' s' l' : List ℕ} → left 0 0 j v' w' s' l' ≡ leftBy u
+        → left k 0 j v' w' s' l' ≡ worldEntry x i v w s l c
+    unfolding worldEntry encodedIn unless orElse
+    write-done z h g =
+        let p = both-pass (orElse (loadCall i .number) (refusedWrite x (worldOf i v w s l))) room (sym e ∙ z) in
+        let q = both-pass (loadCall i .number) (refusedWrite x (worldOf i v w s l)) (p .0) in
+        rw (q .0, f, q .1, p .1, le-ltb 1 k h) (ap (λ (a : Left). left k 0 (a .image) (a .vram) (a .wram) (a .save) (a .log)) g)
+
+-- bytes and words
+
+byte-call : (x : Fixed) (w : World) (index b : ℕ) → quick (echo index) ≡ true
+    → step x w (call.WriteByte index b)
+    ≡ unless (orElse (refusedWrite x w) (byteRoom (w .state .used) (length (w .log)) index)) w (outcome (byteOwed index) 0 (put w index b))
+unfolding step
+byte-call x w index b q = rw (quick-plain x w 2 index b q)
+
+byte-owed : (index : ℕ) → byteOwed index ≤ 1
+unfolding byteOwed
+byte-owed index = by-cond (λ (n : ℕ). n ≤ 1) (inSound index) 1 0 (λ t. omega arith) (λ f. omega arith)
+
+word-call : (x : Fixed) (w : World) (index b : ℕ) → quick (echo index) ≡ true → quick (echo (nextIndex index)) ≡ true
+    → step x w (call.WriteWord index b)
+    ≡ unless (orElse (refusedWrite x w) (wordRoom (w .state .used) (length (w .log)) index)) w
+    (outcome (wordOwed index) 0 (put (put w index (b % 256)) (nextIndex index) (b / 256)))
+unfolding step wordAt
+word-call x w index b q r =
+    rw (quick-plain x w 2 index (b % 256) q, quick-plain x (put w index (b % 256)) 2 (nextIndex index) (b / 256) r)
+
+word-owed : (index : ℕ) → wordOwed index ≤ 1
+unfolding wordOwed
+word-owed index = by-cond (λ (n : ℕ). n ≤ 1) (inSound index || inSound (nextIndex index)) 1 0 (λ t. omega arith) (λ f. omega arith)
+
+-- the number that the code finds: the image's, the lengths', the log's
+module _ (rom sound i v w s l : List ℕ) (below : Below 256 i) {o : Opened} (r : ℕ) {n : ℕ}
+    (p : (o .number ≡ orElse (loadCall i .number) (refusedWrite (fixed rom sound) (worldOf i v w s l))) × (o .core ≡ coreOf (loadCall i .state)))
+    (e : n ≡ orElse (o .number) r) where
+  numbered : (room : ℕ) → r ≡ room → n ≡ orElse (orElse (loadCall i .number) (refusedWrite (fixed rom sound) (worldOf i v w s l))) room
+  numbered room y = e ∙ ap (λ (a : ℕ). orElse (o .number) a) y ∙ ap (λ (a : ℕ). orElse a room) (p .0)
+
+  pub write-taken : n ≡ 0 → Taken i v w s l
+  write-taken z =
+      let q = both-pass (orElse (loadCall i .number) (refusedWrite (fixed rom sound) (worldOf i v w s l))) r (sym (numbered r refl) ∙ z) in
+      let d = both-pass (loadCall i .number) (refusedWrite (fixed rom sound) (worldOf i v w s l)) (q .0) in
+      record {
+        bytes = below;
+        number = d .0;
+        holds = write-passes rom sound (loadCall i .state) v w s l (d .1) .holds;
+        used = in-log (fixed rom sound) (worldOf i v w s l) (loaded-storable i below (d .0)) (d .1);
+      }
+
+  module _ (index b : ℕ) (q : quick (echo index) ≡ true) (y : r ≡ byteRoom (o .core .used) (length l) index) where
+    byte-number : n
+        ≡ orElse (orElse (loadCall i .number) (refusedWrite (fixed rom sound) (worldOf i v w s l))) (byteRoom (loadCall i .state .used) (length l) index)
+    byte-number = numbered (byteRoom (loadCall i .state .used) (length l) index) (y ∙ ap (λ (d : Core). byteRoom (d .used) (length l) index) (p .1))
+
+    pub byte-refused : (n ≡ 0 → ⊥) → left n 0 i v w s l ≡ worldEntry (fixed rom sound) i v w s l (call.WriteByte index b)
+    byte-refused =
+        write-refused (fixed rom sound) i v w s l below (call.WriteByte index b) (byteRoom (loadCall i .state .used) (length l) index) (byteOwed index)
+        (put (worldOf i v w s l) index b) (byte-call (fixed rom sound) (worldOf i v w s l) index b q) byte-number
+
+    pub byte-done : n ≡ 0 → {k : ℕ} → k ≡ byteOwed index → {j v' w' s' l' : List ℕ} → left 0 0 j v' w' s' l' ≡ leftBy (put (worldOf i v w s l) index b)
+        → left k 0 j v' w' s' l' ≡ worldEntry (fixed rom sound) i v w s l (call.WriteByte index b)
+    byte-done z d g =
+        rw d
+        (write-done (fixed rom sound) i v w s l below (call.WriteByte index b) (byteRoom (loadCall i .state .used) (length l) index) (byteOwed index)
+        (put (worldOf i v w s l) index b) (byte-call (fixed rom sound) (worldOf i v w s l) index b q) byte-number z (byte-owed index) g)
+
+  module _ (index b : ℕ) (q : (quick (echo index) ≡ true) × (quick (echo (nextIndex index)) ≡ true)) (y : r ≡ wordRoom (o .core .used) (length l) index) where
+    word-number : n
+        ≡ orElse (orElse (loadCall i .number) (refusedWrite (fixed rom sound) (worldOf i v w s l))) (wordRoom (loadCall i .state .used) (length l) index)
+    word-number = numbered (wordRoom (loadCall i .state .used) (length l) index) (y ∙ ap (λ (d : Core). wordRoom (d .used) (length l) index) (p .1))
+
+    pub word-refused : (n ≡ 0 → ⊥) → left n 0 i v w s l ≡ worldEntry (fixed rom sound) i v w s l (call.WriteWord index b)
+    word-refused =
+        write-refused (fixed rom sound) i v w s l below (call.WriteWord index b) (wordRoom (loadCall i .state .used) (length l) index) (wordOwed index)
+        (put (put (worldOf i v w s l) index (b % 256)) (nextIndex index) (b / 256)) (word-call (fixed rom sound) (worldOf i v w s l) index b (q .0) (q .1))
+        word-number
+
+    pub word-done : n ≡ 0 → {k : ℕ} → k ≡ wordOwed index → {j v' w' s' l' : List ℕ}
+        → left 0 0 j v' w' s' l' ≡ leftBy (put (put (worldOf i v w s l) index (b % 256)) (nextIndex index) (b / 256))
+        → left k 0 j v' w' s' l' ≡ worldEntry (fixed rom sound) i v w s l (call.WriteWord index b)
+    word-done z d g =
+        rw d
+        (write-done (fixed rom sound) i v w s l below (call.WriteWord index b) (wordRoom (loadCall i .state .used) (length l) index) (wordOwed index)
+        (put (put (worldOf i v w s l) index (b % 256)) (nextIndex index) (b / 256)) (word-call (fixed rom sound) (worldOf i v w s l) index b (q .0) (q .1))
+        word-number z (word-owed index) g)
+
+-- what `open_lent` finds
+module _ {o : Opened} (i : List ℕ) (e : o ≡ openCall i) where
+  pub opened-refused : (o .number ≡ 0 → ⊥) → (a : ℕ) → o .number ≡ orElse (loadCall i .number) a
+  unfolding orElse
+  opened-refused h a = open-number i e ∙ rw (ne-eqb (loadCall i .number) 0 (λ z. h (open-number i e ∙ z)))
+
+  pub opened-write : Below 256 i → o .number ≡ 0 → (rom vram wram save sound log : ℕ) {n : ℕ}
+      → n ≡ coreWriteRefused (o .core) rom vram wram save sound log
+      → n ≡ orElse (loadCall i .number) (writeRefused (loadCall i .state) rom vram wram save sound log)
+  opened-write below z rom vram wram save sound log f =
+      let m = loadCall i .state in
+      let y = sym (open-number i e) ∙ z in
+      f
+      ∙ ap (λ (c : Core). coreWriteRefused c rom vram wram save sound log) (open-core i e)
+      ∙ sym (write-core m (load-range i y below) rom vram wram save sound log)
+      ∙ sym (ap (λ (a : ℕ). orElse a (writeRefused m rom vram wram save sound log)) y ∙ zero-else (writeRefused m rom vram wram save sound log))

@@ -1,0 +1,55 @@
+-- After the first write the image is taken again (`taken-put`).
+use native.Mathlib.Omega.{arith}
+use Rattle.quick_writes.proofs.WriteLaws.{taken-put}
+use borrow.Author.Needs.{needs}
+use Rattle.quick_writes.proofs.put_both.Statement.{statement}
+use Rattle.quick_writes.proofs.put_both.Tie as tie
+
+cast-low : tie.Need-cast-low
+cast-low c = search needs
+
+cast-high : tie.Need-cast-high
+cast-high c = search needs
+
+next-index-requires : tie.Need-next-index-requires
+next-index-requires c κs = search needs
+
+put-quick-requires : tie.Need-put-quick-requires
+put-quick-requires c κs = search needs
+
+put-again-requires : tie.Need-put-again-requires
+put-again-requires c κs = let P = c .before .before .before .before .before .before .before .before .before .before .before .before .before .before .before .before .before .before .before .before .before .before .before .before .before .before .before .pre in (taken-put (P .0) _ _ (omega arith) (P .1 .1 .0) (c .before .before .before .before .before .before .before .before .before .before .before .before .before .before .before .put-quick .ensures) .0, rw (c .before .before .before .before .before .before .before .before .before .before .before .before .before .before .before .before .before .before .before .before .before .next-index .ensures) (P .1 .1 .1))
+
+same-length : tie.Need-same-length
+same-length c = search needs
+
+same-length-2 : tie.Need-same-length-2
+same-length-2 c = search needs
+
+same-length-3 : tie.Need-same-length-3
+same-length-3 c = search needs
+
+same-length-4 : tie.Need-same-length-4
+same-length-4 c = search needs
+
+same-length-5 : tie.Need-same-length-5
+same-length-5 c = search needs
+
+returns : tie.Need-returns
+returns c = let P = c .before .before .before .before .before .before .before .before .before .before .before .before .before .before .before .before .before .before .before .before .before .before .before .before .before .before .before .before .before .before .before .before .before .before .before .before .before .before .pre in rw (taken-put (P .0) _ _ (omega arith) (P .1 .1 .0) (c .before .before .before .before .before .before .before .before .before .before .before .before .before .before .before .before .before .before .before .before .before .before .before .before .before .before .put-quick .ensures) .1, c .before .before .before .before .before .before .before .before .before .before .before .before .before .before .before .before .before .before .before .before .before .before .before .before .before .before .before .before .before .before .before .before .next-index .ensures) at (c .before .before .before .before .before .before .before .before .before .before .put-again .ensures)
+
+pub put-both-spec : {M : Type 1} → statement M
+put-both-spec =
+    tie.close
+    (tie.spec
+    cast-low
+    cast-high
+    next-index-requires
+    put-quick-requires
+    put-again-requires
+    same-length
+    same-length-2
+    same-length-3
+    same-length-4
+    same-length-5
+    returns)

@@ -1,0 +1,39 @@
+-- The quick writes of src/writes.rt: what they need of an image and of what is lent, and what they leave. Nothing here need be believed: the contracts of
+-- the entries cite specs/Entry.antt alone.
+use mathlib.Core.Bool.{Bool, true, false, cond}
+use mathlib.Core.List.{List}
+use mathlib.Core.Path.{_≡_}
+use Prim.Native.Nat.{ℕ, _-_}
+use lib.Dec.{ltb}
+use lib.ListN.{length, set}
+use Rattle.image.specs.Layout.{imageOf}
+use Rattle.image.specs.Load.{loadCall}
+use Rattle.memory.specs.World.{World, world}
+use Rattle.mmu.specs.Access.{Holds}
+use Rattle.numbers.specs.Numbers.{done}
+use Rattle.packing.specs.Packing.{Below}
+use Rattle.savelog.specs.Log.{useInRange}
+use Rattle.entry.specs.Entry.{Left, leftIn}
+
+-- an index, no echo, whose write changes nothing of the state but its mapper, its log use, or one byte of OAM or page: all but the registers
+unfoldable pub quick : ℕ → Bool
+quick at = cond (ltb at 0xFF10) (ltb at 0xFF00) (cond (ltb at 0xFF40) true (cond (ltb at 0xFF80) false (ltb at 0xFFFF)))
+
+-- the world of an image that is taken
+abbrev pub worldOf : List ℕ → List ℕ → List ℕ → List ℕ → List ℕ → World
+worldOf i v w s l = world (loadCall i .state) v w s l
+
+-- an image that is taken, beside memories of the lengths that its state asks for
+pub record Taken (i v w s l : List ℕ) : Type 0 where
+  pub bytes : Below 256 i
+  pub number : loadCall i .number ≡ done
+  pub holds : Holds (worldOf i v w s l)
+  pub used : useInRange (loadCall i .state .used) (length l) ≡ true
+
+-- the image and the memories of a world
+abbrev pub leftBy : World → Left
+leftBy w = leftIn done 0 (imageOf (w .state)) w
+
+-- OAM and page are the first 512 bytes of an image; a write to the sound window changes none
+unfoldable pub ownPut : List ℕ → ℕ → ℕ → List ℕ
+ownPut i at v = cond (ltb at 0xFF00) (set i (at - 0xFE00) v) (cond (ltb at 0xFF40) i (set i (at - 0xFE00) v))

@@ -1,0 +1,322 @@
+// Byte and word writes of an image and what is lent. Most change a lent memory, the mapper with the log use, or one byte of OAM or page, and leave the rest of
+// the image: these are quick. They take the image's fields alone, and change it in place (specs/Writes.antt).
+ghost use mathlib.Core.Bool.{true};
+ghost use mathlib.Core.List.{[]};
+ghost use mathlib.Core.Path.{_≡_};
+ghost use Prim.Native.Nat.{_/_, _%_, _<_, _≤_};
+ghost use lib.ListN.{length};
+ghost use Rattle.dispatch.specs.declared.Call.the-variants.{WriteByte, WriteWord};
+ghost use Rattle.image.specs.Load.{loadCall};
+ghost use Rattle.image.specs.Patches.{Slim, mappingPut};
+ghost use Rattle.mbc.specs.Mbc.{inRange, ramLen, after};
+ghost use Rattle.memory.specs.Ranges.{coreOf};
+ghost use Rattle.memory.specs.World.{world, fixed, withUsed};
+ghost use Rattle.memory.specs.declared.Memory.{Memory};
+ghost use Rattle.mmu.specs.Access.{savePut, put};
+ghost use Rattle.mmu.specs.PanDocs.{echo};
+ghost use Rattle.refusals.specs.Refusal.{orElse, writeRefused, nextIndex};
+ghost use Rattle.savelog.specs.Log.{logLimit};
+ghost use Rattle.entry.specs.Entry.{left, worldEntry};
+ghost use Rattle.quick_writes.specs.Writes.{quick, worldOf, Taken, leftBy, ownPut};
+use dispatch::Call;
+use entry::on_bus;
+use image::Opened;
+use memory::Core;
+
+// Whether a write at an index is quick: all but those to a register.
+fn is_quick(index: u16) -> bool
+    ensures { λ r. ⌜ r ≡ quick (echo index) ⌝ }
+{
+    let at = mmu::regions::lowered(index);
+    if at < 0xFF10 {
+        return at < 0xFF00;
+    }
+    if at < 0xFF40 {
+        return true;
+    }
+    if at < 0xFF80 {
+        return false;
+    }
+    at < 0xFFFF
+}
+
+// Below 8000: the mapper's registers.
+fn put_mapper(core: Core, image: &mut [u8], at: u16, value: u8)
+    requires { ⌜ (length (now image) ≡ 665) × ((at < 0x8000) × ((inRange (core .cartridge) (core .mapper) ≡ true) × Slim (after (core .cartridge) (core .mapper) at value))) ⌝ }
+    ensures { λ _. ⌜ now (image .exit) ≡ mappingPut (now (image .entry)) (after (core .cartridge) (core .mapper) at value) (core .used) ⌝ }
+{
+    let cartridge = core.cartridge;
+    let mapper = core.mapper;
+    let written = mapper.write(cartridge, at, value);
+    let next = written.mapper;
+    image::put_mapping(image, next, core.used);
+}
+
+// A000..BFFF: the save, its log, and the log's use, which it gives.
+fn put_save(
+    core: Core,
+    image: &mut [u8],
+    save: &mut [u8],
+    log: &mut [u8],
+    at: u16,
+    value: u8,
+) -> u16
+    requires { ⌜ ((length (now image) ≡ 665) × Slim (core .mapper)) × (((0xA000 ≤ at) × (at < 0xC000)) × ((inRange (core .cartridge) (core .mapper) ≡ true) × ((length (now save) ≡ ramLen (core .cartridge) (core .mapper)) × (length (now log) ≤ logLimit)))) ⌝ }
+    ensures { λ r. ⌜ (now (image .exit) ≡ mappingPut (now (image .entry)) (core .mapper) r) × ((m : Memory) → m .cartridge ≡ core .cartridge → m .mapper ≡ core .mapper → m .used ≡ core .used → world (withUsed m r) [] [] (now (save .exit)) (now (log .exit)) ≡ savePut (world m [] [] (now (save .entry)) (now (log .entry))) at value) ⌝ }
+{
+    let cartridge = core.cartridge;
+    let mapper = core.mapper;
+    let used = mmu::regions::store_save(cartridge, mapper, core.used, save, log, at, value);
+    image::put_mapping(image, mapper, used);
+    used
+}
+
+// FE00..FEFF and the page.
+fn put_own(image: &mut [u8], at: u16, value: u8)
+    requires { ⌜ (length (now image) ≡ 665) × (0xFE00 ≤ at) ⌝ }
+    ensures { λ _. ⌜ now (image .exit) ≡ ownPut (now (image .entry)) at value ⌝ }
+{
+    let i = (at - 0xFE00) as usize;
+    if at < 0xFF00 {
+        image[i] = value;
+        return;
+    }
+    if at < 0xFF40 {
+        return;
+    }
+    image[i] = value;
+}
+
+// A quick write that nothing refuses.
+fn put_quick(
+    core: Core,
+    image: &mut [u8],
+    vram: &mut [u8],
+    wram: &mut [u8],
+    save: &mut [u8],
+    log: &mut [u8],
+    index: u16,
+    value: u8,
+)
+    requires { ⌜ Taken (now image) (now vram) (now wram) (now save) (now log) × ((core ≡ coreOf (loadCall (now image) .state)) × (quick (echo index) ≡ true)) ⌝ }
+    ensures { λ _. ⌜ left 0 0 (now (image .exit)) (now (vram .exit)) (now (wram .exit)) (now (save .exit)) (now (log .exit)) ≡ leftBy (put (worldOf (now (image .entry)) (now (vram .entry)) (now (wram .entry)) (now (save .entry)) (now (log .entry))) index value) ⌝ }
+{
+    let at = mmu::regions::lowered(index);
+    let banks = core.banks;
+    if at < 0x8000 {
+        put_mapper(core, image, at, value);
+        return;
+    }
+    if at < 0xA000 {
+        mmu::regions::write_cgb_lcd_ram(vram, banks.vram, at, value);
+        return;
+    }
+    if at < 0xC000 {
+        put_save(core, image, save, log, at, value);
+        return;
+    }
+    if at < 0xE000 {
+        mmu::regions::write_cgb_wram(wram, banks.wram, at, value);
+        return;
+    }
+    put_own(image, at, value);
+}
+
+// An image with the lengths of what is lent beside it.
+fn open_lent(
+    image: &[u8],
+    rom: usize,
+    vram: usize,
+    wram: usize,
+    save: usize,
+    sound: usize,
+    log: usize,
+) -> Opened
+    ensures { λ r. ⌜ (r .number ≡ orElse (loadCall (now (image .entry)) .number) (writeRefused (loadCall (now (image .entry)) .state) rom vram wram save sound log)) × (r .core ≡ coreOf (loadCall (now (image .entry)) .state)) ⌝ }
+{
+    let opened = image::open(image);
+    if opened.number != 0 {
+        return opened;
+    }
+    let core = opened.core;
+    let number = refusals::core_write_refused(core, rom, vram, wram, save, sound, log);
+    Opened {
+        number: number,
+        core: core,
+    }
+}
+
+fn write_quick(
+    image: &mut [u8],
+    rom: &[u8],
+    vram: &mut [u8],
+    wram: &mut [u8],
+    save: &mut [u8],
+    log: &mut [u8],
+    sound: &[u8],
+    index: u16,
+    value: u8,
+) -> u8
+    requires { ⌜ quick (echo index) ≡ true ⌝ }
+    ensures { λ r. ⌜ left r 0 (now (image .exit)) (now (vram .exit)) (now (wram .exit)) (now (save .exit)) (now (log .exit)) ≡ worldEntry (fixed (now (rom .entry)) (now (sound .entry))) (now (image .entry)) (now (vram .entry)) (now (wram .entry)) (now (save .entry)) (now (log .entry)) (WriteByte index value) ⌝ }
+{
+    let opened = open_lent(
+        image,
+        rom.len(),
+        vram.len(),
+        wram.len(),
+        save.len(),
+        sound.len(),
+        log.len(),
+    );
+    let core = opened.core;
+    let room = refusals::byte_room(core.used, log.len(), index);
+    let number = refusals::or_else(opened.number, room);
+    if number != 0 {
+        return number;
+    }
+    put_quick(core, image, vram, wram, save, log, index, value);
+    refusals::byte_owed(index)
+}
+
+// As the plain entry, which decodes and encodes the whole image.
+pub fn write_byte(
+    image: &mut [u8],
+    rom: &[u8],
+    vram: &mut [u8],
+    wram: &mut [u8],
+    save: &mut [u8],
+    log: &mut [u8],
+    sound: &[u8],
+    index: u16,
+    value: u8,
+) -> u8
+    ensures { λ r. ⌜ left r 0 (now (image .exit)) (now (vram .exit)) (now (wram .exit)) (now (save .exit)) (now (log .exit)) ≡ worldEntry (fixed (now (rom .entry)) (now (sound .entry))) (now (image .entry)) (now (vram .entry)) (now (wram .entry)) (now (save .entry)) (now (log .entry)) (WriteByte index value) ⌝ }
+{
+    if is_quick(index) {
+        return write_quick(image, rom, vram, wram, save, log, sound, index, value);
+    }
+    let done = on_bus(
+        image,
+        rom,
+        vram,
+        wram,
+        save,
+        log,
+        sound,
+        Call::WriteByte(index, value),
+    );
+    done.number
+}
+
+// A second quick write: the image has changed, and is opened again.
+fn put_again(
+    image: &mut [u8],
+    vram: &mut [u8],
+    wram: &mut [u8],
+    save: &mut [u8],
+    log: &mut [u8],
+    index: u16,
+    value: u8,
+)
+    requires { ⌜ Taken (now image) (now vram) (now wram) (now save) (now log) × (quick (echo index) ≡ true) ⌝ }
+    ensures { λ _. ⌜ left 0 0 (now (image .exit)) (now (vram .exit)) (now (wram .exit)) (now (save .exit)) (now (log .exit)) ≡ leftBy (put (worldOf (now (image .entry)) (now (vram .entry)) (now (wram .entry)) (now (save .entry)) (now (log .entry))) index value) ⌝ }
+{
+    let opened = image::open(image);
+    let core = opened.core;
+    put_quick(core, image, vram, wram, save, log, index, value);
+}
+
+// Two quick writes, low byte first.
+fn put_both(
+    core: Core,
+    image: &mut [u8],
+    vram: &mut [u8],
+    wram: &mut [u8],
+    save: &mut [u8],
+    log: &mut [u8],
+    index: u16,
+    value: u16,
+)
+    requires { ⌜ Taken (now image) (now vram) (now wram) (now save) (now log) × ((core ≡ coreOf (loadCall (now image) .state)) × ((quick (echo index) ≡ true) × (quick (echo (nextIndex index)) ≡ true))) ⌝ }
+    ensures { λ _. ⌜ left 0 0 (now (image .exit)) (now (vram .exit)) (now (wram .exit)) (now (save .exit)) (now (log .exit)) ≡ leftBy (put (put (worldOf (now (image .entry)) (now (vram .entry)) (now (wram .entry)) (now (save .entry)) (now (log .entry))) index (value % 256)) (nextIndex index) (value / 256)) ⌝ }
+{
+    let low = (value % 256) as u8;
+    let high = (value / 256) as u8;
+    let above = refusals::next_index(index);
+    put_quick(core, image, vram, wram, save, log, index, low);
+    put_again(image, vram, wram, save, log, above, high);
+}
+
+fn write_both(
+    image: &mut [u8],
+    rom: &[u8],
+    vram: &mut [u8],
+    wram: &mut [u8],
+    save: &mut [u8],
+    log: &mut [u8],
+    sound: &[u8],
+    index: u16,
+    value: u16,
+) -> u8
+    requires { ⌜ (quick (echo index) ≡ true) × (quick (echo (nextIndex index)) ≡ true) ⌝ }
+    ensures { λ r. ⌜ left r 0 (now (image .exit)) (now (vram .exit)) (now (wram .exit)) (now (save .exit)) (now (log .exit)) ≡ worldEntry (fixed (now (rom .entry)) (now (sound .entry))) (now (image .entry)) (now (vram .entry)) (now (wram .entry)) (now (save .entry)) (now (log .entry)) (WriteWord index value) ⌝ }
+{
+    let opened = open_lent(
+        image,
+        rom.len(),
+        vram.len(),
+        wram.len(),
+        save.len(),
+        sound.len(),
+        log.len(),
+    );
+    let core = opened.core;
+    let room = refusals::word_room(core.used, log.len(), index);
+    let number = refusals::or_else(opened.number, room);
+    if number != 0 {
+        return number;
+    }
+    put_both(core, image, vram, wram, save, log, index, value);
+    refusals::word_owed(index)
+}
+
+// Whether both bytes of a word are quick.
+fn both_quick(index: u16) -> bool
+    ensures { λ r. ⌜ (r ≡ true → (quick (echo index) ≡ true) × (quick (echo (nextIndex index)) ≡ true)) ⌝ }
+{
+    if is_quick(index) {
+        return is_quick(refusals::next_index(index));
+    }
+    false
+}
+
+// Low byte first; as the plain entry.
+pub fn write_word(
+    image: &mut [u8],
+    rom: &[u8],
+    vram: &mut [u8],
+    wram: &mut [u8],
+    save: &mut [u8],
+    log: &mut [u8],
+    sound: &[u8],
+    index: u16,
+    value: u16,
+) -> u8
+    ensures { λ r. ⌜ left r 0 (now (image .exit)) (now (vram .exit)) (now (wram .exit)) (now (save .exit)) (now (log .exit)) ≡ worldEntry (fixed (now (rom .entry)) (now (sound .entry))) (now (image .entry)) (now (vram .entry)) (now (wram .entry)) (now (save .entry)) (now (log .entry)) (WriteWord index value) ⌝ }
+{
+    if both_quick(index) {
+        return write_both(image, rom, vram, wram, save, log, sound, index, value);
+    }
+    let done = on_bus(
+        image,
+        rom,
+        vram,
+        wram,
+        save,
+        log,
+        sound,
+        Call::WriteWord(index, value),
+    );
+    done.number
+}
