@@ -12,22 +12,21 @@ use Rattle.numbers.specs.Numbers.{done}
 use Rattle.packing.specs.Packing.{Below, packed, unpacked, repacked, eights, fives}
 use Rattle.packing.proofs.Laws.{below-drop, unpack-fit}
 use Rattle.palette.specs.declared.Color.{Color}
-use Rattle.joypad.specs.declared.Controller.{Controller}
 use Rattle.mbc.specs.declared.mbc.Mapper.{Mapper}
 use Rattle.memory.specs.declared.Clock.{Clock}
 use Rattle.memory.specs.declared.Memory.{Memory}
-use Rattle.memory.specs.World.{withOam, withPage, withJoypad, withClock, withMapper, withUsed}
+use Rattle.memory.specs.World.{withOam, withPage, withClock, withMapper, withUsed}
 use Rattle.image.specs.Layout.{fieldWidths, imageOf}
 use Rattle.image.specs.Load.{colorsOf, storable, stateOf, loadCall}
 use Rattle.image.specs.Laws.{Typed}
 use Rattle.image.specs.Words.{wordWidths, wordList, wordsIn, fieldsOf}
-use Rattle.image.specs.Patches.{mappingPut, clockPut, joypadPut}
+use Rattle.image.specs.Patches.{mappingPut, clockPut}
 use Rattle.image.proofs.ColorLaws.{channels-length, channels-colors}
 use Rattle.image.proofs.Parts.{repacked-length}
 use Rattle.image.proofs.LoadLaws.{below-take, made, state-read}
 use Rattle.image.proofs.OpenLaws.{load-length, load-state, load-image}
 use Rattle.image.proofs.Round.{image-back}
-use Rattle.image.proofs.PatchLaws.{Bytes, mapping-image, clock-image, oam-image, page-image, joypad-image}
+use Rattle.image.proofs.PatchLaws.{Bytes, mapping-image, clock-image, oam-image, page-image}
 
 colors-length : (l : List ℕ) → length l ≡ 96 → length (colorsOf l) ≡ 32
 colors-length l h = omega (arith, channels-length (colorsOf l), ap length (channels-colors 32 l h))
@@ -88,10 +87,6 @@ module _ (l : List ℕ) (below : Below 256 l) (h : loadCall l .number ≡ done) 
   pub loaded-clock : (c : Clock) → c .div < 256 → storable (withClock (loadCall l .state) c (loadCall l .state .page)) ≡ true
       → clockPut l c ≡ imageOf (withClock (loadCall l .state) c (loadCall l .state .page))
   loaded-clock c d k = ap (λ (x : List ℕ). clockPut x c) (sym (load-image l h below)) ∙ clock-image (loadCall l .state) loaded-typed loaded-storable c d k
-
-  pub loaded-joypad : (j : Controller) → j .released < 256 → j .state < 256
-      → joypadPut l j ≡ imageOf (withJoypad (loadCall l .state) j (loadCall l .state .page))
-  loaded-joypad j r s = ap (λ (x : List ℕ). joypadPut x j) (sym (load-image l h below)) ∙ joypad-image (loadCall l .state) loaded-typed loaded-storable j r s
 
   pub loaded-oam : (i v : ℕ) → i < 256 → v < 256 → set l i v ≡ imageOf (withOam (loadCall l .state) (set (loadCall l .state .oam) i v))
   loaded-oam i v hi hv =

@@ -1,13 +1,13 @@
 -- An image changed in place is the image of the changed state. The fields stand behind 632 bytes, so a number is changed there (`fields-changed`),
 -- and its kept fields are those of the state; a byte of OAM or page stands before the rest.
-use mathlib.Core.Bool.{Bool, true}
+use mathlib.Core.Bool.{true}
 use mathlib.Core.Path.{_≡_, refl, sym, ap, _∙_}
 use mathlib.Core.List.{List, [], _∷_, _++_, append-assoc}
 use Prim.Native.Nat.{ℕ, zero, suc, _+_, _*_, _/_, _%_, _^_, _<_, _≤_}
 use native.Mathlib.Nat.{add-assoc, zero-add, suc-add}
 use native.Mathlib.Omega.{arith}
-use lib.ListN.{length, take, drop, getD, set, length-append, length-set}
-use lib.Seq.{paste, take-append-add, drop-append-add, getD-append-add, set-append-left}
+use lib.ListN.{length, take, drop, set, length-append, length-set}
+use lib.Seq.{paste, take-append-add, drop-append-add, set-append-left}
 use Rattle.packing.specs.Packing.{Below, packed, unpacked, repacked, eights, fives}
 use Rattle.packing.proofs.Laws.{Fit, packed-lt, pack-append, pack-unpack, unpack-pack}
 use Rattle.mbc.specs.Mbc as mbc
@@ -20,11 +20,11 @@ use Rattle.memory.specs.Ranges.{stateInRange, inRange}
 use Rattle.image.specs.Layout.{fieldWidths, bit, complement, kindOf, log2, ramBank, modeBit, enabledBit, highBits, channels, fieldValues, imageOf}
 use Rattle.image.specs.Load.{storable}
 use Rattle.image.specs.Laws.{Typed}
-use Rattle.image.specs.Words.{widths1, widths2, widths5, top, wordBytes, wordsOf, first, second, fifth}
-use Rattle.image.specs.Patches.{numberIn, withNumber, Slim, remapped, mappingPut, reclocked, clockPut, marked, repadded, markPut, padPut, joypadPut}
+use Rattle.image.specs.Words.{widths2, widths5, top, wordBytes, wordsOf, second, fifth}
+use Rattle.image.specs.Patches.{numberIn, withNumber, Slim, remapped, mappingPut, reclocked, clockPut}
 use Rattle.image.specs.declared.fields.Words.{Words}
 use Rattle.image.proofs.ColorLaws.{channels-length}
-use Rattle.image.proofs.FieldLaws.{joined, bit-lt}
+use Rattle.image.proofs.FieldLaws.{joined}
 use Rattle.image.proofs.Parts.{repacked-length}
 use Rattle.image.proofs.StateLaws.{narrow, fields-fit, words-sized, image-stored}
 
@@ -36,9 +36,6 @@ set-append-right (x ∷ xs) ys i v = rw (suc-add (length xs) i, set-append-right
 module _ (p l : List ℕ) (o : ℕ) (e : length p ≡ o) (k : ℕ) where
   number-behind : numberIn (p ++ l) (o + k) ≡ numberIn l k
   number-behind = rw (← e) (ap (λ (x : List ℕ). packed (eights 8) (take 8 x)) (drop-append-add p l k))
-
-  byte-behind : getD (p ++ l) (o + k) 0 ≡ getD l k 0
-  byte-behind = rw (← e) (getD-append-add p l k 0)
 
   set-behind : (v : ℕ) → set (p ++ l) (o + k) v ≡ p ++ set l k v
   set-behind v = rw (← e) (set-append-right p l k v)
@@ -229,72 +226,3 @@ module _ (m : Memory) (t : Typed m) (h : storable m ≡ true) (i v : ℕ) (hi : 
       let p = set (m .page) i v in
       image-bytes (withPage m p) (typed-bytes m t (m .oam) p (t .oam) (bytes-set (m .page) i v (t .page) hv)) (storable-bytes m (m .oam) p ∙ h)
       ∙ sym (ap (λ (l : List ℕ). set l (256 + i) v) (image-bytes m t h) ∙ stored-right (m .oam) (m .page) (t .oam .0) (t .page .0))
-
--- The joypad
-
-abbrev withAction : Controller → Bool → Controller
-withAction j b = record { released = j .released; action = b; direction = j .direction; state = j .state }
-
-pub storable-joypad : (m : Memory) (j : Controller) → storable (withJoypad m j (m .page)) ≡ storable m
-unfolding storable inRange stateInRange
-storable-joypad m j = refl
-
-marked-by : (hs : List ℕ) (a : ℕ) (b : Bool) → length hs ≡ 5 → a < 2 → marked (packed widths1 (hs ++ (a ∷ []))) b ≡ packed widths1 (hs ++ (bit b ∷ []))
-marked-by hs a b e h =
-    let ws : List ℕ = 1 ∷ 1 ∷ 1 ∷ 1 ∷ 3 ∷ [] in
-    rw (pack-append ws (1 ∷ []) hs (a ∷ []) e, pack-append ws (1 ∷ []) hs (bit b ∷ []) e) (omega arith)
-
--- six values stand behind
-repadded-by : (d s r : ℕ) (xs : List ℕ) (j : Controller) → packed (8 ∷ 8 ∷ 8 ∷ 8 ∷ 10 ∷ 5 ∷ []) xs < 2 ^ 47
-    → repadded (packed widths2 (d ∷ s ∷ r ∷ xs)) j ≡ packed widths2 (bit (j .direction) ∷ j .state ∷ j .released ∷ xs)
-repadded-by d s r xs j h = omega arith
-
-module _ (m : Memory) (t : Typed m) (h : storable m ≡ true) where
-  first-read : getD (imageOf m) 632 0 ≡ first m
-  unfolding wordsOf
-  first-read = ap (λ (l : List ℕ). getD l 632 0) (image-fields m t h) ∙ byte-behind (front m) (wordBytes (wordsOf m)) 632 (front-length m t) 0
-
-  -- a state with another joypad
-  joypad-typed : (j : Controller) → j .released < 256 → j .state < 256 → Typed (withJoypad m j (m .page))
-  joypad-typed j r s =
-      typed-with m t (m .oam) (m .page) j (m .clock) (m .mapper) (m .used) (t .oam) (t .page) r s (t .div)
-
-  marked-first : (b : Bool) → marked (first m) b ≡ first (withJoypad m (withAction (m .joypad) b) (m .page))
-  marked-first b =
-      marked-by (bit (m .banks .colour) ∷ bit (m .lcd .disabled) ∷ bit (m .hdma .on) ∷ m .banks .vram ∷ m .banks .wram ∷ [])
-      (bit (m .joypad .action)) b refl (bit-lt (m .joypad .action))
-
-  mark-image : (b : Bool) → markPut (imageOf m) b ≡ imageOf (withJoypad m (withAction (m .joypad) b) (m .page))
-  unfolding markPut wordsOf front colours
-  mark-image b =
-      let j = withAction (m .joypad) b in
-      let m' = withJoypad m j (m .page) in
-      ap (λ (n : ℕ). set (imageOf m) 632 (marked n b)) first-read
-      ∙ ap (set (imageOf m) 632) (marked-first b)
-      ∙ ap (λ (l : List ℕ). set l 632 (first m')) (image-fields m t h)
-      ∙ set-behind (front m) (wordBytes (wordsOf m)) 632 (front-length m t) 0 (first m')
-      ∙ sym (image-fields m' (joypad-typed j (t .released) (t .state)) (storable-joypad m j ∙ h))
-
-  repadded-second : (j : Controller) → repadded (second m) j ≡ second (withJoypad m (withAction j (m .joypad .action)) (m .page))
-  repadded-second j =
-      let f = fields-fit m t h in
-      let xs : List ℕ = m .lcd .line ∷ m .lcd .signal ∷ m .lcd .mode ∷ m .clock .div ∷ m .clock .tima ∷ m .hdma .source / 2048 ∷ [] in
-      repadded-by (bit (m .joypad .direction)) (m .joypad .state) (m .joypad .released) xs j
-      (packed-lt (8 ∷ 8 ∷ 8 ∷ 8 ∷ 10 ∷ 5 ∷ []) xs (omega (arith, f)))
-
-  pad-image : (j : Controller) → j .released < 256 → j .state < 256 → padPut (imageOf m) j ≡ imageOf (withJoypad m (withAction j (m .joypad .action)) (m .page))
-  unfolding padPut wordsOf front colours
-  pad-image j r s =
-      let i = withAction j (m .joypad .action) in
-      let m' = withJoypad m i (m .page) in
-      ap (λ (n : ℕ). withNumber (imageOf m) 633 (repadded n j)) (second-read m t h)
-      ∙ ap (withNumber (imageOf m) 633) (repadded-second j)
-      ∙ number-put m t h m' (joypad-typed i r s) (storable-joypad m i ∙ h) refl 1 (second m') (second-put (wordsOf m) (second m'))
-
-pub joypad-image : (m : Memory) → Typed m → storable m ≡ true → (j : Controller) → j .released < 256 → j .state < 256
-    → joypadPut (imageOf m) j ≡ imageOf (withJoypad m j (m .page))
-joypad-image m t h j r s =
-    let i = withAction (m .joypad) (j .action) in
-    let m' = withJoypad m i (m .page) in
-    ap (λ (l : List ℕ). padPut l j) (mark-image m t h (j .action))
-    ∙ pad-image m' (joypad-typed m t h i (t .released) (t .state)) (storable-joypad m i ∙ h) j r s

@@ -1,15 +1,13 @@
 -- Parts of an image changed in place. Nothing here need be believed: proofs/PatchLaws.antt has that the bytes are `imageOf` of the changed state.
 use mathlib.Core.List.{List, [], _∷_}
-use mathlib.Core.Bool.{Bool}
 use Prim.Native.Nat.{ℕ, _/_, _%_, _<_}
-use lib.ListN.{take, drop, getD, set}
+use lib.ListN.{take, drop}
 use lib.Seq.{paste}
 use Rattle.packing.specs.Packing.{packed, unpacked, eights}
 use Rattle.mbc.specs.Mbc.{romBank}
 use Rattle.mbc.specs.declared.mbc.Mapper.{Mapper}
-use Rattle.joypad.specs.declared.Controller.{Controller}
 use Rattle.memory.specs.declared.Clock.{Clock}
-use Rattle.image.specs.Layout.{bit, kindOf, ramBank, modeBit, enabledBit, highBits}
+use Rattle.image.specs.Layout.{kindOf, ramBank, modeBit, enabledBit, highBits}
 use Rattle.image.specs.Words.{widths5, top}
 
 -- the number in eight bytes, and the image with another number there
@@ -42,20 +40,3 @@ reclocked n c = packed (41 ∷ 8 ∷ 10 ∷ 5 ∷ []) (n / 0x800000 ∷ c .div �
 
 unfoldable pub clockPut : List ℕ → Clock → List ℕ
 clockPut l c = withNumber l 633 (reclocked (numberIn l 633) c)
-
--- Of the joypad, the action mark ends the first byte of the fields, and the rest begins the number behind it: 47 bits stay
-
-abbrev pub marked : ℕ → Bool → ℕ
-marked n b = packed (7 ∷ 1 ∷ []) (n / 2 ∷ bit b ∷ [])
-
-abbrev pub repadded : ℕ → Controller → ℕ
-repadded n j = packed (1 ∷ 8 ∷ 8 ∷ 47 ∷ []) (bit (j .direction) ∷ j .state ∷ j .released ∷ n % 0x800000000000 ∷ [])
-
-unfoldable pub markPut : List ℕ → Bool → List ℕ
-markPut l b = set l 632 (marked (getD l 632 0) b)
-
-unfoldable pub padPut : List ℕ → Controller → List ℕ
-padPut l j = withNumber l 633 (repadded (numberIn l 633) j)
-
-abbrev pub joypadPut : List ℕ → Controller → List ℕ
-joypadPut l j = padPut (markPut l (j .action)) j

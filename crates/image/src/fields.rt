@@ -38,7 +38,7 @@ pub struct Registers {
     pub high: u8,
 }
 
-pub fn bit_of(b: bool) -> u8
+fn bit_of(b: bool) -> u8
     ensures { λ r. ⌜ (r ≡ bit b) × (r < 2) ⌝ }
 {
     if b { 1 } else { 0 }

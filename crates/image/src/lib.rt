@@ -19,7 +19,6 @@ pub use fields::Words;
 use memory::Core;
 use memory::Memory;
 pub use patches::put_clock;
-pub use patches::put_joypad;
 pub use patches::put_mapping;
 
 const LENGTH: usize = 665;

@@ -1,12 +1,11 @@
 // Parts of a lent image changed in place, so that a call that changes little need not make all 665 bytes again.
 // specs/Patches.antt has the bytes; proofs/PatchLaws.antt that they are the image of the changed state.
-use joypad::Controller;
 use mbc::Mapper;
 use memory::Clock;
 ghost use mathlib.Core.Path.{_≡_};
 ghost use Prim.Native.Nat.{_+_, _<_, _≤_};
 ghost use lib.ListN.{length};
-ghost use Rattle.image.specs.Patches.{withNumber, Slim, remapped, mappingPut, reclocked, clockPut, marked, repadded, markPut, padPut, joypadPut};
+ghost use Rattle.image.specs.Patches.{withNumber, Slim, remapped, mappingPut, reclocked, clockPut};
 
 // The eight bytes from `at` on become those of the number.
 fn put_number(image: &mut [u8], at: usize, number: u64)
@@ -55,46 +54,4 @@ pub fn put_clock(image: &mut [u8], clock: Clock)
 {
     let number = packing::number_at(image, 633);
     put_number(image, 633, reclock(number, clock));
-}
-
-// The fields' first byte with another action mark, which is its last bit.
-fn mark(number: u8, action: bool) -> u8
-    ensures { λ r. ⌜ r ≡ marked number action ⌝ }
-{
-    number / 2 * 2 + crate::fields::bit_of(action)
-}
-
-// The second number with another direction mark and the joypad's two bytes: what stands behind them stays.
-fn repad(number: u64, joypad: Controller) -> u64
-    ensures { λ r. ⌜ r ≡ repadded number joypad ⌝ }
-{
-    ((crate::fields::bit_of(joypad.direction) as u64 * 256 + joypad.state as u64) * 256
-        + joypad.released as u64)
-        * 0x800000000000
-        + number % 0x800000000000
-}
-
-fn put_mark(image: &mut [u8], action: bool)
-    requires { ⌜ length (now image) ≡ 665 ⌝ }
-    ensures { λ _. ⌜ now (image .exit) ≡ markPut (now (image .entry)) action ⌝ }
-{
-    let number = image[632];
-    image[632] = mark(number, action);
-}
-
-fn put_pad(image: &mut [u8], joypad: Controller)
-    requires { ⌜ length (now image) ≡ 665 ⌝ }
-    ensures { λ _. ⌜ now (image .exit) ≡ padPut (now (image .entry)) joypad ⌝ }
-{
-    let number = packing::number_at(image, 633);
-    put_number(image, 633, repad(number, joypad));
-}
-
-// The joypad: nine bytes from 632 on.
-pub fn put_joypad(image: &mut [u8], joypad: Controller)
-    requires { ⌜ length (now image) ≡ 665 ⌝ }
-    ensures { λ _. ⌜ now (image .exit) ≡ joypadPut (now (image .entry)) joypad ⌝ }
-{
-    put_mark(image, joypad.action);
-    put_pad(image, joypad);
 }

@@ -25,7 +25,7 @@ use Rattle.mmu.specs.PanDocs.{echo}
 use Rattle.mmu.specs.Write.{writeAt}
 use Rattle.registers.proofs.Kept.{cond-both}
 use Rattle.registers.proofs.Rest.{rest-write, sound-write, high-write}
-use Rattle.registers.specs.Page.{writeRegister}
+use Rattle.registers.specs.Page.{plainWrite, writeRegister}
 use Rattle.registers.specs.State.{stored}
 use Rattle.savelog.specs.Log.{width}
 use Rattle.entry.specs.Entry.{left}
@@ -64,20 +64,22 @@ quick-plain x w d index v q =
     (λ e. quick-other (echo index) 0xFF46 q (omega arith) (omega arith) (echo-above index (omega arith) ∙ e))
     (λ e. quick-other (echo index) 0xFF55 q (omega arith) (omega arith) (echo-above index (omega arith) ∙ e))
 
+-- no register is named there
 module _ (m : Memory) (at v : ℕ) where
+  unnamed : 0x10 ≤ at → at < 0xFF → (0x40 ≤ at → at < 0x80 → ⊥) → writeRegister m at v ≡ plainWrite m at v
+  unnamed h l n =
+      rest-write m at v (λ e. omega arith) (λ e. omega arith)
+      (λ e. n (omega arith) (omega arith)) (λ e. n (omega arith) (omega arith)) (λ e. n (omega arith) (omega arith)) (λ e. n (omega arith) (omega arith))
+      (λ e. n (omega arith) (omega arith)) (λ e. n (omega arith) (omega arith)) (λ e. n (omega arith) (omega arith)) (λ e. n (omega arith) (omega arith))
+      (λ e. n (omega arith) (omega arith)) (λ e. n (omega arith) (omega arith)) (λ e. n (omega arith) (omega arith)) (λ e. n (omega arith) (omega arith))
+      (λ e. n (omega arith) (omega arith)) (λ e. n (omega arith) (omega arith)) (λ e. n (omega arith) (omega arith)) (λ e. n (omega arith) (omega arith))
+      (λ e. n (omega arith) (omega arith)) (λ e. n (omega arith) (omega arith)) (λ e. omega arith)
+
   sound-register : 0x10 ≤ at → at < 0x40 → writeRegister m at v ≡ m
-  sound-register h l =
-      rest-write m at v (λ e. omega arith) (λ e. omega arith) (λ e. omega arith) (λ e. omega arith) (λ e. omega arith) (λ e. omega arith) (λ e. omega arith)
-      (λ e. omega arith) (λ e. omega arith) (λ e. omega arith) (λ e. omega arith) (λ e. omega arith) (λ e. omega arith) (λ e. omega arith) (λ e. omega arith)
-      (λ e. omega arith) (λ e. omega arith) (λ e. omega arith) (λ e. omega arith) (λ e. omega arith) (λ e. omega arith)
-      ∙ sound-write m at v h l
+  sound-register h l = unnamed h (omega arith) (λ x y. omega arith) ∙ sound-write m at v h l
 
   behind-register : 0x80 ≤ at → at < 0xFF → writeRegister m at v ≡ stored m at v
-  behind-register h l =
-      rest-write m at v (λ e. omega arith) (λ e. omega arith) (λ e. omega arith) (λ e. omega arith) (λ e. omega arith) (λ e. omega arith) (λ e. omega arith)
-      (λ e. omega arith) (λ e. omega arith) (λ e. omega arith) (λ e. omega arith) (λ e. omega arith) (λ e. omega arith) (λ e. omega arith) (λ e. omega arith)
-      (λ e. omega arith) (λ e. omega arith) (λ e. omega arith) (λ e. omega arith) (λ e. omega arith) (λ e. omega arith)
-      ∙ high-write m at v (omega arith) (omega arith)
+  behind-register h l = unnamed (omega arith) l (λ x y. omega arith) ∙ high-write m at v (omega arith) (omega arith)
 
 -- What a quick write leaves has the types of a state
 
