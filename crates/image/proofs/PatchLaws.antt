@@ -6,7 +6,7 @@ use mathlib.Core.List.{List, [], _∷_, _++_, append-assoc}
 use Prim.Native.Nat.{ℕ, zero, suc, _+_, _*_, _/_, _%_, _^_, _<_, _≤_}
 use native.Mathlib.Nat.{add-assoc, zero-add, suc-add}
 use native.Mathlib.Omega.{arith}
-use lib.ListN.{length, take, drop, set, length-append, length-set}
+use lib.ListN.{length, take, drop, getD, set, length-append, length-set}
 use lib.Seq.{paste, take-append-add, drop-append-add, set-append-left}
 use Rattle.packing.specs.Packing.{Below, packed, unpacked, repacked, eights, fives}
 use Rattle.packing.proofs.Laws.{Fit, packed-lt, pack-append, pack-unpack, unpack-pack}
