@@ -1,5 +1,4 @@
-// Byte and word reads of an image and what is lent: all but the colours, OAM and the page is decoded, and of these three the one byte that is read is taken
-// from the image itself.
+// Byte and word reads of an image and what is lent. All of the state but its arrays is decoded; a byte of OAM or of the page is taken from the image itself.
 ghost use mathlib.Core.List.{[]};
 ghost use mathlib.Core.Path.{_≡_};
 ghost use lib.ListN.{length};
