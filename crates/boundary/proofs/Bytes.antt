@@ -21,13 +21,13 @@ use Rattle.mbc.specs.declared.mbc.Mapper.the-variants.{RomOnly, Mbc1, Mbc2}
 use Rattle.mbc.specs.declared.mbc.Source.{Source}
 use Rattle.memory.specs.World.{World, Fixed}
 use Rattle.memory.specs.declared.Memory.{Memory}
-use Rattle.mmu.specs.Access.{byteAt, readIn, saved, savePut, putAt, put}
+use Rattle.mmu.specs.Access.{lentAt, byteAt, readIn, saved, savePut, putAt, put}
 use Rattle.mmu.specs.PanDocs.{echo}
 use Rattle.mmu.specs.Write.{copyBy, transferred, writeAt, wordAt}
 use Rattle.packing.specs.Packing.{Below}
 use Rattle.promise.proofs.Numbered.{by-unless}
 use Rattle.registers.proofs.Kept.{cond-both}
-use Rattle.registers.specs.Page.{byKind, lineRead, plainRead, readRegister}
+use Rattle.registers.specs.Page.{byKind, lineRead, plainRead, shownAs, readRegister}
 use Rattle.registers.specs.State.{loaded}
 use Rattle.registers.specs.Transfers.{copyOf, oamCopy, blockCopy}
 use Rattle.registers.specs.declared.transfers.Copy.{Copy}
@@ -61,44 +61,44 @@ module _ (rom save : List ℕ) (r : Below 256 rom) (s : Below 256 save) where
   mapped-byte c m i = cond-both Found (ltb i 0x4000) (r _) (cond-both Found (ltb i 0x8000) (r _) (ram-byte c m i))
 
 module _ {m : Memory} (f : Fine m) (sound : List ℕ) (b : Below 256 sound) where
-  pad-byte : Byte (padRead (loaded m 0x00) (m .joypad .state))
+  pad-byte : (at : ℕ) → Byte (padRead (loaded m at) (m .joypad .state))
   unfolding padRead
-  pad-byte =
-      cond-both (λ (n : ℕ). Byte (loaded m 0x00 / 16 * 16 + n)) (directionsAnswer (loaded m 0x00)) (omega (arith, loaded-byte f 0x00))
-      (omega (arith, loaded-byte f 0x00, f .joypad .1))
+  pad-byte at =
+      cond-both (λ (n : ℕ). Byte (loaded m at / 16 * 16 + n)) (directionsAnswer (loaded m at)) (omega (arith, loaded-byte f at))
+      (omega (arith, loaded-byte f at, f .joypad .1))
 
   forced-byte : (at : ℕ) {bits : ℕ} → bits < 256 → Byte (bitOr (loaded m at) bits)
   forced-byte at {bits} h = or-lt 8 (loaded m at) bits (loaded-byte f at) h
 
-  kind-byte : {a c : ℕ} → Byte a → Byte c → Byte (byKind m a c)
+  kind-byte : {a c : ℕ} → Byte a → Byte c → Byte (byKind (m .banks .colour) a c)
   unfolding byKind
   kind-byte p q = cond-both Byte (m .banks .colour) p q
 
-  line-byte : Byte (lineRead m)
+  line-byte : Byte (lineRead (m .lcd))
   unfolding lineRead
   line-byte = cond-both Byte (m .lcd .disabled) (lit< tt) (f .lcd .line)
 
-  plain-byte : (at : ℕ) → Byte (plainRead m sound at)
+  plain-byte : (at : ℕ) → Byte (plainRead (loaded m at) sound at)
   unfolding plainRead
   plain-byte at = cond-both Byte (ltb at 0x10) (loaded-byte f at) (cond-both Byte (ltb at 0x40) (b _) (loaded-byte f at))
 
   register-byte : (at : ℕ) → Byte (readRegister m sound at)
-  unfolding readRegister
+  unfolding readRegister shownAs
   register-byte at =
-      cond-both Byte (eqb at 0x00) pad-byte
+      cond-both Byte (eqb at 0x00) (pad-byte at)
       (cond-both Byte (eqb at 0x03) (lit< tt)
-      (cond-both Byte (eqb at 0x07) (forced-byte 0x07 (lit< tt))
+      (cond-both Byte (eqb at 0x07) (forced-byte at (lit< tt))
       (cond-both Byte (eqb at 0x0E) (lit< tt)
-      (cond-both Byte (eqb at 0x0F) (forced-byte 0x0F (lit< tt))
-      (cond-both Byte (eqb at 0x41) (forced-byte 0x41 (lit< tt))
+      (cond-both Byte (eqb at 0x0F) (forced-byte at (lit< tt))
+      (cond-both Byte (eqb at 0x41) (forced-byte at (lit< tt))
       (cond-both Byte (eqb at 0x44) line-byte
       (cond-both Byte (eqb at 0x4C) (lit< tt)
-      (cond-both Byte (eqb at 0x4F) (forced-byte 0x4F (lit< tt))
-      (cond-both Byte (eqb at 0x68) (kind-byte (forced-byte 0x68 (lit< tt)) (lit< tt))
-      (cond-both Byte (eqb at 0x69) (kind-byte (forced-byte 0x69 (lit< tt)) (lit< tt))
-      (cond-both Byte (eqb at 0x6A) (kind-byte (forced-byte 0x6A (lit< tt)) (lit< tt))
-      (cond-both Byte (eqb at 0x6B) (kind-byte (forced-byte 0x6B (lit< tt)) (lit< tt))
-      (cond-both Byte (eqb at 0x70) (kind-byte (forced-byte 0x70 (lit< tt)) (lit< tt))
+      (cond-both Byte (eqb at 0x4F) (forced-byte at (lit< tt))
+      (cond-both Byte (eqb at 0x68) (kind-byte (forced-byte at (lit< tt)) (lit< tt))
+      (cond-both Byte (eqb at 0x69) (kind-byte (forced-byte at (lit< tt)) (lit< tt))
+      (cond-both Byte (eqb at 0x6A) (kind-byte (forced-byte at (lit< tt)) (lit< tt))
+      (cond-both Byte (eqb at 0x6B) (kind-byte (forced-byte at (lit< tt)) (lit< tt))
+      (cond-both Byte (eqb at 0x70) (kind-byte (forced-byte at (lit< tt)) (lit< tt))
       (cond-both Byte (eqb at 0x76) (kind-byte (lit< tt) (lit< tt))
       (cond-both Byte (eqb at 0x77) (kind-byte (lit< tt) (lit< tt))
       (plain-byte at))))))))))))))))
@@ -143,15 +143,13 @@ module _ (w : World) (g : Whole w) (v : ℕ) (b : v < 256) where
 
 module _ (x : Fixed) (rom : Below 256 (x .rom)) (sound : Below 256 (x .sound)) where
   read-byte : (w : World) → Whole w → (index : ℕ) → Byte (readIn x w index)
-  unfolding byteAt
+  unfolding byteAt lentAt
   read-byte w g index =
       let i = echo index in
       let m = mapped-byte (x .rom) (w .save) rom (g .save) (w .state .cartridge) (w .state .mapper) i in
-      cond-both Byte (ltb i 0x8000) m
-      (cond-both Byte (ltb i 0xA000) (g .vram _)
-      (cond-both Byte (ltb i 0xC000) m
-      (cond-both Byte (ltb i 0xE000) (g .wram _)
-      (cond-both Byte (ltb i 0xFF00) (g .state .oam .bytes _) (register-byte (g .state) (x .sound) sound (i - 0xFF00))))))
+      cond-both Byte (ltb i 0xE000)
+      (cond-both Byte (ltb i 0x8000) m (cond-both Byte (ltb i 0xA000) (g .vram _) (cond-both Byte (ltb i 0xC000) m (g .wram _))))
+      (cond-both Byte (ltb i 0xFF00) (g .state .oam .bytes _) (register-byte (g .state) (x .sound) sound (i - 0xFF00)))
 
   abbrev Writes : (World → ℕ → ℕ → World) → Type 0
   Writes f = (w : World) → Whole w → (index v : ℕ) → v < 256 → Whole (f w index v)

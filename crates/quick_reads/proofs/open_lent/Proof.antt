@@ -1,5 +1,6 @@
 -- The image's number, or the lengths'.
-use Rattle.quick_reads.proofs.ReadLaws.{open-core, number-closed, number-lengths}
+use Rattle.image.proofs.OpenLaws.{open-core}
+use Rattle.quick_reads.proofs.ReadLaws.{number-closed, number-lengths}
 use borrow.Author.Needs.{needs}
 use Rattle.quick_reads.proofs.open_lent.Statement.{statement}
 use Rattle.quick_reads.proofs.open_lent.Tie as tie
