@@ -1,4 +1,4 @@
--- A quick write on an image that is taken: what the parts of src/writes.rt ask for, what each region's part leaves, and that the next write finds an image
+-- A quick write on an image that is taken: what the parts of src/lib.rt ask for, what each region's part leaves, and that the next write finds an image
 -- that is taken. Then how a write answers, by what refuses it.
 use mathlib.Core.Bool.{Bool, true, false, cond, _||_}
 use mathlib.Core.List.{List, []}

@@ -1,4 +1,4 @@
--- The quick writes of src/writes.rt: what they need of an image and of what is lent, and what they leave. Nothing here need be believed: the contracts of
+-- The quick writes of src/lib.rt: what they need of an image and of what is lent, and what they leave. Nothing here need be believed: the contracts of
 -- the entries cite specs/Entry.antt alone.
 use mathlib.Core.Bool.{Bool, true, false, cond}
 use mathlib.Core.List.{List}
