@@ -42,3 +42,7 @@ abbrev pub ImageBack : Type 0
 ImageBack =
     (l : List ℕ) → Below 256 l → loadCall l .number ≡ done
     → (storable (loadCall l .state) ≡ true) × (imageOf (loadCall l .state) ≡ l)
+
+-- and it is what the types of a state say, so that the first law holds of it
+abbrev pub ImageTyped : Type 0
+ImageTyped = (l : List ℕ) → Below 256 l → loadCall l .number ≡ done → Typed (loadCall l .state)

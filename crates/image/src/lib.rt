@@ -6,7 +6,7 @@ ghost use Prim.Native.Nat.{_+_, _≤_};
 ghost use lib.ListN.{length};
 ghost use Rattle.image.specs.Layout.{imageOf};
 ghost use Rattle.image.specs.Load.{storable, stored, storeCall, loaded, stateOf, loadCall, openedOf, openCall};
-ghost use Rattle.image.specs.Laws.{Typed, StateBack, ImageBack};
+ghost use Rattle.image.specs.Laws.{Typed, StateBack, ImageBack, ImageTyped};
 ghost use Rattle.memory.specs.Ranges.{coreOf};
 ghost use Rattle.memory.specs.Start.{zeroed};
 
@@ -171,5 +171,5 @@ pub fn decode(image: &[u8]) -> Loaded
 
 // The laws of specs/Laws.antt, as a contract: its proof hands them over.
 pub fn laws_hold()
-    ensures { λ _. ⌜ StateBack × ImageBack ⌝ }
+    ensures { λ _. ⌜ StateBack × ImageBack × ImageTyped ⌝ }
 {}
