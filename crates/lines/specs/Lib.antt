@@ -2,3 +2,5 @@ pub mod Text
 pub mod Contents
 pub mod Reader
 pub mod Answer
+pub mod Mapper
+pub mod Tally

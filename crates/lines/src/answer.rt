@@ -2,7 +2,7 @@
 ghost use mathlib.Core.Path.{_≡_};
 ghost use Prim.Native.Nat.{_≤_};
 ghost use lib.ListN.{take};
-ghost use Rattle.lines.specs.Answer.{Says, Agrees};
+ghost use Rattle.lines.specs.Answer.{Says, Agrees, notOurs};
 
 // `number` is 0 where every call took its input.
 pub struct Ours {
@@ -11,7 +11,9 @@ pub struct Ours {
 }
 
 // An input that is not one of ours.
-pub fn refused() -> Ours {
+pub fn refused() -> Ours
+    ensures { λ r. ⌜ r ≡ notOurs ⌝ }
+{
     Ours {
         number: numbers::OUTSIDE,
         bytes: [0; 12],

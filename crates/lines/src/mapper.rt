@@ -1,4 +1,6 @@
 // A mapper as a line has it.
+ghost use mathlib.Core.Path.{_≡_};
+ghost use Rattle.lines.specs.Mapper.{banksOf, registersOf};
 use crate::number::flag;
 use mbc::Mapper;
 
@@ -13,7 +15,9 @@ pub struct Registers {
 }
 
 // N by its logarithm; 0, which no cartridge has, for another.
-pub fn banks(log: u8) -> u16 {
+pub fn banks(log: u8) -> u16
+    ensures { λ r. ⌜ r ≡ banksOf log ⌝ }
+{
     match log {
         1 => 2,
         2 => 4,
@@ -26,7 +30,9 @@ pub fn banks(log: u8) -> u16 {
     }
 }
 
-pub fn registers_of(mapper: Mapper) -> Registers {
+pub fn registers_of(mapper: Mapper) -> Registers
+    ensures { λ r. ⌜ r ≡ registersOf mapper ⌝ }
+{
     match mapper {
         Mapper::RomOnly => Registers {
             kind: 0,

@@ -1,4 +1,5 @@
 // Numbers of several bytes, the most significant first; true is 01.
+ghost use mathlib.Core.Bool.{cond};
 ghost use mathlib.Core.Path.{_≡_};
 ghost use Prim.Native.Nat.{_+_, _*_, _/_, _%_};
 
@@ -26,9 +27,8 @@ pub fn long(high: u16, low: u16) -> u32
     high as u32 * 65536 + low as u32
 }
 
-pub fn flag(set: bool) -> u8 {
-    if set {
-        return 1;
-    }
-    0
+pub fn flag(set: bool) -> u8
+    ensures { λ r. ⌜ r ≡ cond set 1 0 ⌝ }
+{
+    if set { 1 } else { 0 }
 }

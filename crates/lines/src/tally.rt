@@ -1,5 +1,7 @@
 // The counts, and their report.
-ghost use Prim.Native.Nat.{_<_};
+ghost use mathlib.Core.Path.{_≡_};
+ghost use Prim.Native.Nat.{_%_, _<_};
+ghost use Rattle.lines.specs.Tally as counts;
 use libc::STDOUT_FILENO;
 
 // A letter counts at its code modulo 64, where no two letters meet.
@@ -11,13 +13,15 @@ pub struct Tally {
 }
 
 fn place(letter: u8) -> usize
-    ensures { λ r. ⌜ r < 64 ⌝ }
+    ensures { λ r. ⌜ (r ≡ letter % 64) × (r < 64) ⌝ }
 {
     (letter % 64) as usize
 }
 
 // One more. A count of 64 bits never comes round.
-fn more(n: u64) -> u64 {
+fn more(n: u64) -> u64
+    ensures { λ r. ⌜ r ≡ counts.more n ⌝ }
+{
     std::num::wrapping_add_u64(n, 1)
 }
 
@@ -49,7 +53,9 @@ fn report_unknown(unknown: u64) {
 }
 
 impl Tally {
-    pub fn new() -> Tally {
+    pub fn new() -> Tally
+        ensures { λ r. ⌜ r ≡ counts.none ⌝ }
+    {
         Tally {
             answers: [0; 64],
             differ: [0; 64],
@@ -57,7 +63,9 @@ impl Tally {
         }
     }
 
-    pub fn counted(self, letter: u8, same: bool) -> Tally {
+    pub fn counted(self, letter: u8, same: bool) -> Tally
+        ensures { λ r. ⌜ r ≡ counts.countedIn self letter same ⌝ }
+    {
         let at = place(letter);
         let mut next = self;
         next.answers[at] = more(self.answers[at]);
@@ -68,7 +76,9 @@ impl Tally {
         next
     }
 
-    pub fn strange(self) -> Tally {
+    pub fn strange(self) -> Tally
+        ensures { λ r. ⌜ r ≡ counts.strangeIn self ⌝ }
+    {
         let mut next = self;
         next.unknown = more(self.unknown);
         next
