@@ -1,1 +1,3 @@
 pub mod Halves
+pub mod Parts
+pub mod Digests

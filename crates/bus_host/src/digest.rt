@@ -1,6 +1,10 @@
 // The digests of state and memories, for the letter Z: oracle/README.md, "The whole bus", has what goes in, and in which order.
 ghost use mathlib.Core.Path.{_≡_};
-ghost use Prim.Native.Nat.{_+_, _*_, _%_};
+ghost use mathlib.Core.List.{_++_};
+ghost use lib.ListN.{length};
+ghost use Rattle.memory.specs.World.{world};
+ghost use Rattle.bus_host.specs.Host.{lengthsIn, lentParts};
+ghost use Rattle.bus_host.specs.Digest.{mixed, digest, colorBytes, wordBytes, signedBytes, logBytes, memoryBytes};
 use crate::complement::unsigned;
 use crate::host::least;
 use crate::host::lengths_in;
@@ -13,12 +17,14 @@ use memory::Memory;
 use palette::Color;
 
 fn of_byte(h: u32, byte: u8) -> u32
-    ensures { λ r. ⌜ r ≡ (h * 257 + byte + 1) % 4294967291 ⌝ }
+    ensures { λ r. ⌜ r ≡ mixed h byte ⌝ }
 {
     ((h as u64 * 257 + byte as u64 + 1) % 4294967291) as u32
 }
 
-fn of_bytes(h: u32, bytes: &[u8]) -> u32 {
+fn of_bytes(h: u32, bytes: &[u8]) -> u32
+    ensures { λ r. ⌜ r ≡ digest h (now (bytes .entry)) ⌝ }
+{
     let mut next = h;
     let mut i = 0;
     while i < bytes.len() {
@@ -28,7 +34,9 @@ fn of_bytes(h: u32, bytes: &[u8]) -> u32 {
     next
 }
 
-fn of_page(h: u32, page: [u8; 256]) -> u32 {
+fn of_page(h: u32, page: [u8; 256]) -> u32
+    ensures { λ r. ⌜ r ≡ digest h page ⌝ }
+{
     of_bytes(h, &page)
 }
 
@@ -44,7 +52,9 @@ fn of_colors(h: u32, colors: [Color; 32]) -> u32 {
 }
 
 // A number of two bytes, the high one first.
-fn of_word(h: u32, word: u16) -> u32 {
+fn of_word(h: u32, word: u16) -> u32
+    ensures { λ r. ⌜ r ≡ digest h (wordBytes word) ⌝ }
+{
     of_byte(of_byte(h, high(word)), low(word))
 }
 
@@ -131,7 +141,9 @@ pub fn of_state(memory: Memory) -> u32 {
 }
 
 // The bytes of the log that are used, after their number.
-fn of_log(h: u32, used: u16, log: &[u8]) -> u32 {
+fn of_log(h: u32, used: u16, log: &[u8]) -> u32
+    ensures { λ r. ⌜ r ≡ digest h (logBytes used (now (log .entry))) ⌝ }
+{
     let n = least(used as usize, log.len());
     of_bytes(of_word(h, used), &log[..n])
 }

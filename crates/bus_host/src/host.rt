@@ -1,6 +1,11 @@
 // The host of a bus: it lends the memories, each as long as the bus needs it.
+ghost use mathlib.Core.Path.{_≡_};
 ghost use Prim.Native.Nat.{_≤_};
-ghost use lib.ListN.{length};
+ghost use lib.ListN.{length, take, drop};
+ghost use Rattle.bus.specs.Calls.{outcome};
+ghost use Rattle.dispatch.specs.Step.{step};
+ghost use Rattle.memory.specs.World.{world, fixed};
+ghost use Rattle.bus_host.specs.Host.{smaller, lengthsOf, lentOf, lengthsIn, lentParts};
 use dispatch::Call;
 use dispatch::Performed;
 use lines::mapper::banks;
@@ -18,7 +23,7 @@ pub struct Lengths {
 }
 
 pub fn least(a: usize, b: usize) -> usize
-    ensures { λ r. ⌜ (r ≤ a) × (r ≤ b) ⌝ }
+    ensures { λ r. ⌜ (r ≡ smaller a b) × ((r ≤ a) × (r ≤ b)) ⌝ }
 {
     if a < b {
         return a;
@@ -26,7 +31,9 @@ pub fn least(a: usize, b: usize) -> usize
     b
 }
 
-fn lengths_of(cartridge: Cartridge, mapper: Mapper, colour: bool) -> Lengths {
+fn lengths_of(cartridge: Cartridge, mapper: Mapper, colour: bool) -> Lengths
+    ensures { λ r. ⌜ r ≡ lengthsOf cartridge mapper colour ⌝ }
+{
     Lengths {
         rom: cartridge.rom_len(),
         vram: memory::vram_len(colour),
@@ -37,7 +44,7 @@ fn lengths_of(cartridge: Cartridge, mapper: Mapper, colour: bool) -> Lengths {
 
 // The lengths that a bus needs, as far as there are so many bytes. What is too short is refused by its length.
 fn lent(needs: Lengths, rom: usize, vram: usize, wram: usize, save: usize) -> Lengths
-    ensures { λ r. ⌜ (r .rom ≤ rom) × ((r .vram ≤ vram) × ((r .wram ≤ wram) × (r .save ≤ save))) ⌝ }
+    ensures { λ r. ⌜ (r ≡ lentOf needs rom vram wram save) × ((r .rom ≤ rom) × ((r .vram ≤ vram) × ((r .wram ≤ wram) × (r .save ≤ save)))) ⌝ }
 {
     Lengths {
         rom: least(needs.rom, rom),
@@ -49,7 +56,7 @@ fn lent(needs: Lengths, rom: usize, vram: usize, wram: usize, save: usize) -> Le
 
 // The same for a bus at hand.
 pub fn lengths_in(memory: Memory, rom: usize, vram: usize, wram: usize, save: usize) -> Lengths
-    ensures { λ r. ⌜ (r .rom ≤ rom) × ((r .vram ≤ vram) × ((r .wram ≤ wram) × (r .save ≤ save))) ⌝ }
+    ensures { λ r. ⌜ (r ≡ lengthsIn memory rom vram wram save) × ((r .rom ≤ rom) × ((r .vram ≤ vram) × ((r .wram ≤ wram) × (r .save ≤ save)))) ⌝ }
 {
     let cartridge = memory.cartridge;
     let mapper = memory.mapper;
@@ -73,7 +80,9 @@ pub fn perform(
     log: &mut [u8],
     sound: &[u8],
     call: Call,
-) -> Performed {
+) -> Performed
+    ensures { λ r. let n = lengthsIn memory (length (now (rom .entry))) (length (now (vram .entry))) (length (now (wram .entry))) (length (now (save .entry))) in ⌜ (outcome (r .number) (r .value) (lentParts n (world (r .memory) (now (vram .exit)) (now (wram .exit)) (now (save .exit)) (now (log .exit)))) ≡ step (fixed (take (n .rom) (now (rom .entry))) (now (sound .entry))) (lentParts n (world memory (now (vram .entry)) (now (wram .entry)) (now (save .entry)) (now (log .entry)))) call) × ((drop (n .vram) (now (vram .exit)) ≡ drop (n .vram) (now (vram .entry))) × ((drop (n .wram) (now (wram .exit)) ≡ drop (n .wram) (now (wram .entry))) × (drop (n .save) (now (save .exit)) ≡ drop (n .save) (now (save .entry))))) ⌝ }
+{
     let n = lengths_in(memory, rom.len(), vram.len(), wram.len(), save.len());
     let r = n.rom;
     let v = n.vram;

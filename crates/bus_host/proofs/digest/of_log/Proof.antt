@@ -2,6 +2,7 @@
 use mathlib.Core.Path.{sym}
 use native.Mathlib.Omega.{arith}
 use lib.Seq.{length-take-le}
+use Rattle.bus_host.specs.Digest.{digest}
 use borrow.Author.Needs.{needs}
 use Rattle.bus_host.proofs.digest.of_log.Statement.{statement}
 use Rattle.bus_host.proofs.digest.of_log.Tie as tie
@@ -19,7 +20,8 @@ of-bytes-requires : tie.Need-of-bytes-requires
 of-bytes-requires c κs = search needs
 
 returns : tie.Need-returns
-returns c = search needs
+unfolding digest
+returns c = rw (c .of-bytes .ensures, c .before .before .of-word .ensures, c .before .before .before .least .ensures .0)
 
 pub of-log-spec : {M : Type 1} → statement M
 of-log-spec =

@@ -2,6 +2,7 @@
 use mathlib.Core.Path.{sym}
 use native.Mathlib.Omega.{arith}
 use lib.Seq.{length-take-le}
+use Rattle.bus_host.proofs.Parts.{lent-step}
 use borrow.Author.Needs.{needs}
 use Rattle.bus_host.proofs.host.perform.Statement.{statement}
 use Rattle.bus_host.proofs.host.perform.Tie as tie
@@ -46,7 +47,8 @@ same-length-4 : tie.Need-same-length-4
 same-length-4 c = search needs
 
 returns : tie.Need-returns
-returns c = search needs
+returns c =
+    lent-step _ _ (c .before .before .before .before .before .before .before .before .before .before .before .before .before .before .lengths-in .ensures .0) _ _ _ _ _ _ _ _ _ _ _ _ _ _ _ (c .before .before .before .before .before .before .before .before .before .before .before .before .before .before .lengths-in .ensures .1 .1 .0) (c .before .before .before .before .before .before .before .before .before .before .before .before .before .before .lengths-in .ensures .1 .1 .1 .0) (c .before .before .before .before .before .before .before .before .before .before .before .before .before .before .lengths-in .ensures .1 .1 .1 .1) (omega arith) (omega arith) (omega arith) (c .before .before .before .before .before .before .before .before .perform .ensures)
 
 pub perform-spec : {M : Type 1} → statement M
 perform-spec =
