@@ -18,8 +18,8 @@ pub digest-four : (h : ℕ) (a b c d : List ℕ) → digest (digest (digest (dig
 digest-four h a b c d =
     sym
     (
-      digest-append h (a ++ b ++ c) d
-      ∙ ap (λ (x : ℕ). digest x d) (digest-append h (a ++ b) c ∙ ap (λ (x : ℕ). digest x c) (digest-append h a b))
+    digest-append h (a ++ b ++ c) d
+    ∙ ap (λ (x : ℕ). digest x d) (digest-append h (a ++ b) c ∙ ap (λ (x : ℕ). digest x c) (digest-append h a b))
     )
 
 pub digest-lent : (n m : Lengths) → n ≡ m → (state : Memory) (v w s log : List ℕ)

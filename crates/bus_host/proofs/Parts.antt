@@ -24,10 +24,9 @@ lent-step n m e number value after before rom sound v w s l v′ w′ s′ l′ 
     let hs : length s′ ≡ n .save = es ∙ length-take-le (n .save) s bs in
     subst
     (λ (k : Lengths).
-      (outcome number value (lentParts k (world after (v′ ++ drop (n .vram) v) (w′ ++ drop (n .wram) w) (s′ ++ drop (n .save) s) l′)) ≡ step (fixed (take (k .rom) rom) sound) (lentParts k (world before v w s l)) call)
-      × ((drop (k .vram) (v′ ++ drop (n .vram) v) ≡ drop (k .vram) v) × ((drop (k .wram) (w′ ++ drop (n .wram) w) ≡ drop (k .wram) w) × (drop (k .save) (s′ ++ drop (n .save) s) ≡ drop (k .save) s))))
-    e
-    (
+    (outcome number value (lentParts k (world after (v′ ++ drop (n .vram) v) (w′ ++ drop (n .wram) w) (s′ ++ drop (n .save) s) l′)) ≡ step (fixed (take (k .rom) rom) sound) (lentParts k (world before v w s l)) call)
+    × ((drop (k .vram) (v′ ++ drop (n .vram) v) ≡ drop (k .vram) v) × ((drop (k .wram) (w′ ++ drop (n .wram) w) ≡ drop (k .wram) w) × (drop (k .save) (s′ ++ drop (n .save) s) ≡ drop (k .save) s))))
+    e (
       rw (take-at v′ (drop (n .vram) v) (n .vram) hv, take-at w′ (drop (n .wram) w) (n .wram) hw, take-at s′ (drop (n .save) s) (n .save) hs) h,
       (drop-at v′ (drop (n .vram) v) (n .vram) hv, (drop-at w′ (drop (n .wram) w) (n .wram) hw, drop-at s′ (drop (n .save) s) (n .save) hs)),
     )
