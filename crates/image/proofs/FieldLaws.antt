@@ -7,8 +7,8 @@ use native.Mathlib.Nat.{div-one, mod-eq-of-lt, add-assoc, add-zero, add-mul, mul
 use native.Mathlib.Omega.{arith}
 use lib.ListN.{length, getD}
 use lib.Pow.{high, pow-add}
-use Rattle.packing.specs.Packing.{bits, packed, unpacked, repacked, eights}
-use Rattle.packing.proofs.Laws.{Fit, unpack-unique, packed-lt, pack-append, pack-unpack, unpack-append, unpack-low}
+use Rattle.packing.specs.Packing.{Fit, bits, packed, unpacked, repacked, eights}
+use Rattle.packing.proofs.Laws.{unpack-unique, packed-lt, pack-append, pack-unpack, unpack-append, unpack-low}
 use lib.Dec.{eqb}
 use mir.Syntax.{w32}
 use mir.Val.{ofZ, toZ}

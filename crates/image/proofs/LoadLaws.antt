@@ -10,8 +10,8 @@ use lib.ListN.{length, take, drop, getD, length-append, length-drop, take-append
 use lib.Seq.{take-at, drop-at, take-take, drop-drop, length-take-le, take-add, drop-cons, getD-take, take-all}
 use borrow.Author.Tests.{eq-eqb}
 use Rattle.numbers.specs.Numbers.{done, outOfRange}
-use Rattle.packing.specs.Packing.{Below, bits, packed, unpacked, repacked, eights, fives}
-use Rattle.packing.proofs.Laws.{Fit, below-fit, below-drop, pack-append, bits-replicate}
+use Rattle.packing.specs.Packing.{Fit, Below, bits, packed, unpacked, repacked, eights, fives}
+use Rattle.packing.proofs.Laws.{below-fit, below-drop, pack-append, bits-replicate}
 use Rattle.hdma.specs.declared.Hdma.{Hdma}
 use Rattle.joypad.specs.declared.Controller.{Controller}
 use Rattle.lcd.specs.declared.Lcd.{Lcd}

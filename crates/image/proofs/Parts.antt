@@ -7,8 +7,8 @@ use native.Mathlib.Nat.{le-refl}
 use native.Mathlib.Omega.{arith}
 use lib.ListN.{length, take, drop, getD, replicate, length-append, length-drop, length-replicate, take-append-drop}
 use lib.Seq.{paste, take-paste, length-paste, take-all, take-at, drop-at, take-take, drop-drop, length-take-le, getD-take, getD-drop}
-use Rattle.packing.specs.Packing.{Below, bits, packed, unpacked, repacked, eights, fives}
-use Rattle.packing.proofs.Laws.{Fit, packed-lt, unpack-pack, unpack-length, unpack-fit, pack-unpack, regroup, below-fit, below-drop}
+use Rattle.packing.specs.Packing.{Fit, Below, bits, packed, unpacked, repacked, eights, fives}
+use Rattle.packing.proofs.Laws.{packed-lt, unpack-pack, unpack-length, unpack-fit, pack-unpack, regroup, below-fit, below-drop}
 use Rattle.image.specs.Layout.{imageLen, fieldWidths, widths}
 use Rattle.image.specs.Load.{valuesOf}
 

@@ -8,8 +8,8 @@ use native.Mathlib.Nat.{add-assoc, zero-add, suc-add}
 use native.Mathlib.Omega.{arith}
 use lib.ListN.{length, take, drop, getD, set, length-append, length-set}
 use lib.Seq.{paste, take-append-add, drop-append-add, set-append-left}
-use Rattle.packing.specs.Packing.{Below, packed, unpacked, repacked, eights, fives}
-use Rattle.packing.proofs.Laws.{Fit, packed-lt, pack-append, pack-unpack, unpack-pack}
+use Rattle.packing.specs.Packing.{Fit, Below, packed, unpacked, repacked, eights, fives}
+use Rattle.packing.proofs.Laws.{packed-lt, pack-append, pack-unpack, unpack-pack}
 use Rattle.mbc.specs.Mbc as mbc
 use Rattle.mbc.specs.declared.mbc.Mapper.{Mapper}
 use Rattle.joypad.specs.declared.Controller.{Controller}

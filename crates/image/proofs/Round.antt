@@ -15,8 +15,8 @@ use mir.Facts.{toZ-ofZ, ofZ-toZ}
 use borrow.Author.Tests.{eqb-true, eq-eqb, ne-eqb}
 use Rattle.rules.proofs.Tests.{both-true}
 use Rattle.numbers.specs.Numbers.{done, outOfRange, wrongLength}
-use Rattle.packing.specs.Packing.{Below, bits, packed, unpacked, repacked, eights, fives}
-use Rattle.packing.proofs.Laws.{Fit, below-fit, unpack-fit}
+use Rattle.packing.specs.Packing.{Fit, Below, bits, packed, unpacked, repacked, eights, fives}
+use Rattle.packing.proofs.Laws.{below-fit, unpack-fit}
 use Rattle.mbc.specs.Mbc as mbc
 use Rattle.mbc.proofs.Bools.{or-cases}
 use Rattle.mbc.specs.declared.cartridge.Cartridge.{Cartridge}

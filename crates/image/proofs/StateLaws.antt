@@ -13,8 +13,8 @@ use mir.Val.{ofZ, toZ, SFits}
 use mir.Facts.{fits-ofZ}
 use borrow.Author.Tests.{eqb-true, leb-true}
 use Rattle.rules.proofs.Tests.{both-true}
-use Rattle.packing.specs.Packing.{Below, bits, packed, unpacked, repacked, eights, fives}
-use Rattle.packing.proofs.Laws.{Fit, packed-lt, below-fit}
+use Rattle.packing.specs.Packing.{Fit, Below, bits, packed, unpacked, repacked, eights, fives}
+use Rattle.packing.proofs.Laws.{packed-lt, below-fit}
 use Rattle.mbc.specs.Mbc as mbc
 use Rattle.mbc.proofs.Bools.{or-cases}
 use Rattle.mbc.proofs.Ranges.{rom-below, banks-most, mbc1-facts}
