@@ -10,7 +10,8 @@ use lib.ListN.{length, take, drop, getD, set, replicate, length-append, length-d
 use lib.Seq.{sets, sets-eq, length-sets, length-take-le, getD-drop, getD-take, drop-drop}
 use lib.Pow.{split, shr-lt, shl-exact, pow-mono, pow-pos, pow-add, high, low, shr-shr, mod-pow-add, mod-mod-pow, field}
 use Rattle.packing.specs.Packing.{Below, Fit, bits, packed, unpacked, eights}
-use Rattle.packing.proofs.Laws.{packed-lt, bits-replicate, pack-append, below-fit, below-take, below-drop, unpack-mod, unpack-low, unpack-pack, pack-unpack}
+use Rattle.packing.proofs.Laws.{packed-lt, bits-replicate, pack-append, below-fit, below-take, below-drop, unpack-mod, unpack-low, unpack-pack, unpack-length, pack-unpack}
+use Rattle.packing.proofs.Runs.{part-listed}
 use Rattle.places.specs.Places.{number, behind, fieldAt, fieldsFrom, replaced, putAt}
 
 -- the fields of a layout that fills the bytes to their end are those at the places
@@ -58,26 +59,33 @@ window n c t s w h =
     let e : t ≡ j + w + s = omega arith in
     rw (e, field (n / 2 ^ c) (j + w) s, mod-mod-pow (n / 2 ^ c / 2 ^ s) j w, shr-shr n c s)
 
-three : (l : List ℕ) (a : ℕ) → l ≡ take a l ++ (take 8 (drop a l) ++ drop (a + 8) l)
-three l a = sym (rw (← drop-drop 8 a l, take-append-drop 8 (drop a l)) (take-append-drop a l))
+three : (l : List ℕ) (a k : ℕ) → l ≡ take a l ++ (take k (drop a l) ++ drop (a + k) l)
+three l a k = sym (rw (← drop-drop k a l, take-append-drop k (drop a l)) (take-append-drop a l))
 
-module _ (l : List ℕ) (b : Below 256 l) (a : ℕ) (h : a + 8 ≤ length l) where
-  eight : length (take 8 (drop a l)) ≡ 8
-  eight = length-take-le 8 (drop a l) (rw length-drop (omega arith))
+-- a window of k bytes
+module _ (l : List ℕ) (b : Below 256 l) (a k : ℕ) (h : a + k ≤ length l) where
+  window-length : length (take k (drop a l)) ≡ k
+  window-length = length-take-le k (drop a l) (rw length-drop (omega arith))
 
-  pub window-at : packed (eights 8) (take 8 (drop a l)) ≡ number l / 2 ^ (8 * (length l - (a + 8))) % 2 ^ 64
+  window-below : Below 256 (take k (drop a l))
+  window-below = below-take k 256 (drop a l) (omega arith) (below-drop a 256 l b)
+
+  window-lt : packed (eights k) (take k (drop a l)) < 2 ^ (8 * k)
+  window-lt = rw bits-eights at (packed-lt (eights k) (take k (drop a l)) (below-fit k 8 (take k (drop a l)) window-length window-below))
+
+  window-at : packed (eights k) (take k (drop a l)) ≡ number l / 2 ^ (8 * (length l - (a + k))) % 2 ^ (8 * k)
   unfolding number
   window-at =
-      let x = between (take a l) (take 8 (drop a l)) (drop (a + 8) l) (below-take 8 256 (drop a l) (omega arith) (below-drop a 256 l b)) (below-drop (a + 8) 256 l b) in
-      rw (eight, length-drop, ← three l a) at x
+      let x = between (take a l) (take k (drop a l)) (drop (a + k) l) window-below (below-drop (a + k) 256 l b) in
+      rw (window-length, length-drop, ← three l a k) at x
 
-  -- a field whose last bit is among the last eight of the window
-  pub field-window : (s w bit : ℕ) → s + w ≤ 64 → bit + w + s ≡ 8 * (a + 8)
-      → packed (eights 8) (take 8 (drop a l)) / 2 ^ s % 2 ^ w ≡ fieldAt l bit w
+  -- a field whose last bit is in the window's last byte
+  pub field-window : (s w bit : ℕ) → s + w ≤ 8 * k → bit + w + s ≡ 8 * (a + k)
+      → packed (eights k) (take k (drop a l)) / 2 ^ s % 2 ^ w ≡ fieldAt l bit w
   unfolding fieldAt
-  field-window s w bit k e =
-      let f : behind l bit w ≡ 8 * (length l - (a + 8)) + s = omega arith in
-      rw (window-at, window (number l) (8 * (length l - (a + 8))) 64 s w k, f)
+  field-window s w bit t e =
+      let f : behind l bit w ≡ 8 * (length l - (a + k)) + s = omega arith in
+      rw (window-at, window (number l) (8 * (length l - (a + k))) (8 * k) s w t, f)
 
 -- a shifted 1
 pub power : (w : ℕ) → w < 64 → 1 * 2 ^ w % 2 ^ 64 ≡ 2 ^ w
@@ -168,16 +176,23 @@ replaced-set (w ∷ ws) n zero v b =
 replaced-set (w ∷ ws) n (suc k) v b =
     rw (replaced-above n (bits (drop (suc k) ws)) (getD ws k 0) v (bits ws) (inside ws k) b, replaced-set ws n k v b)
 
--- Stores
+-- bytes one by one
+module _ (l : List ℕ) (i : ℕ) where
+  pub two-listed : i + 2 ≤ length l → take 2 (drop i l) ≡ getD l i 0 ∷ getD l (i + 1) 0 ∷ []
+  two-listed h = rw add-zero at (part-listed 2 i 0 l 0 (omega arith))
 
-one-more : (o k : ℕ) → o + suc k ≡ suc (o + k)
-one-more o k = add-suc o k
+  pub three-listed : i + 3 ≤ length l → take 3 (drop i l) ≡ getD l i 0 ∷ getD l (i + 1) 0 ∷ getD l (i + 2) 0 ∷ []
+  three-listed h = rw add-zero at (part-listed 3 i 0 l 0 (omega arith))
 
-pub eight-stores : (out : List ℕ) (o n : ℕ) (f : List ℕ) → f ≡ unpacked (eights 8) n
-    → set (set (set (set (set (set (set (set out o (getD f 0 0)) (o + 1) (getD f 1 0)) (o + 2) (getD f 2 0)) (o + 3) (getD f 3 0)) (o + 4) (getD f 4 0))
-    (o + 5) (getD f 5 0)) (o + 6) (getD f 6 0)) (o + 7) (getD f 7 0)
-    ≡ sets out o (unpacked (eights 8) n)
-eight-stores out o n f e = rw (e, one-more o 6, one-more o 5, one-more o 4, one-more o 3, one-more o 2, one-more o 1, add-one o)
+module _ (out : List ℕ) (o : ℕ) where
+  one-more : (k : ℕ) → o + suc k ≡ suc (o + k)
+  one-more k = add-suc o k
+
+  pub two-stores : (n : ℕ) → set (set out o (n / 0x100 % 256)) (o + 1) (n / 1 % 256) ≡ sets out o (unpacked (eights 2) n)
+  two-stores n = rw (add-one o)
+
+  pub three-stores : (n : ℕ) → set (set (set out o (n / 0x10000 % 256)) (o + 1) (n / 0x100 % 256)) (o + 2) (n / 1 % 256) ≡ sets out o (unpacked (eights 3) n)
+  three-stores n = rw (one-more 1, add-one o)
 
 -- what the code of `replaced` computes does not wrap
 module _ (n s w v : ℕ) (hn : n < 2 ^ 64) (hw : w + s < 64) (hv : v < 2 ^ w) where
@@ -206,34 +221,58 @@ module _ (n s w v : ℕ) (hn : n < 2 ^ 64) (hw : w + s < 64) (hv : v < 2 ^ w) wh
       let h = digits-lt sum-lt (mod-lt n (pow-pos s)) in
       subst (λ (x : ℕ). (n / 2 ^ (w + s) * 2 ^ w + v) * 2 ^ s + n % 2 ^ s < 2 ^ x) e (rw (← pow-add 2 (64 - (w + s) + w) s) at h)
 
--- a field put in a window of eight bytes is put in the whole
-module _ (l : List ℕ) (b : Below 256 l) (a : ℕ) (h : a + 8 ≤ length l) (s w bit v m : ℕ) (k : s + w ≤ 64) (e : bit + w + s ≡ 8 * (a + 8))
-    (hm : m < 2 ^ 64) (r : m ≡ replaced (packed (eights 8) (take 8 (drop a l))) s w v) where
-  whole-number : number (sets l a (unpacked (eights 8) m)) ≡ replaced (number l) (behind l bit w) w v
+below-pow : (n t : ℕ) → n / 2 ^ t ≡ 0 → n < 2 ^ t
+below-pow n t h =
+    let s : 0 * 2 ^ t + n % 2 ^ t ≡ n = subst (λ (x : ℕ). x * 2 ^ t + n % 2 ^ t ≡ n) h (split n t) in
+    let m = mod-lt n (pow-pos t) in
+    omega arith
+
+pow-below : (n t : ℕ) → n < 2 ^ t → n / 2 ^ t ≡ 0
+pow-below n t h = let e : n ≡ 0 * 2 ^ t + n = omega arith in ap (λ (x : ℕ). x / 2 ^ t) e ∙ high 0 t h
+
+pub replaced-lt : (n b w v t : ℕ) → n < 2 ^ t → b + w ≤ t → v < 2 ^ w → replaced n b w v < 2 ^ t
+replaced-lt n b w v t h k hv = below-pow (replaced n b w v) t (replaced-above n b w v t k hv ∙ pow-below n t h)
+
+-- a field put in a window is put in the whole
+module _ (l : List ℕ) (b : Below 256 l) (a k : ℕ) (h : a + k ≤ length l) (s w bit v m : ℕ) (t : s + w ≤ 8 * k) (e : bit + w + s ≡ 8 * (a + k))
+    (hv : v < 2 ^ w) (r : m ≡ replaced (packed (eights k) (take k (drop a l))) s w v) where
+  new-length : length (unpacked (eights k) m) ≡ k
+  new-length = unpack-length (eights k) m ∙ length-replicate k 8
+
+  new-number : number (unpacked (eights k) m) ≡ m
+  unfolding number
+  new-number =
+      let z : m < 2 ^ (8 * k) = rw r (replaced-lt (packed (eights k) (take k (drop a l))) s w v (8 * k) (window-lt l b a k h) t hv) in
+      ap (λ (i : ℕ). packed (eights i) (unpacked (eights k) m)) new-length
+      ∙ pack-unpack (eights k) m (subst (λ (x : ℕ). m < 2 ^ x) (sym (bits-eights k)) z)
+
+  whole-number : number (sets l a (unpacked (eights k) m)) ≡ replaced (number l) (behind l bit w) w v
   unfolding number
   whole-number =
       let x = take a l in
-      let y = take 8 (drop a l) in
-      let z = drop (a + 8) l in
+      let y = take k (drop a l) in
+      let u = unpacked (eights k) m in
+      let z = drop (a + k) l in
       let c = 8 * length z in
-      let ly : length y ≡ 8 = eight l b a h in
-      let p : number (x ++ (unpacked (eights 8) m ++ z)) ≡ (number x * 2 ^ 64 + m) * 2 ^ c + number z =
-      joined-number x (unpacked (eights 8) m) z
-      ∙ ap (λ (i : ℕ). (number x * 2 ^ 64 + i) * 2 ^ c + number z) (pack-unpack (eights 8) m hm) in
-      let q : number l ≡ (number x * 2 ^ 64 + packed (eights 8) y) * 2 ^ c + number z =
-      ap number (three l a) ∙ joined-number x y z
+      let ly : length y ≡ k = window-length l b a k h in
+      let hu : a + length u ≤ length l = rw new-length h in
+      let p : number (x ++ (u ++ z)) ≡ (number x * 2 ^ (8 * k) + m) * 2 ^ c + number z =
+      joined-number x u z ∙ ap (λ (i : ℕ). (number x * 2 ^ (8 * i) + number u) * 2 ^ c + number z) new-length
+      ∙ ap (λ (i : ℕ). (number x * 2 ^ (8 * k) + i) * 2 ^ c + number z) new-number in
+      let q : number l ≡ (number x * 2 ^ (8 * k) + packed (eights k) y) * 2 ^ c + number z =
+      ap number (three l a k) ∙ joined-number x y z
       ∙ ap (λ (i : ℕ). (number x * 2 ^ (8 * i) + packed (eights i) y) * 2 ^ c + number z) ly in
       let f : behind l bit w ≡ s + c = rw length-drop (omega arith) in
-      ap number (sets-eq (unpacked (eights 8) m) l a h ∙ append-assoc x (unpacked (eights 8) m) z) ∙ p
-      ∙ ap (λ (i : ℕ). (number x * 2 ^ 64 + i) * 2 ^ c + number z) r
-      ∙ sym (ap (λ (i : ℕ). i * 2 ^ c + number z) (replaced-lower (number x) 64 (packed (eights 8) y) s w v k))
-      ∙ sym (replaced-lift (number x * 2 ^ 64 + packed (eights 8) y) c (number z) s w v (number-lt z (below-drop (a + 8) 256 l b)))
+      ap number (sets-eq u l a hu ∙ append-assoc x u (drop (a + length u) l) ∙ ap (λ (i : ℕ). x ++ (u ++ drop (a + i) l)) new-length) ∙ p
+      ∙ ap (λ (i : ℕ). (number x * 2 ^ (8 * k) + i) * 2 ^ c + number z) r
+      ∙ sym (ap (λ (i : ℕ). i * 2 ^ c + number z) (replaced-lower (number x) (8 * k) (packed (eights k) y) s w v t))
+      ∙ sym (replaced-lift (number x * 2 ^ (8 * k) + packed (eights k) y) c (number z) s w v (number-lt z (below-drop (a + k) 256 l b)))
       ∙ sym (ap (λ (i : ℕ). replaced i (s + c) w v) q) ∙ sym (ap (λ (i : ℕ). replaced (number l) i w v) f)
 
-  pub put-window : (l' : List ℕ) → l' ≡ sets l a (unpacked (eights 8) m) → Below 256 l' → l' ≡ putAt l bit w v
+  pub put-window : (l' : List ℕ) → l' ≡ sets l a (unpacked (eights k) m) → Below 256 l' → l' ≡ putAt l bit w v
   unfolding number putAt
-  put-window l' i t =
-      let n : length l' ≡ length l = ap length i ∙ length-sets l a (unpacked (eights 8) m) in
-      sym (unpack-pack (eights (length l')) l' (below-fit (length l') 8 l' refl t))
+  put-window l' i d =
+      let n : length l' ≡ length l = ap length i ∙ length-sets l a (unpacked (eights k) m) in
+      sym (unpack-pack (eights (length l')) l' (below-fit (length l') 8 l' refl d))
       ∙ ap (λ (j : ℕ). unpacked (eights j) (number l')) n
       ∙ ap (unpacked (eights (length l))) (ap number i ∙ whole-number)

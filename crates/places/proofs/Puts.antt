@@ -9,24 +9,12 @@ use lib.Pow.{pow-pos, pow-add, high, split, mod-mod-pow, mod-pow-add, shr-shr}
 use Rattle.packing.specs.Packing.{Below, Fit, bits, packed, unpacked, eights}
 use Rattle.packing.proofs.Laws.{below-fit, fit-below, unpack-fit, unpack-pack, unpack-length, pack-unpack}
 use Rattle.places.specs.Places.{number, behind, fieldAt, replaced, putAt, putFields, widthsAt, setAll}
-use Rattle.places.proofs.Laws.{bits-eights, number-lt, above-mod, replaced-above, replaced-set}
+use Rattle.places.proofs.Laws.{bits-eights, number-lt, above-mod, replaced-above, replaced-lt, replaced-set}
 
 -- bytes are those of their number
 pub bytes-back : (l : List ℕ) → Below 256 l → unpacked (eights (length l)) (number l) ≡ l
 unfolding number
 bytes-back l b = unpack-pack (eights (length l)) l (below-fit (length l) 8 l refl b)
-
-below-pow : (n t : ℕ) → n / 2 ^ t ≡ 0 → n < 2 ^ t
-below-pow n t h =
-    let s : 0 * 2 ^ t + n % 2 ^ t ≡ n = subst (λ (x : ℕ). x * 2 ^ t + n % 2 ^ t ≡ n) h (split n t) in
-    let m = mod-lt n (pow-pos t) in
-    omega arith
-
-pow-below : (n t : ℕ) → n < 2 ^ t → n / 2 ^ t ≡ 0
-pow-below n t h = let e : n ≡ 0 * 2 ^ t + n = omega arith in ap (λ (x : ℕ). x / 2 ^ t) e ∙ high 0 t h
-
-replaced-lt : (n b w v t : ℕ) → n < 2 ^ t → b + w ≤ t → v < 2 ^ w → replaced n b w v < 2 ^ t
-replaced-lt n b w v t h k hv = below-pow (replaced n b w v) t (replaced-above n b w v t k hv ∙ pow-below n t h)
 
 module _ (l : List ℕ) (bit w v : ℕ) where
   pub put-length : length (putAt l bit w v) ≡ length l

@@ -45,6 +45,6 @@ setAll [] vs fs = fs
 setAll (k ∷ ks) [] fs = fs
 setAll (k ∷ ks) (v ∷ vs) fs = setAll ks vs (set fs k v)
 
--- Where a field may be for the code: the eight bytes that end where it ends must be there. (The last test holds its sums within their type.)
-abbrev pub Within : List ℕ → ℕ → ℕ → Type 0
-Within l bit width = (64 ≤ bit + width) × ((bit + width ≤ 8 * length l) × (bit + width < 65536))
+-- Where the code takes a field: `least` bits must stand up to its end. (The last test holds its sums within their type.)
+abbrev pub Within : ℕ → List ℕ → ℕ → ℕ → Type 0
+Within least l bit width = (least ≤ bit + width) × ((bit + width ≤ 8 * length l) × (bit + width < 65536))

@@ -6,11 +6,11 @@ use borrow.Author.Needs.{needs}
 use Rattle.places.proofs.flag_at.Statement.{statement}
 use Rattle.places.proofs.flag_at.Tie as tie
 
-field-at-requires : tie.Need-field-at-requires
-field-at-requires c κs = search needs
+u8-at-requires : tie.Need-u8-at-requires
+u8-at-requires c κs = search needs
 
 returns : tie.Need-returns
-returns c = ap (λ (n : ℕ). eqb n 1) (c .field-at .ensures .0)
+returns c = ap (λ (n : ℕ). eqb n 1) (c .u8-at .ensures .0)
 
 pub flag-at-spec : {M : Type 1} → statement M
-flag-at-spec = tie.close (tie.spec field-at-requires returns)
+flag-at-spec = tie.close (tie.spec u8-at-requires returns)
