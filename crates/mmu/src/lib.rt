@@ -33,9 +33,10 @@ pub fn read_byte(
 {
     let at = lowered(index);
     if at < 0xE000 {
-        let banks = memory.core.banks;
-        let mapper = memory.core.mapper;
-        let cartridge = memory.core.cartridge;
+        let core = memory.core;
+        let banks = core.banks;
+        let mapper = core.mapper;
+        let cartridge = core.cartridge;
         return read_lent(cartridge, mapper, banks, rom, vram, wram, save, at);
     }
     if at < 0xFF00 {

@@ -119,8 +119,9 @@ pub fn put_mapper(memory: Memory, index: u16, value: u8) -> Memory
     requires { ⌜ (index < 0x8000) × (inRange (memory .core .cartridge) (memory .core .mapper) ≡ true) ⌝ }
     ensures { λ r. ⌜ r ≡ mapperPut memory index value ⌝ }
 {
-    let mapper = memory.core.mapper;
-    let cartridge = memory.core.cartridge;
+    let core = memory.core;
+    let mapper = core.mapper;
+    let cartridge = core.cartridge;
     let written = mapper.write(cartridge, index, value);
     let after = written.mapper;
     memory::with_mapper(memory, after)
@@ -163,8 +164,9 @@ pub fn put_save(memory: Memory, save: &mut [u8], log: &mut [u8], index: u16, val
     requires { ⌜ ((0xA000 ≤ index) × (index < 0xC000)) × ((inRange (memory .core .cartridge) (memory .core .mapper) ≡ true) × ((length (now save) ≡ ramLen (memory .core .cartridge) (memory .core .mapper)) × (length (now log) ≤ logLimit))) ⌝ }
     ensures { λ r. ⌜ world r [] [] (now (save .exit)) (now (log .exit)) ≡ savePut (world memory [] [] (now (save .entry)) (now (log .entry))) index value ⌝ }
 {
-    let cartridge = memory.core.cartridge;
-    let mapper = memory.core.mapper;
-    let used = store_save(cartridge, mapper, memory.core.used, save, log, index, value);
+    let core = memory.core;
+    let cartridge = core.cartridge;
+    let mapper = core.mapper;
+    let used = store_save(cartridge, mapper, core.used, save, log, index, value);
     memory::with_used(memory, used)
 }
