@@ -23,17 +23,17 @@ passes true k h e = refl
 passes false k h e = absurd (omega arith)
 
 pub lengths-pass : (m : Memory) (rom vram wram save sound : ℕ) → lengthsRefused m rom vram wram save sound ≡ 0
-    → (rom ≡ romLen (m .cartridge))
-    × (vram ≡ vramLen (m .banks .colour))
-    × (wram ≡ wramLen (m .banks .colour))
-    × (save ≡ ramLen (m .cartridge) (m .mapper))
+    → (rom ≡ romLen (m .core .cartridge))
+    × (vram ≡ vramLen (m .core .banks .colour))
+    × (wram ≡ wramLen (m .core .banks .colour))
+    × (save ≡ ramLen (m .core .cartridge) (m .core .mapper))
     × (sound ≡ soundLen)
 unfolding lengthsRefused lengthsFit
 lengths-pass m rom vram wram save sound e =
-    let a = both-true (eqb rom (romLen (m .cartridge))) _ (passes _ 4 (omega arith) e) in
-    let b = both-true (eqb vram (vramLen (m .banks .colour))) _ (a .1) in
-    let c = both-true (eqb wram (wramLen (m .banks .colour))) _ (b .1) in
-    let d = both-true (eqb save (ramLen (m .cartridge) (m .mapper))) _ (c .1) in
+    let a = both-true (eqb rom (romLen (m .core .cartridge))) _ (passes _ 4 (omega arith) e) in
+    let b = both-true (eqb vram (vramLen (m .core .banks .colour))) _ (a .1) in
+    let c = both-true (eqb wram (wramLen (m .core .banks .colour))) _ (b .1) in
+    let d = both-true (eqb save (ramLen (m .core .cartridge) (m .core .mapper))) _ (c .1) in
     (eqb-true rom _ (a .0), eqb-true vram _ (b .0), eqb-true wram _ (c .0), eqb-true save _ (d .0), eqb-true sound 48 (d .1))
 
 module _ (rom sound : List ℕ) (m : Memory) (v w s : List ℕ) where
@@ -93,9 +93,9 @@ pub vram-passes : (m : Memory) (n i bank : ℕ) → vramLengthRefused m n ≡ 0 
     → ((0x8000 ≤ i) × (i < 0xA000)) × (bank * 0x2000 + 0x2000 ≤ n)
 unfolding vramLengthRefused vramRefused hasBank
 vram-passes m n i bank e f =
-    let p = both-sides (cond (eqb bank 0) true (cond (eqb bank 1) (m .banks .colour) false)) (leb 0x8000 i && ltb i 0xA000) f in
+    let p = both-sides (cond (eqb bank 0) true (cond (eqb bank 1) (m .core .banks .colour) false)) (leb 0x8000 i && ltb i 0xA000) f in
     let q = both-true (leb 0x8000 i) (ltb i 0xA000) (p .1) in
-    let l = eqb-true n (vramLen (m .banks .colour)) (passes _ 4 (omega arith) e) in (
+    let l = eqb-true n (vramLen (m .core .banks .colour)) (passes _ 4 (omega arith) e) in (
       (leb-true 0x8000 i (q .0), ltb-true i 0xA000 (q .1)),
-      omega (arith, l, bank-fits bank (m .banks .colour) (eqb bank 0) (eqb bank 1) refl refl (p .0)),
+      omega (arith, l, bank-fits bank (m .core .banks .colour) (eqb bank 0) (eqb bank 1) refl refl (p .0)),
     )

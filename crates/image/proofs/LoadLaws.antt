@@ -22,15 +22,15 @@ use Rattle.memory.specs.declared.Banks.{Banks}
 use Rattle.memory.specs.declared.Clock.{Clock}
 use Rattle.memory.specs.declared.Core.{Core}
 use Rattle.memory.specs.declared.Memory.{Memory}
-use Rattle.memory.specs.Ranges.{coreOf, coreInRange}
+use Rattle.memory.specs.Ranges.{coreInRange}
 use Rattle.memory.specs.Start.{zeroed}
 use Rattle.memory.proofs.Laws.{core-range}
 use Rattle.palette.specs.Palette.{colorsInRange}
 use Rattle.savelog.specs.Log.{logLimit}
 use Rattle.image.specs.Layout.{fieldWidths, widths}
-use Rattle.image.specs.Load.{bytesIn, colorsIn, fieldsIn, valuesOf, stateFrom, stateOf, colorsOf, banksOf, lcdOf, hdmaOf, joypadOf, clockOf, cartridgeOf, mapperOf, at, sound, storable, loaded, loadCall}
+use Rattle.image.specs.Load.{bytesIn, colorsIn, fieldsIn, valuesOf, stateFrom, stateOf, colorsOf, banksOf, lcdOf, hdmaOf, joypadOf, clockOf, cartridgeOf, mapperOf, coreFrom, at, sound, storable, loaded, loadCall}
 use Rattle.image.specs.declared.Loaded.{Loaded}
-use Rattle.image.specs.Words.{wordWidths, wordList, wordsIn, fieldsOf, coreFrom}
+use Rattle.image.specs.Words.{wordWidths, wordList, wordsIn, fieldsOf}
 use Rattle.image.proofs.ColorLaws.{below-colors}
 use Rattle.image.proofs.Parts.{fit-below, values-parts, repacked-length, repacked-fit}
 
@@ -143,27 +143,12 @@ made o p b s fs =
       page = p;
       background = b;
       sprites = s;
-      banks = banksOf fs;
-      lcd = lcdOf fs;
-      hdma = hdmaOf fs;
-      joypad = joypadOf fs;
-      clock = clockOf fs;
-      cartridge = cartridgeOf fs;
-      mapper = mapperOf fs;
-      used = at fs 28;
+      core = coreFrom fs;
     }
 
 pub made-same : {o o' p p' b b' s s' f f' : List ℕ} → o ≡ o' → p ≡ p' → b ≡ b' → s ≡ s' → f ≡ f'
     → made o p (colorsOf b) (colorsOf s) f ≡ made o' p' (colorsOf b') (colorsOf s') f'
 made-same e₁ e₂ e₃ e₄ e₅ = rw (e₁, e₂, e₃, e₄, e₅)
-
-pub all-same : {o o' p p' : List ℕ} {b b' s s' : List Color} {k k' : Banks} {l l' : Lcd} {h h' : Hdma} {j j' : Controller} {c c' : Clock}
-    {g g' : Cartridge} {m m' : Mapper} {u u' : ℕ}
-    → o ≡ o' → p ≡ p' → b ≡ b' → s ≡ s' → k ≡ k' → l ≡ l' → h ≡ h' → j ≡ j' → c ≡ c' → g ≡ g' → m ≡ m' → u ≡ u'
-    → _≡_ {A = Memory}
-    (record { oam = o; page = p; background = b; sprites = s; banks = k; lcd = l; hdma = h; joypad = j; clock = c; cartridge = g; mapper = m; used = u })
-    (record { oam = o'; page = p'; background = b'; sprites = s'; banks = k'; lcd = l'; hdma = h'; joypad = j'; clock = c'; cartridge = g'; mapper = m'; used = u' })
-all-same e₁ e₂ e₃ e₄ e₅ e₆ e₇ e₈ e₉ e₁₀ e₁₁ e₁₂ = rw (e₁, e₂, e₃, e₄, e₅, e₆, e₇, e₈, e₉, e₁₀, e₁₁, e₁₂)
 
 pub core-same : {k k' : Banks} {l l' : Lcd} {h h' : Hdma} {j j' : Controller} {c c' : Clock} {g g' : Cartridge} {m m' : Mapper} {u u' : ℕ}
     → k ≡ k' → l ≡ l' → h ≡ h' → j ≡ j' → c ≡ c' → g ≡ g' → m ≡ m' → u ≡ u'
@@ -171,6 +156,11 @@ pub core-same : {k k' : Banks} {l l' : Lcd} {h h' : Hdma} {j j' : Controller} {c
     (record { banks = k; lcd = l; hdma = h; joypad = j; clock = c; cartridge = g; mapper = m; used = u })
     (record { banks = k'; lcd = l'; hdma = h'; joypad = j'; clock = c'; cartridge = g'; mapper = m'; used = u' })
 core-same e₁ e₂ e₃ e₄ e₅ e₆ e₇ e₈ = rw (e₁, e₂, e₃, e₄, e₅, e₆, e₇, e₈)
+
+pub all-same : {o o' p p' : List ℕ} {b b' s s' : List Color} {c c' : Core} → o ≡ o' → p ≡ p' → b ≡ b' → s ≡ s' → c ≡ c'
+    → _≡_ {A = Memory} (record { oam = o; page = p; background = b; sprites = s; core = c })
+    (record { oam = o'; page = p'; background = b'; sprites = s'; core = c' })
+all-same e₁ e₂ e₃ e₄ e₅ = rw (e₁, e₂, e₃, e₄, e₅)
 
 module _ (l : List ℕ) (size : length l ≡ 665) (below : Below 256 l) where
   pub state-read : stateOf l
@@ -186,8 +176,8 @@ module _ (l : List ℕ) (size : length l ≡ 665) (below : Below 256 l) where
       let s : drop 96 (colorsIn vs) ≡ repacked (eights 60) (fives 96) (take 60 (drop 572 l)) = ap (drop 96) (colors-in l size below) ∙ second-colors l size below in
       made-same o p b s (fields-in l size below)
 
-  pub state-core : coreOf (stateOf l) ≡ coreFrom (fieldsOf (wordsIn l))
-  state-core = ap coreOf state-read
+  pub state-core : stateOf l .core ≡ coreFrom (fieldsOf (wordsIn l))
+  state-core = ap (λ (m : Memory). m .core) state-read
 
   -- no colour of an image is out of range
   five-bits : (bytes : List ℕ) → colorsInRange (colorsOf (repacked (eights 60) (fives 96) bytes)) ≡ true

@@ -12,7 +12,7 @@ use Rattle.numbers.specs.Numbers.{done, outOfRange, wrongLength}
 use Rattle.packing.specs.Packing.{Below}
 use Rattle.savelog.specs.Log.{logLimit}
 use Rattle.memory.specs.declared.Memory.{Memory}
-use Rattle.memory.specs.Ranges.{inRange, coreOf}
+use Rattle.memory.specs.Ranges.{inRange}
 use Rattle.memory.specs.Start.{zeroed}
 use Rattle.image.specs.Layout.{imageOf}
 use Rattle.image.specs.Load.{storable, sound, fieldsIn, valuesOf, stateOf, loaded, loadCall, openCall}
@@ -74,6 +74,6 @@ module _ (l : List ℕ) {o : Opened} (e : o ≡ openCall l) where
   unfolding openCall
   open-number = ap (λ (a : Opened). a .number) e
 
-  pub open-core : o .core ≡ coreOf (loadCall l .state)
+  pub open-core : o .core ≡ loadCall l .state .core
   unfolding openCall
   open-core = ap (λ (a : Opened). a .core) e

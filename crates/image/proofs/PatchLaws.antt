@@ -16,7 +16,7 @@ use Rattle.joypad.specs.declared.Controller.{Controller}
 use Rattle.memory.specs.declared.Clock.{Clock}
 use Rattle.memory.specs.declared.Memory.{Memory}
 use Rattle.memory.specs.World.{withOam, withPage, withJoypad, withClock, withMapper, withUsed}
-use Rattle.memory.specs.Ranges.{stateInRange, inRange}
+use Rattle.memory.specs.Ranges.{palettesInRange, stateInRange, inRange}
 use Rattle.image.specs.Layout.{fieldWidths, bit, complement, kindOf, log2, ramBank, modeBit, enabledBit, highBits, channels, fieldValues, imageOf}
 use Rattle.image.specs.Load.{storable}
 use Rattle.image.specs.Laws.{Typed}
@@ -114,7 +114,7 @@ module _ (m : Memory) (t : Typed m) (h : storable m ≡ true) where
 
 -- Mapper and log use
 
-pub slim : (m : Memory) → storable m ≡ true → Slim (m .mapper)
+pub slim : (m : Memory) → storable m ≡ true → Slim (m .core .mapper)
 slim m h = let n = narrow m h in record { rom = n .rom; ram = n .ram; high = n .high }
 
 fifth-put : (w : Words) (n : ℕ)
@@ -135,9 +135,9 @@ module _ (m : Memory) (t : Typed m) (h : storable m ≡ true) where
   remapped-fifth p u =
       let f = fields-fit m t h in
       let e = unpack-pack widths5
-      (complement (m .lcd .window) % top ∷ kindOf (m .mapper) ∷ log2 (m .cartridge .banks) ∷ m .cartridge .code ∷ mbc.romBank (m .mapper) ∷ ramBank (m .mapper) ∷
-      modeBit (m .mapper) ∷ enabledBit (m .mapper) ∷ highBits (m .mapper) ∷ m .used ∷ 0 ∷ []) (omega (arith, f)) in
-      remapped-by (fifth m) (complement (m .lcd .window) % top) (log2 (m .cartridge .banks)) (m .cartridge .code)
+      (complement (m .core .lcd .window) % top ∷ kindOf (m .core .mapper) ∷ log2 (m .core .cartridge .banks) ∷ m .core .cartridge .code ∷ mbc.romBank (m .core .mapper) ∷ ramBank (m .core .mapper) ∷
+      modeBit (m .core .mapper) ∷ enabledBit (m .core .mapper) ∷ highBits (m .core .mapper) ∷ m .core .used ∷ 0 ∷ []) (omega (arith, f)) in
+      remapped-by (fifth m) (complement (m .core .lcd .window) % top) (log2 (m .core .cartridge .banks)) (m .core .cartridge .code)
       (ap (λ (l : List ℕ). getD l 0 0) e) (ap (λ (l : List ℕ). getD l 2 0) e) (ap (λ (l : List ℕ). getD l 3 0) e) p u
 
   pub mapping-image : (p : Mapper) (u : ℕ) → storable (withUsed (withMapper m p) u) ≡ true
@@ -147,7 +147,7 @@ module _ (m : Memory) (t : Typed m) (h : storable m ≡ true) where
       let m' = withUsed (withMapper m p) u in
       ap (λ (n : ℕ). withNumber (imageOf m) 657 (remapped n p u)) fifth-read
       ∙ ap (withNumber (imageOf m) 657) (remapped-fifth p u)
-      ∙ number-put m t h m' (typed-with m t (m .oam) (m .page) (m .joypad) (m .clock) p u (t .oam) (t .page) (t .released) (t .state) (t .div)) k refl 25 (fifth m') (fifth-put (wordsOf m) (fifth m'))
+      ∙ number-put m t h m' (typed-with m t (m .oam) (m .page) (m .core .joypad) (m .core .clock) p u (t .oam) (t .page) (t .released) (t .state) (t .div)) k refl 25 (fifth m') (fifth-put (wordsOf m) (fifth m'))
 
 -- The timer's two numbers
 
@@ -171,8 +171,8 @@ module _ (m : Memory) (t : Typed m) (h : storable m ≡ true) where
   reclocked-second : (c : Clock) → reclocked (second m) c ≡ second (withClock m c (m .page))
   reclocked-second c =
       let s = t .source in
-      reclocked-by (bit (m .joypad .direction) ∷ m .joypad .state ∷ m .joypad .released ∷ m .lcd .line ∷ m .lcd .signal ∷ m .lcd .mode ∷ [])
-      (m .clock .div) (m .clock .tima) (m .hdma .source / 2048) c refl (t .div) (narrow m h .tima) (omega arith)
+      reclocked-by (bit (m .core .joypad .direction) ∷ m .core .joypad .state ∷ m .core .joypad .released ∷ m .core .lcd .line ∷ m .core .lcd .signal ∷ m .core .lcd .mode ∷ [])
+      (m .core .clock .div) (m .core .clock .tima) (m .core .hdma .source / 2048) c refl (t .div) (narrow m h .tima) (omega arith)
 
   pub clock-image : (c : Clock) → c .div < 256 → storable (withClock m c (m .page)) ≡ true → clockPut (imageOf m) c ≡ imageOf (withClock m c (m .page))
   unfolding clockPut wordsOf front colours
@@ -180,7 +180,7 @@ module _ (m : Memory) (t : Typed m) (h : storable m ≡ true) where
       let m' = withClock m c (m .page) in
       ap (λ (n : ℕ). withNumber (imageOf m) 633 (reclocked n c)) second-read
       ∙ ap (withNumber (imageOf m) 633) (reclocked-second c)
-      ∙ number-put m t h m' (typed-with m t (m .oam) (m .page) (m .joypad) c (m .mapper) (m .used) (t .oam) (t .page) (t .released) (t .state) d) k refl 1 (second m') (second-put (wordsOf m) (second m'))
+      ∙ number-put m t h m' (typed-with m t (m .oam) (m .page) (m .core .joypad) c (m .core .mapper) (m .core .used) (t .oam) (t .page) (t .released) (t .state) d) k refl 1 (second m') (second-put (wordsOf m) (second m'))
 
 -- A byte of OAM or page: the first 512 bytes are these
 
@@ -195,10 +195,10 @@ pub bytes-set : (l : List ℕ) (i v : ℕ) → Bytes l → v < 256 → Bytes (se
 bytes-set l i v h b = (simp length-set (h .0), below-set 256 l i v (h .1) b)
 
 pub typed-bytes : (m : Memory) → Typed m → (o p : List ℕ) → Bytes o → Bytes p → Typed (withPage (withOam m o) p)
-typed-bytes m t o p ho hp = typed-with m t o p (m .joypad) (m .clock) (m .mapper) (m .used) ho hp (t .released) (t .state) (t .div)
+typed-bytes m t o p ho hp = typed-with m t o p (m .core .joypad) (m .core .clock) (m .core .mapper) (m .core .used) ho hp (t .released) (t .state) (t .div)
 
 pub storable-bytes : (m : Memory) (o p : List ℕ) → storable (withPage (withOam m o) p) ≡ storable m
-unfolding storable inRange stateInRange
+unfolding storable inRange stateInRange palettesInRange
 storable-bytes m o p = refl
 
 module _ (m : Memory) (t : Typed m) (h : storable m ≡ true) (i v : ℕ) (hi : i < 256) (hv : v < 256) where

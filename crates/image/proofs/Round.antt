@@ -35,7 +35,7 @@ use Rattle.image.proofs.ColorLaws.{channels-length, colors-channels, ch
 use Rattle.image.proofs.Parts.{fit-append, fit-below, repacked-length, repacked-fit, repacked-back}
 use Rattle.image.proofs.FieldLaws.{joined}
 use Rattle.image.proofs.StateLaws.{storable-state, fields-fit, bytes-fit, background-fit, sprites-fit}
-use Rattle.image.proofs.LoadLaws.{made, made-same, all-same, fields-drop}
+use Rattle.image.proofs.LoadLaws.{made, made-same, all-same, core-same, fields-drop}
 
 -- Single fields, both ways
 
@@ -187,29 +187,29 @@ module _ (m : Memory) (t : Typed m) (h : storable m ≡ true) where
       (ap (take 96) colors-of-values ∙ take-at b s 96 background-long)
       (ap (drop 96) colors-of-values ∙ drop-at b s 96 background-long)
       fields-of-values
-      ∙ all-same refl refl (colors-channels (m .background)) (colors-channels (m .sprites)) banks lcd hdma joypad refl cartridge mapper refl
+      ∙ all-same refl refl (colors-channels (m .background)) (colors-channels (m .sprites)) (core-same banks lcd hdma joypad refl cartridge mapper refl)
     where
-      banks : banksOf (fieldValues m) ≡ m .banks
-      banks = rw (bit-back (m .banks .colour))
+      banks : banksOf (fieldValues m) ≡ m .core .banks
+      banks = rw (bit-back (m .core .banks .colour))
 
-      lcd : lcdOf (fieldValues m) ≡ m .lcd
-      lcd = rw (bit-back (m .lcd .disabled), toZ-ofZ (t .delay), toZ-ofZ (t .counter), toZ-ofZ (t .aux), toZ-ofZ (t .window))
+      lcd : lcdOf (fieldValues m) ≡ m .core .lcd
+      lcd = rw (bit-back (m .core .lcd .disabled), toZ-ofZ (t .delay), toZ-ofZ (t .counter), toZ-ofZ (t .aux), toZ-ofZ (t .window))
 
-      hdma : hdmaOf (fieldValues m) ≡ m .hdma
-      hdma = rw (bit-back (m .hdma .on))
+      hdma : hdmaOf (fieldValues m) ≡ m .core .hdma
+      hdma = rw (bit-back (m .core .hdma .on))
 
-      joypad : joypadOf (fieldValues m) ≡ m .joypad
-      joypad = rw (bit-back (m .joypad .action), bit-back (m .joypad .direction))
+      joypad : joypadOf (fieldValues m) ≡ m .core .joypad
+      joypad = rw (bit-back (m .core .joypad .action), bit-back (m .core .joypad .direction))
 
-      cartridge : cartridgeOf (fieldValues m) ≡ m .cartridge
-      cartridge = rw (banks-back (m .cartridge) (m .mapper) (range-parts m (storable-state m h) .mapper))
+      cartridge : cartridgeOf (fieldValues m) ≡ m .core .cartridge
+      cartridge = rw (banks-back (m .core .cartridge) (m .core .mapper) (range-parts m (storable-state m h) .mapper))
 
-      mapper : mapperOf (fieldValues m) ≡ m .mapper
-      mapper = mapper-back (m .mapper)
+      mapper : mapperOf (fieldValues m) ≡ m .core .mapper
+      mapper = mapper-back (m .core .mapper)
 
   sound-values : sound (fieldsIn (values m)) ≡ true
   unfolding sound
-  sound-values = ap sound fields-of-values ∙ rw (mapper-starts (m .mapper))
+  sound-values = ap sound fields-of-values ∙ rw (mapper-starts (m .core .mapper))
 
   state-loaded : loadCall (imageOf m) ≡ loaded done m
   unfolding imageOf

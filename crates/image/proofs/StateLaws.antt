@@ -36,13 +36,13 @@ use Rattle.image.proofs.Parts.{fit-append, bytes-parts}
 
 pub storable-state : (m : Memory) → storable m ≡ true → stateInRange m ≡ true
 unfolding storable inRange
-storable-state m h = both-true (stateInRange m) (useInRange (m .used) logLimit) h .0
+storable-state m h = both-true (stateInRange m) (useInRange (m .core .used) logLimit) h .0
 
-pub storable-use : (m : Memory) → storable m ≡ true → m .used ≤ 65535
+pub storable-use : (m : Memory) → storable m ≡ true → m .core .used ≤ 65535
 unfolding storable inRange useInRange
 storable-use m h =
-    let u = both-true (stateInRange m) (useInRange (m .used) logLimit) h .1 in
-    leb-true (m .used) logLimit (both-true (eqb (m .used % 3) 0) _ u .1)
+    let u = both-true (stateInRange m) (useInRange (m .core .used) logLimit) h .1 in
+    leb-true (m .core .used) logLimit (both-true (eqb (m .core .used % 3) 0) _ u .1)
 
 abbrev AllBelow : ℕ → List ℕ → Type 0
 AllBelow k [] = 0 < 1
@@ -95,8 +95,8 @@ cartridge-lt c m h =
 pub narrow : (m : Memory) → storable m ≡ true → Narrow m
 narrow m h =
     let p = range-parts m (storable-state m h) in
-    let b = wram-lt (m .banks) (p .banks) in
-    let c = cartridge-lt (m .cartridge) (m .mapper) (p .mapper) in
+    let b = wram-lt (m .core .banks) (p .banks) in
+    let c = cartridge-lt (m .core .cartridge) (m .core .mapper) (p .mapper) in
     let t = p .clock in
     record { vram = b .0; wram = b .1; tima = omega arith; code = c .0; rom = c .1 .0; ram = c .1 .1 .0; high = c .1 .1 .1 }
 
@@ -108,19 +108,19 @@ fields-fit m t h =
     let c = fits-ofZ {w = w32} (t .counter) in
     let a = fits-ofZ {w = w32} (t .aux) in
     let w = fits-ofZ {w = w32} (t .window) in (
-      bit-lt (m .banks .colour),
+      bit-lt (m .core .banks .colour),
       (
-        bit-lt (m .lcd .disabled),
+        bit-lt (m .core .lcd .disabled),
         (
-          bit-lt (m .hdma .on),
+          bit-lt (m .core .hdma .on),
           (
             n .vram,
             (
               n .wram,
               (
-                bit-lt (m .joypad .action),
+                bit-lt (m .core .joypad .action),
                 (
-                  bit-lt (m .joypad .direction),
+                  bit-lt (m .core .joypad .direction),
                   (
                     t .state,
                     (
@@ -147,7 +147,7 @@ fields-fit m t h =
                                           a .fits,
                                           (
                                             w .fits,
-                                            (kind-lt (m .mapper), (log2-lt (m .cartridge .banks), (n .code, (n .rom, (n .ram, (mode-lt (m .mapper), (enabled-lt (m .mapper), (n .high, (omega arith, (omega arith, omega arith)))))))))),
+                                            (kind-lt (m .core .mapper), (log2-lt (m .core .cartridge .banks), (n .code, (n .rom, (n .ram, (mode-lt (m .core .mapper), (enabled-lt (m .core .mapper), (n .high, (omega arith, (omega arith, omega arith)))))))))),
                                           ),
                                         ),
                                       ),
@@ -185,18 +185,18 @@ whole h k w ps bs cs ds es la lb lc ld =
 fields-number : (m : Memory) → packed fieldWidths (fieldValues m) ≡ packed wordWidths (wordList (wordsOf m))
 unfolding wordsOf
 fields-number m =
-    let d = complement (m .lcd .delay) in
-    let k = complement (m .lcd .counter) in
-    let a = complement (m .lcd .aux) in
-    let w = complement (m .lcd .window) in
-    let h = m .hdma .source in
+    let d = complement (m .core .lcd .delay) in
+    let k = complement (m .core .lcd .counter) in
+    let a = complement (m .core .lcd .aux) in
+    let w = complement (m .core .lcd .window) in
+    let h = m .core .hdma .source in
     whole h k w
-    (bit (m .banks .colour) ∷ bit (m .lcd .disabled) ∷ bit (m .hdma .on) ∷ m .banks .vram ∷ m .banks .wram ∷ bit (m .joypad .action) ∷ [])
-    (bit (m .joypad .direction) ∷ m .joypad .state ∷ m .joypad .released ∷ m .lcd .line ∷ m .lcd .signal ∷ m .lcd .mode ∷ m .clock .div ∷ m .clock .tima ∷ [])
-    (m .hdma .destination ∷ d ∷ [])
+    (bit (m .core .banks .colour) ∷ bit (m .core .lcd .disabled) ∷ bit (m .core .hdma .on) ∷ m .core .banks .vram ∷ m .core .banks .wram ∷ bit (m .core .joypad .action) ∷ [])
+    (bit (m .core .joypad .direction) ∷ m .core .joypad .state ∷ m .core .joypad .released ∷ m .core .lcd .line ∷ m .core .lcd .signal ∷ m .core .lcd .mode ∷ m .core .clock .div ∷ m .core .clock .tima ∷ [])
+    (m .core .hdma .destination ∷ d ∷ [])
     (a ∷ [])
-    (kindOf (m .mapper) ∷ log2 (m .cartridge .banks) ∷ m .cartridge .code ∷ mbc.romBank (m .mapper) ∷ ramBank (m .mapper) ∷ modeBit (m .mapper) ∷
-    enabledBit (m .mapper) ∷ highBits (m .mapper) ∷ m .used ∷ 0 ∷ [])
+    (kindOf (m .core .mapper) ∷ log2 (m .core .cartridge .banks) ∷ m .core .cartridge .code ∷ mbc.romBank (m .core .mapper) ∷ ramBank (m .core .mapper) ∷ modeBit (m .core .mapper) ∷
+    enabledBit (m .core .mapper) ∷ highBits (m .core .mapper) ∷ m .core .used ∷ 0 ∷ [])
     refl refl refl refl
 
 pub words-sized : (m : Memory) → Fit fieldWidths (fieldValues m) → Sized (wordsOf m)
@@ -204,16 +204,16 @@ unfolding wordsOf
 words-sized m h =
     record {
       first =
-          packed-lt widths1 (bit (m .banks .colour) ∷ bit (m .lcd .disabled) ∷ bit (m .hdma .on) ∷ m .banks .vram ∷ m .banks .wram ∷ bit (m .joypad .action) ∷ []) (omega (arith, h));
+          packed-lt widths1 (bit (m .core .banks .colour) ∷ bit (m .core .lcd .disabled) ∷ bit (m .core .hdma .on) ∷ m .core .banks .vram ∷ m .core .banks .wram ∷ bit (m .core .joypad .action) ∷ []) (omega (arith, h));
       second =
-          packed-lt widths2 (bit (m .joypad .direction) ∷ m .joypad .state ∷ m .joypad .released ∷ m .lcd .line ∷ m .lcd .signal ∷ m .lcd .mode ∷ m .clock .div ∷ m .clock .tima ∷ (m .hdma .source / 2048) ∷ []) (omega (arith, h));
+          packed-lt widths2 (bit (m .core .joypad .direction) ∷ m .core .joypad .state ∷ m .core .joypad .released ∷ m .core .lcd .line ∷ m .core .lcd .signal ∷ m .core .lcd .mode ∷ m .core .clock .div ∷ m .core .clock .tima ∷ (m .core .hdma .source / 2048) ∷ []) (omega (arith, h));
       third =
-          packed-lt widths3 ((m .hdma .source % 2048) ∷ m .hdma .destination ∷ complement (m .lcd .delay) ∷ (complement (m .lcd .counter) / top) ∷ []) (omega (arith, h));
+          packed-lt widths3 ((m .core .hdma .source % 2048) ∷ m .core .hdma .destination ∷ complement (m .core .lcd .delay) ∷ (complement (m .core .lcd .counter) / top) ∷ []) (omega (arith, h));
       fourth =
-          packed-lt widths4 ((complement (m .lcd .counter) % top) ∷ complement (m .lcd .aux) ∷ (complement (m .lcd .window) / top) ∷ []) (omega (arith, h));
+          packed-lt widths4 ((complement (m .core .lcd .counter) % top) ∷ complement (m .core .lcd .aux) ∷ (complement (m .core .lcd .window) / top) ∷ []) (omega (arith, h));
       fifth =
-          packed-lt widths5 ((complement (m .lcd .window) % top) ∷ kindOf (m .mapper) ∷ log2 (m .cartridge .banks) ∷ m .cartridge .code ∷ mbc.romBank (m .mapper) ∷ ramBank (m .mapper) ∷
-          modeBit (m .mapper) ∷ enabledBit (m .mapper) ∷ highBits (m .mapper) ∷ m .used ∷ 0 ∷ []) (omega (arith, h));
+          packed-lt widths5 ((complement (m .core .lcd .window) % top) ∷ kindOf (m .core .mapper) ∷ log2 (m .core .cartridge .banks) ∷ m .core .cartridge .code ∷ mbc.romBank (m .core .mapper) ∷ ramBank (m .core .mapper) ∷
+          modeBit (m .core .mapper) ∷ enabledBit (m .core .mapper) ∷ highBits (m .core .mapper) ∷ m .core .used ∷ 0 ∷ []) (omega (arith, h));
     }
 
 pub field-bytes : (m : Memory) → Fit fieldWidths (fieldValues m)

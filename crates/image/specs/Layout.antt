@@ -88,13 +88,13 @@ highBits (Mbc2 m) = 0
 
 abbrev pub fieldValues : Memory → List ℕ
 fieldValues m =
-    bit (m .banks .colour) ∷ bit (m .lcd .disabled) ∷ bit (m .hdma .on) ∷ m .banks .vram ∷ m .banks .wram ∷ bit (m .joypad .action) ∷
-    bit (m .joypad .direction) ∷ m .joypad .state ∷ m .joypad .released ∷ m .lcd .line ∷ m .lcd .signal ∷ m .lcd .mode ∷ m .clock .div ∷ m .clock .tima ∷
-    m .hdma .source ∷ m .hdma .destination ∷
-    complement (m .lcd .delay) ∷ complement (m .lcd .counter) ∷ complement (m .lcd .aux) ∷ complement (m .lcd .window) ∷
-    kindOf (m .mapper) ∷ log2 (m .cartridge .banks) ∷ m .cartridge .code ∷ romBank (m .mapper) ∷ ramBank (m .mapper) ∷ modeBit (m .mapper) ∷
-    enabledBit (m .mapper) ∷ highBits (m .mapper) ∷
-    m .used ∷ 0 ∷ []
+    bit (m .core .banks .colour) ∷ bit (m .core .lcd .disabled) ∷ bit (m .core .hdma .on) ∷ m .core .banks .vram ∷ m .core .banks .wram ∷ bit (m .core .joypad .action) ∷
+    bit (m .core .joypad .direction) ∷ m .core .joypad .state ∷ m .core .joypad .released ∷ m .core .lcd .line ∷ m .core .lcd .signal ∷ m .core .lcd .mode ∷ m .core .clock .div ∷ m .core .clock .tima ∷
+    m .core .hdma .source ∷ m .core .hdma .destination ∷
+    complement (m .core .lcd .delay) ∷ complement (m .core .lcd .counter) ∷ complement (m .core .lcd .aux) ∷ complement (m .core .lcd .window) ∷
+    kindOf (m .core .mapper) ∷ log2 (m .core .cartridge .banks) ∷ m .core .cartridge .code ∷ romBank (m .core .mapper) ∷ ramBank (m .core .mapper) ∷ modeBit (m .core .mapper) ∷
+    enabledBit (m .core .mapper) ∷ highBits (m .core .mapper) ∷
+    m .core .used ∷ 0 ∷ []
 
 unfoldable pub values : Memory → List ℕ
 values m = (m .oam ++ m .page) ++ ((channels (m .background) ++ channels (m .sprites)) ++ fieldValues m)

@@ -20,8 +20,9 @@ use Rattle.mbc.specs.declared.mbc.Mapper.the-variants.{RomOnly, Mbc1, Mbc2}
 use Rattle.savelog.specs.Log.{logLimit}
 use Rattle.memory.specs.declared.Banks.{Banks}
 use Rattle.memory.specs.declared.Clock.{Clock}
+use Rattle.memory.specs.declared.Core.{Core}
 use Rattle.memory.specs.declared.Memory.{Memory}
-use Rattle.memory.specs.Ranges.{inRange, coreOf}
+use Rattle.memory.specs.Ranges.{inRange}
 use Rattle.memory.specs.Start.{zeroed}
 use Rattle.image.specs.Layout.{imageLen, widths, imageOf}
 use Rattle.image.specs.declared.Loaded.{Loaded}
@@ -98,13 +99,10 @@ mapperOf fs =
     (cond (eqb (at fs 20) 1) (Mbc1 (record { rom = at fs 23; ram = at fs 24; mode = isOn fs 25; enabled = isOn fs 26; high = at fs 27 }))
     (Mbc2 (record { rom = at fs 23; enabled = isOn fs 26 })))
 
-abbrev pub stateFrom : List ℕ → List ℕ → List ℕ → Memory
-stateFrom bytes colors fs =
+-- all but the arrays
+abbrev pub coreFrom : List ℕ → Core
+coreFrom fs =
     record {
-      oam = take 256 bytes;
-      page = drop 256 bytes;
-      background = colorsOf (take 96 colors);
-      sprites = colorsOf (drop 96 colors);
       banks = banksOf fs;
       lcd = lcdOf fs;
       hdma = hdmaOf fs;
@@ -113,6 +111,16 @@ stateFrom bytes colors fs =
       cartridge = cartridgeOf fs;
       mapper = mapperOf fs;
       used = at fs 28;
+    }
+
+abbrev pub stateFrom : List ℕ → List ℕ → List ℕ → Memory
+stateFrom bytes colors fs =
+    record {
+      oam = take 256 bytes;
+      page = drop 256 bytes;
+      background = colorsOf (take 96 colors);
+      sprites = colorsOf (drop 96 colors);
+      core = coreFrom fs;
     }
 
 -- What is refused beside the state ranges: a field that the mapper lacks and that does not hold its starting value, mapper 3, a last bit 1
@@ -161,7 +169,7 @@ loadCall l =
 
 -- a load without the state's arrays: its number, and the rest of the state that it gives
 abbrev pub openedOf : Loaded → Opened
-openedOf r = record { number = r .number; core = coreOf (r .state) }
+openedOf r = record { number = r .number; core = r .state .core }
 
 unfoldable pub openCall : List ℕ → Opened
 openCall l = openedOf (loadCall l)

@@ -6,10 +6,8 @@ use lib.ListN.{getD, take, drop}
 use Rattle.packing.specs.Packing.{packed, unpacked, repacked, eights}
 use Rattle.mbc.specs.Mbc.{romBank}
 use Rattle.mbc.specs.declared.mbc.Mapper.{Mapper}
-use Rattle.memory.specs.declared.Core.{Core}
 use Rattle.memory.specs.declared.Memory.{Memory}
 use Rattle.image.specs.Layout.{fieldWidths, bit, complement, kindOf, log2, ramBank, modeBit, enabledBit, highBits}
-use Rattle.image.specs.Load.{banksOf, lcdOf, hdmaOf, joypadOf, clockOf, cartridgeOf, mapperOf, at}
 use Rattle.image.specs.declared.fields.Registers.{Registers}
 use Rattle.image.specs.declared.fields.Words.{Words}
 
@@ -38,20 +36,6 @@ wordList w = w .first ∷ w .second ∷ w .third ∷ w .fourth ∷ w .fifth ∷ 
 -- the fields that the numbers hold
 unfoldable pub fieldsOf : Words → List ℕ
 fieldsOf w = repacked wordWidths fieldWidths (wordList w)
-
--- the state without its arrays, from the fields
-abbrev pub coreFrom : List ℕ → Core
-coreFrom fs =
-    record {
-      banks = banksOf fs;
-      lcd = lcdOf fs;
-      hdma = hdmaOf fs;
-      joypad = joypadOf fs;
-      clock = clockOf fs;
-      cartridge = cartridgeOf fs;
-      mapper = mapperOf fs;
-      used = at fs 28;
-    }
 
 -- the bytes that they make
 abbrev pub wordBytes : Words → List ℕ
@@ -88,13 +72,13 @@ registersIn n =
 
 -- what the numbers ask of a state so that each field is within its width
 pub record Narrow (m : Memory) : Type 0 where
-  pub vram : m .banks .vram < 2
-  pub wram : m .banks .wram < 8
-  pub tima : m .clock .tima < 1024
-  pub code : m .cartridge .code < 4
-  pub rom : romBank (m .mapper) < 128
-  pub ram : ramBank (m .mapper) < 4
-  pub high : highBits (m .mapper) < 4
+  pub vram : m .core .banks .vram < 2
+  pub wram : m .core .banks .wram < 8
+  pub tima : m .core .clock .tima < 1024
+  pub code : m .core .cartridge .code < 4
+  pub rom : romBank (m .core .mapper) < 128
+  pub ram : ramBank (m .core .mapper) < 4
+  pub high : highBits (m .core .mapper) < 4
 
 -- 2 ^ 27
 abbrev pub top : ℕ
@@ -104,25 +88,25 @@ top = 0x8000000
 abbrev pub first : Memory → ℕ
 first m =
     packed widths1
-    (bit (m .banks .colour) ∷ bit (m .lcd .disabled) ∷ bit (m .hdma .on) ∷ m .banks .vram ∷ m .banks .wram ∷ bit (m .joypad .action) ∷ [])
+    (bit (m .core .banks .colour) ∷ bit (m .core .lcd .disabled) ∷ bit (m .core .hdma .on) ∷ m .core .banks .vram ∷ m .core .banks .wram ∷ bit (m .core .joypad .action) ∷ [])
 
 abbrev pub second : Memory → ℕ
 second m =
     packed widths2
-    (bit (m .joypad .direction) ∷ m .joypad .state ∷ m .joypad .released ∷ m .lcd .line ∷ m .lcd .signal ∷ m .lcd .mode ∷ m .clock .div ∷ m .clock .tima ∷
-    m .hdma .source / 2048 ∷ [])
+    (bit (m .core .joypad .direction) ∷ m .core .joypad .state ∷ m .core .joypad .released ∷ m .core .lcd .line ∷ m .core .lcd .signal ∷ m .core .lcd .mode ∷ m .core .clock .div ∷ m .core .clock .tima ∷
+    m .core .hdma .source / 2048 ∷ [])
 
 abbrev pub third : Memory → ℕ
-third m = packed widths3 (m .hdma .source % 2048 ∷ m .hdma .destination ∷ complement (m .lcd .delay) ∷ complement (m .lcd .counter) / top ∷ [])
+third m = packed widths3 (m .core .hdma .source % 2048 ∷ m .core .hdma .destination ∷ complement (m .core .lcd .delay) ∷ complement (m .core .lcd .counter) / top ∷ [])
 
 abbrev pub fourth : Memory → ℕ
-fourth m = packed widths4 (complement (m .lcd .counter) % top ∷ complement (m .lcd .aux) ∷ complement (m .lcd .window) / top ∷ [])
+fourth m = packed widths4 (complement (m .core .lcd .counter) % top ∷ complement (m .core .lcd .aux) ∷ complement (m .core .lcd .window) / top ∷ [])
 
 abbrev pub fifth : Memory → ℕ
 fifth m =
     packed widths5
-    (complement (m .lcd .window) % top ∷ kindOf (m .mapper) ∷ log2 (m .cartridge .banks) ∷ m .cartridge .code ∷ romBank (m .mapper) ∷ ramBank (m .mapper) ∷
-    modeBit (m .mapper) ∷ enabledBit (m .mapper) ∷ highBits (m .mapper) ∷ m .used ∷ 0 ∷ [])
+    (complement (m .core .lcd .window) % top ∷ kindOf (m .core .mapper) ∷ log2 (m .core .cartridge .banks) ∷ m .core .cartridge .code ∷ romBank (m .core .mapper) ∷ ramBank (m .core .mapper) ∷
+    modeBit (m .core .mapper) ∷ enabledBit (m .core .mapper) ∷ highBits (m .core .mapper) ∷ m .core .used ∷ 0 ∷ [])
 
 unfoldable pub wordsOf : Memory → Words
 wordsOf m = record { first = first m; second = second m; third = third m; fourth = fourth m; fifth = fifth m }

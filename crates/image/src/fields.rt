@@ -17,8 +17,8 @@ ghost use Prim.Native.Nat.{_/_, _%_, _<_, _^_};
 ghost use lib.ListN.{length};
 ghost use Rattle.packing.specs.Packing.{packed};
 ghost use Rattle.image.specs.Layout.{bit, log2};
-ghost use Rattle.image.specs.Load.{banksOf, lcdOf, hdmaOf, joypadOf, clockOf, cartridgeOf, mapperOf, at, sound, romOnlyStarts, startsAs};
-ghost use Rattle.image.specs.Words.{widths1, widths2, widths3, widths4, widths5, fieldsOf, coreFrom, wordBytes, wordsIn, registersOf, registersIn, Narrow, wordsOf, top};
+ghost use Rattle.image.specs.Load.{banksOf, lcdOf, hdmaOf, joypadOf, clockOf, cartridgeOf, mapperOf, coreFrom, at, sound, romOnlyStarts, startsAs};
+ghost use Rattle.image.specs.Words.{widths1, widths2, widths3, widths4, widths5, fieldsOf, wordBytes, wordsIn, registersOf, registersIn, Narrow, wordsOf, top};
 
 pub struct Words {
     pub first: u8,
@@ -159,13 +159,14 @@ pub fn words_of(memory: Memory) -> Words
     requires { ⌜ Narrow memory ⌝ }
     ensures { λ r. ⌜ r ≡ wordsOf memory ⌝ }
 {
-    let banks = memory.banks;
-    let lcd = memory.lcd;
-    let hdma = memory.hdma;
-    let joypad = memory.joypad;
-    let clock = memory.clock;
-    let cartridge = memory.cartridge;
-    let mapper = memory.mapper;
+    let core = memory.core;
+    let banks = core.banks;
+    let lcd = core.lcd;
+    let hdma = core.hdma;
+    let joypad = core.joypad;
+    let clock = core.clock;
+    let cartridge = core.cartridge;
+    let mapper = core.mapper;
     let counter = packing::complement_of(lcd.counter);
     let window = packing::complement_of(lcd.window);
     Words {
@@ -185,7 +186,7 @@ pub fn words_of(memory: Memory) -> Words
             log2_of(cartridge.banks),
             cartridge.code,
             registers_of(mapper),
-            memory.used,
+            core.used,
         ),
     }
 }

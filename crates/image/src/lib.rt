@@ -7,7 +7,6 @@ ghost use lib.ListN.{length};
 ghost use Rattle.image.specs.Layout.{imageOf};
 ghost use Rattle.image.specs.Load.{storable, stored, storeCall, loaded, stateOf, loadCall, openedOf, openCall};
 ghost use Rattle.image.specs.Laws.{Typed, StateBack, ImageBack, ImageTyped};
-ghost use Rattle.memory.specs.Ranges.{coreOf};
 ghost use Rattle.memory.specs.Start.{zeroed};
 
 mod colors;
@@ -81,7 +80,8 @@ pub fn encode(memory: Memory, image: &mut [u8]) -> u8
 fn closed(number: u8) -> Opened
     ensures { λ r. ⌜ r ≡ openedOf (loaded number zeroed) ⌝ }
 {
-    let core = memory::core_of(memory::zero());
+    let zero = memory::zero();
+    let core = zero.core;
     Opened {
         number: number,
         core: core,
@@ -112,33 +112,19 @@ pub fn open(image: &[u8]) -> Opened
 
 // The state that an image's bytes hold.
 fn state_of(image: &[u8], core: Core) -> Memory
-    requires { ⌜ (length (now image) ≡ 665) × (core ≡ coreOf (stateOf (now image))) ⌝ }
+    requires { ⌜ (length (now image) ≡ 665) × (core ≡ stateOf (now image) .core) ⌝ }
     ensures { λ r. ⌜ r ≡ stateOf (now (image .entry)) ⌝ }
 {
     let oam = packing::part(image, 0);
     let page = packing::part(image, 256);
     let background = colors::colors_at(&image[512..572]);
     let sprites = colors::colors_at(&image[572..632]);
-    let banks = core.banks;
-    let lcd = core.lcd;
-    let hdma = core.hdma;
-    let joypad = core.joypad;
-    let clock = core.clock;
-    let cartridge = core.cartridge;
-    let mapper = core.mapper;
     Memory {
         oam: oam,
         page: page,
         background: background,
         sprites: sprites,
-        banks: banks,
-        lcd: lcd,
-        hdma: hdma,
-        joypad: joypad,
-        clock: clock,
-        cartridge: cartridge,
-        mapper: mapper,
-        used: core.used,
+        core: core,
     }
 }
 

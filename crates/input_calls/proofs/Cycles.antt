@@ -19,5 +19,5 @@ cycles-pass c h = leb-true c 65536 (passes (leb c 65536) h)
     passes false h = absurd (omega arith)
 
 -- `tima_cycles` of a state in range
-pub tima-below : (m : Memory) → stateInRange m ≡ true → m .clock .tima < 1024
+pub tima-below : (m : Memory) → stateInRange m ≡ true → m .core .clock .tima < 1024
 tima-below m h = omega (arith, range-clock m h)

@@ -61,7 +61,7 @@ pub fn are_direction_keys_enabled(memory: Memory) -> Flag
 
 // The timer taken out, updated and put back.
 fn timer_updated(memory: Memory, cycles: u32) -> Memory
-    requires { ⌜ (memory .clock .tima < 1024) × (cycles ≤ 65536) ⌝ }
+    requires { ⌜ (memory .core .clock .tima < 1024) × (cycles ≤ 65536) ⌝ }
     ensures { λ r. ⌜ r ≡ withTimer memory (updated (timerOf memory) cycles) ⌝ }
 {
     let timer = registers::interrupts::timer_of(memory);
@@ -92,7 +92,7 @@ pub fn update_timer(memory: Memory, cycles: u32) -> Done
 pub fn press(memory: Memory, button: u8) -> Done
     ensures { λ r. ⌜ r ≡ pressCall memory button ⌝ }
 {
-    let controller = memory.joypad;
+    let controller = memory.core.joypad;
     let pressed = controller.press(button);
     let number = refusals::or_else(refusals::refused(memory), pressed.number);
     if number != 0 {
@@ -112,7 +112,7 @@ pub fn press(memory: Memory, button: u8) -> Done
 pub fn release(memory: Memory, button: u8) -> Done
     ensures { λ r. ⌜ r ≡ releaseCall memory button ⌝ }
 {
-    let controller = memory.joypad;
+    let controller = memory.core.joypad;
     let released = controller.release(button);
     let number = refusals::or_else(refusals::refused(memory), released.number);
     if number != 0 {

@@ -46,9 +46,9 @@ use-more used len room e =
 -- what a write leaves: a world that holds, of the same kind and cartridge, with a log use in range where it was
 pub record Stays (w u : World) : Type 0 where
   pub holds : Holds u
-  pub colour : u .state .banks .colour ≡ w .state .banks .colour
-  pub cartridge : u .state .cartridge ≡ w .state .cartridge
-  pub used : useInRange (w .state .used) (length (w .log)) ≡ true → useInRange (u .state .used) (length (u .log)) ≡ true
+  pub colour : u .state .core .banks .colour ≡ w .state .core .banks .colour
+  pub cartridge : u .state .core .cartridge ≡ w .state .core .cartridge
+  pub used : useInRange (w .state .core .used) (length (w .log)) ≡ true → useInRange (u .state .core .used) (length (u .log)) ≡ true
 
 pub stays-refl : (w : World) → Holds w → Stays w w
 stays-refl w h = record { holds = h; colour = refl; cartridge = refl; used = λ e. e }
@@ -85,7 +85,7 @@ module _ (w : World) (h : Holds w) where
           state = mapper-kept (w .state) (h .state) i v;
           vram = h .vram;
           wram = h .wram;
-          save = h .save ∙ sym (ram-len-after (w .state .cartridge) (w .state .mapper) i v);
+          save = h .save ∙ sym (ram-len-after (w .state .core .cartridge) (w .state .core .mapper) i v);
           log = h .log;
         };
         colour = refl;
@@ -123,12 +123,12 @@ module _ (w : World) (h : Holds w) where
         used = λ e. e;
       }
 
-  saved-stays : (a : Answer) → w .state .used + width ≤ length (w .log) → Stays w (saved a w)
+  saved-stays : (a : Answer) → w .state .core .used + width ≤ length (w .log) → Stays w (saved a w)
   saved-stays (Stored at v) room =
-      let l = appended-length (w .log) (w .state .used) at v room in
+      let l = appended-length (w .log) (w .state .core .used) at v room in
       record {
         holds = record {
-          state = used-range (w .state) (w .state .used + width) ∙ h .state;
+          state = used-range (w .state) (w .state .core .used + width) ∙ h .state;
           vram = h .vram;
           wram = h .wram;
           save = length-set (w .save) at v ∙ h .save;
@@ -136,24 +136,24 @@ module _ (w : World) (h : Holds w) where
         };
         colour = refl;
         cartridge = refl;
-        used = λ e. rw l (use-more (w .state .used) (length (w .log)) room e);
+        used = λ e. rw l (use-more (w .state .core .used) (length (w .log)) room e);
       }
   saved-stays NotStored room = stays-refl w h
 
   save-stays : (i v : ℕ) → Stays w (savePut w i v)
   unfolding savePut
   save-stays i v =
-      let a = answer (w .state .cartridge) (w .state .mapper) i v in
-      by-cond (Stays w) (ltb (length (w .log)) (w .state .used + width)) w (saved a w) (λ t. stays-refl w h)
-      (λ f. saved-stays a (ltb-false (length (w .log)) (w .state .used + width) f))
+      let a = answer (w .state .core .cartridge) (w .state .core .mapper) i v in
+      by-cond (Stays w) (ltb (length (w .log)) (w .state .core .used + width)) w (saved a w) (λ t. stays-refl w h)
+      (λ f. saved-stays a (ltb-false (length (w .log)) (w .state .core .used + width) f))
 
   put-at-stays : (i v : ℕ) → Stays w (putAt w i v)
   unfolding putAt
   put-at-stays i v =
       cond-both (Stays w) (ltb i 0x8000) (mapper-stays i v)
-      (cond-both (Stays w) (ltb i 0xA000) (vram-stays (vramAt (w .state .banks .vram) i) v)
+      (cond-both (Stays w) (ltb i 0xA000) (vram-stays (vramAt (w .state .core .banks .vram) i) v)
       (cond-both (Stays w) (ltb i 0xC000) (save-stays i v)
-      (cond-both (Stays w) (ltb i 0xE000) (wram-stays (wramAt (w .state .banks .wram) i) v)
+      (cond-both (Stays w) (ltb i 0xE000) (wram-stays (wramAt (w .state .core .banks .wram) i) v)
       (cond-both (Stays w) (ltb i 0xFF00) (kept-stays _ (oam-kept (w .state) (set (w .state .oam) (i - 0xFE00) v)))
       (kept-stays _ (write-kept (w .state) (i - 0xFF00) v))))))
 

@@ -23,7 +23,7 @@ use Rattle.mmu.specs.Write.{copyBy, transferred, writeAt}
 pub record Spares (w u : World) : Type 0 where
   pub save : u .save ≡ w .save
   pub log : u .log ≡ w .log
-  pub used : u .state .used ≡ w .state .used
+  pub used : u .state .core .used ≡ w .state .core .used
 
 pub spares-trans : {w u y : World} → Spares w u → Spares u y → Spares w y
 spares-trans s t = record { save = t .save ∙ s .save; log = t .log ∙ s .log; used = t .used ∙ s .used }
@@ -76,10 +76,10 @@ unfolding destinationUsed
 destination-most h = omega arith
 
 pub block-clear : (m : Memory) → Clear (blockCopy m)
-block-clear m k h a b = omega (arith, destination-most (m .hdma))
+block-clear m k h a b = omega (arith, destination-most (m .core .hdma))
 
 general-clear : (m : Memory) (v : ℕ) → Clear (generalCopy m v)
-general-clear m v k h a b = omega (arith, destination-most (m .hdma))
+general-clear m v k h a b = omega (arith, destination-most (m .core .hdma))
 
 started-clear : (m : Memory) (v : ℕ) (s : Start) → Clear (startedCopy m v s)
 started-clear m v start.Nothing = none-clear
@@ -90,7 +90,7 @@ pub copy-clear : (m : Memory) (index v : ℕ) → Clear (copyOf m index v)
 unfolding copyOf startCopy
 copy-clear m index v =
     cond-both Clear (eqb index 0xFF46) (oam-clear v)
-    (cond-both Clear (eqb index 0xFF55) (cond-both Clear (m .banks .colour) (started-clear m v (starts (m .hdma .on) (m .lcd .mode) v)) none-clear)
+    (cond-both Clear (eqb index 0xFF55) (cond-both Clear (m .core .banks .colour) (started-clear m v (starts (m .core .hdma .on) (m .core .lcd .mode) v)) none-clear)
     none-clear)
 
 -- so transfers and writes

@@ -33,9 +33,10 @@ pub fn read_byte(
 {
     let at = lowered(index);
     if at < 0xE000 {
-        let banks = memory.banks;
-        let mapper = memory.mapper;
-        let cartridge = memory.cartridge;
+        let core = memory.core;
+        let banks = core.banks;
+        let mapper = core.mapper;
+        let cartridge = core.cartridge;
         return read_lent(cartridge, mapper, banks, rom, vram, wram, save, at);
     }
     if at < 0xFF00 {
@@ -59,7 +60,7 @@ pub fn put_byte(
     ensures { λ r. ⌜ world r (now (vram .exit)) (now (wram .exit)) (now (save .exit)) (now (log .exit)) ≡ put (world memory (now (vram .entry)) (now (wram .entry)) (now (save .entry)) (now (log .entry))) index value ⌝ }
 {
     let at = lowered(index);
-    let banks = memory.banks;
+    let banks = memory.core.banks;
     if at < 0x8000 {
         return put_mapper(memory, at, value);
     }

@@ -116,11 +116,12 @@ pub fn read_lent(
 
 // A write below 8000: the mapper's registers.
 pub fn put_mapper(memory: Memory, index: u16, value: u8) -> Memory
-    requires { ⌜ (index < 0x8000) × (inRange (memory .cartridge) (memory .mapper) ≡ true) ⌝ }
+    requires { ⌜ (index < 0x8000) × (inRange (memory .core .cartridge) (memory .core .mapper) ≡ true) ⌝ }
     ensures { λ r. ⌜ r ≡ mapperPut memory index value ⌝ }
 {
-    let mapper = memory.mapper;
-    let cartridge = memory.cartridge;
+    let core = memory.core;
+    let mapper = core.mapper;
+    let cartridge = core.cartridge;
     let written = mapper.write(cartridge, index, value);
     let after = written.mapper;
     memory::with_mapper(memory, after)
@@ -145,7 +146,7 @@ pub fn store_save(
     value: u8,
 ) -> u16
     requires { ⌜ ((0xA000 ≤ index) × (index < 0xC000)) × ((inRange cartridge mapper ≡ true) × ((length (now save) ≡ ramLen cartridge mapper) × (length (now log) ≤ logLimit))) ⌝ }
-    ensures { λ r. ⌜ ((m : Memory) → m .cartridge ≡ cartridge → m .mapper ≡ mapper → m .used ≡ used → world (withUsed m r) [] [] (now (save .exit)) (now (log .exit)) ≡ savePut (world m [] [] (now (save .entry)) (now (log .entry))) index value) ⌝ }
+    ensures { λ r. ⌜ ((m : Memory) → m .core .cartridge ≡ cartridge → m .core .mapper ≡ mapper → m .core .used ≡ used → world (withUsed m r) [] [] (now (save .exit)) (now (log .exit)) ≡ savePut (world m [] [] (now (save .entry)) (now (log .entry))) index value) ⌝ }
 {
     if full(log.len(), used) {
         return used;
@@ -160,11 +161,12 @@ pub fn store_save(
 }
 
 pub fn put_save(memory: Memory, save: &mut [u8], log: &mut [u8], index: u16, value: u8) -> Memory
-    requires { ⌜ ((0xA000 ≤ index) × (index < 0xC000)) × ((inRange (memory .cartridge) (memory .mapper) ≡ true) × ((length (now save) ≡ ramLen (memory .cartridge) (memory .mapper)) × (length (now log) ≤ logLimit))) ⌝ }
+    requires { ⌜ ((0xA000 ≤ index) × (index < 0xC000)) × ((inRange (memory .core .cartridge) (memory .core .mapper) ≡ true) × ((length (now save) ≡ ramLen (memory .core .cartridge) (memory .core .mapper)) × (length (now log) ≤ logLimit))) ⌝ }
     ensures { λ r. ⌜ world r [] [] (now (save .exit)) (now (log .exit)) ≡ savePut (world memory [] [] (now (save .entry)) (now (log .entry))) index value ⌝ }
 {
-    let cartridge = memory.cartridge;
-    let mapper = memory.mapper;
-    let used = store_save(cartridge, mapper, memory.used, save, log, index, value);
+    let core = memory.core;
+    let cartridge = core.cartridge;
+    let mapper = core.mapper;
+    let used = store_save(cartridge, mapper, core.used, save, log, index, value);
     memory::with_used(memory, used)
 }

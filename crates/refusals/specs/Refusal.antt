@@ -38,7 +38,7 @@ partsFit cartridge mapper colour rom vram wram save sound =
     && (eqb save (ramLen cartridge mapper) && eqb sound soundLen)))
 
 unfoldable pub lengthsFit : Memory → ℕ → ℕ → ℕ → ℕ → ℕ → Bool
-lengthsFit m rom vram wram save sound = partsFit (m .cartridge) (m .mapper) (m .banks .colour) rom vram wram save sound
+lengthsFit m rom vram wram save sound = partsFit (m .core .cartridge) (m .core .mapper) (m .core .banks .colour) rom vram wram save sound
 
 unfoldable pub lengthsRefused : Memory → ℕ → ℕ → ℕ → ℕ → ℕ → ℕ
 lengthsRefused m rom vram wram save sound = cond (lengthsFit m rom vram wram save sound) done wrongLength
@@ -103,11 +103,11 @@ cyclesRefused c = cond (leb c 65536) done tooManyCycles
 
 -- 4: the length of video memory, where it alone is lent
 unfoldable pub vramLengthRefused : Memory → ℕ → ℕ
-vramLengthRefused m vram = cond (eqb vram (vramLen (m .banks .colour))) done wrongLength
+vramLengthRefused m vram = cond (eqb vram (vramLen (m .core .banks .colour))) done wrongLength
 
 -- a VRAM bank is 0 or 1, and 1 in colour alone
 unfoldable pub hasBank : Memory → ℕ → Bool
-hasBank m bank = cond (eqb bank 0) true (cond (eqb bank 1) (m .banks .colour) false)
+hasBank m bank = cond (eqb bank 0) true (cond (eqb bank 1) (m .core .banks .colour) false)
 
 -- 7: a VRAM bank that the machine lacks, or an index outside 8000..9FFF
 unfoldable pub vramRefused : Memory → ℕ → ℕ → ℕ

@@ -113,9 +113,9 @@ pub fn lengths_refused(
 ) -> u8
     ensures { λ r. ⌜ r ≡ lengthsRefused memory rom vram wram save sound ⌝ }
 {
-    let cartridge = memory.cartridge;
-    let mapper = memory.mapper;
-    let banks = memory.banks;
+    let cartridge = memory.core.cartridge;
+    let mapper = memory.core.mapper;
+    let banks = memory.core.banks;
     if lengths_fit(
         cartridge,
         mapper,
@@ -318,7 +318,7 @@ pub fn cycles_refused(cycles: u32) -> u8
 pub fn vram_length_refused(memory: Memory, vram: usize) -> u8
     ensures { λ r. ⌜ r ≡ vramLengthRefused memory vram ⌝ }
 {
-    let banks = memory.banks;
+    let banks = memory.core.banks;
     if vram == memory::vram_len(banks.colour) {
         return numbers::DONE;
     }
@@ -333,7 +333,7 @@ fn has_bank(memory: Memory, bank: u8) -> bool
         return true;
     }
     if bank == 1 {
-        let banks = memory.banks;
+        let banks = memory.core.banks;
         return banks.colour;
     }
     false

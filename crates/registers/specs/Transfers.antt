@@ -24,24 +24,24 @@ abbrev pub transferPut : Memory → ℕ → Hdma → ℕ → Memory
 transferPut m at h byte = withHdma m h (set (m .page) at byte)
 
 unfoldable pub sourceHighPut : Memory → ℕ → Memory
-sourceHighPut m v = inColour m 0x51 v (transferPut m 0x51 (sourceHigh (m .hdma) v .hdma) (sourceHigh (m .hdma) v .byte))
+sourceHighPut m v = inColour m 0x51 v (transferPut m 0x51 (sourceHigh (m .core .hdma) v .hdma) (sourceHigh (m .core .hdma) v .byte))
 
 unfoldable pub sourceLowPut : Memory → ℕ → Memory
-sourceLowPut m v = inColour m 0x52 v (transferPut m 0x52 (sourceLow (m .hdma) v .hdma) (sourceLow (m .hdma) v .byte))
+sourceLowPut m v = inColour m 0x52 v (transferPut m 0x52 (sourceLow (m .core .hdma) v .hdma) (sourceLow (m .core .hdma) v .byte))
 
 unfoldable pub destinationHighPut : Memory → ℕ → Memory
 destinationHighPut m v =
-    inColour m 0x53 v (transferPut m 0x53 (destinationHigh (m .hdma) v .hdma) (destinationHigh (m .hdma) v .byte))
+    inColour m 0x53 v (transferPut m 0x53 (destinationHigh (m .core .hdma) v .hdma) (destinationHigh (m .core .hdma) v .byte))
 
 unfoldable pub destinationLowPut : Memory → ℕ → Memory
 destinationLowPut m v =
-    inColour m 0x54 v (transferPut m 0x54 (destinationLow (m .hdma) v .hdma) (destinationLow (m .hdma) v .byte))
+    inColour m 0x54 v (transferPut m 0x54 (destinationLow (m .core .hdma) v .hdma) (destinationLow (m .core .hdma) v .byte))
 
 -- FF55, before any byte is copied
 unfoldable pub startPut : Memory → ℕ → Memory
 startPut m v =
     inColour m 0x55 v
-    (transferPut m 0x55 (started (m .hdma) (m .lcd .mode) v (loaded m 0x55) .hdma) (started (m .hdma) (m .lcd .mode) v (loaded m 0x55) .byte))
+    (transferPut m 0x55 (started (m .core .hdma) (m .core .lcd .mode) v (loaded m 0x55) .hdma) (started (m .core .hdma) (m .core .lcd .mode) v (loaded m 0x55) .byte))
 
 -- FF51..FF55 as a transfer leaves them
 abbrev pub withEnded : Memory → Ended → Memory
@@ -61,15 +61,15 @@ oamCopy page =
 -- an HDMA block: 16 bytes
 abbrev pub blockCopy : Memory → Copy
 blockCopy m =
-    record { source = sourceUsed (m .hdma); destination = destinationUsed (m .hdma); count = 16; finish = Block }
+    record { source = sourceUsed (m .core .hdma); destination = destinationUsed (m .core .hdma); count = 16; finish = Block }
 
 -- a general transfer: of its bytes, those that land in video memory ("Our one change")
 abbrev pub generalCopy : Memory → ℕ → Copy
 generalCopy m v =
     record {
-      source = sourceUsed (m .hdma);
-      destination = destinationUsed (m .hdma);
-      count = min (lengthOf v) (vramEnd - destinationUsed (m .hdma));
+      source = sourceUsed (m .core .hdma);
+      destination = destinationUsed (m .core .hdma);
+      count = min (lengthOf v) (vramEnd - destinationUsed (m .core .hdma));
       finish = General;
     }
 
@@ -80,7 +80,7 @@ startedCopy m v start.General = generalCopy m v
 
 -- FF55: on a monochrome machine it starts nothing
 unfoldable pub startCopy : Memory → ℕ → Copy
-startCopy m v = cond (m .banks .colour) (startedCopy m v (starts (m .hdma .on) (m .lcd .mode) v)) nothing
+startCopy m v = cond (m .core .banks .colour) (startedCopy m v (starts (m .core .hdma .on) (m .core .lcd .mode) v)) nothing
 
 -- what a byte write copies, from the state before it
 unfoldable pub copyOf : Memory → ℕ → ℕ → Copy
@@ -93,5 +93,5 @@ Bounded c = c .destination + c .count ≤ 0xFEA0
 -- the registers after the last byte
 unfoldable pub finished : Memory → Finish → ℕ → Memory
 finished m Nothing v = m
-finished m Block v = withEnded m (blockEnded (m .hdma) (loaded m 0x55))
-finished m General v = withEnded m (generalEnded (m .hdma) v)
+finished m Block v = withEnded m (blockEnded (m .core .hdma) (loaded m 0x55))
+finished m General v = withEnded m (generalEnded (m .core .hdma) v)

@@ -71,9 +71,9 @@ pub fn read(memory: Memory, sound: &[u8], at: u8) -> u8
     ensures { λ r. ⌜ r ≡ readRegister memory (now (sound .entry)) at ⌝ }
 {
     let byte = load(memory, at);
-    let banks = memory.banks;
-    let lcd = memory.lcd;
-    let controller = memory.joypad;
+    let banks = memory.core.banks;
+    let lcd = memory.core.lcd;
+    let controller = memory.core.joypad;
     shown(byte, banks.colour, lcd, controller.state, sound, at)
 }
 

@@ -26,14 +26,16 @@ pub struct Copy {
 pub fn write_source_high(memory: Memory, value: u8) -> Memory
     ensures { λ r. ⌜ r ≡ sourceHighPut memory value ⌝ }
 {
-    let banks = memory.banks;
+    let banks = memory.core.banks;
     if banks.colour {
-        let hdma = memory.hdma;
+        let hdma = memory.core.hdma;
         let written = hdma::write_source_high(hdma, value);
         let after = written.hdma;
+        let mut core = memory.core;
+        core.hdma = after;
         let mut next = memory;
         next.page[0x51] = written.byte;
-        next.hdma = after;
+        next.core = core;
         return next;
     }
     store(memory, 0x51, value)
@@ -43,14 +45,16 @@ pub fn write_source_high(memory: Memory, value: u8) -> Memory
 pub fn write_source_low(memory: Memory, value: u8) -> Memory
     ensures { λ r. ⌜ r ≡ sourceLowPut memory value ⌝ }
 {
-    let banks = memory.banks;
+    let banks = memory.core.banks;
     if banks.colour {
-        let hdma = memory.hdma;
+        let hdma = memory.core.hdma;
         let written = hdma::write_source_low(hdma, value);
         let after = written.hdma;
+        let mut core = memory.core;
+        core.hdma = after;
         let mut next = memory;
         next.page[0x52] = written.byte;
-        next.hdma = after;
+        next.core = core;
         return next;
     }
     store(memory, 0x52, value)
@@ -60,14 +64,16 @@ pub fn write_source_low(memory: Memory, value: u8) -> Memory
 pub fn write_destination_high(memory: Memory, value: u8) -> Memory
     ensures { λ r. ⌜ r ≡ destinationHighPut memory value ⌝ }
 {
-    let banks = memory.banks;
+    let banks = memory.core.banks;
     if banks.colour {
-        let hdma = memory.hdma;
+        let hdma = memory.core.hdma;
         let written = hdma::write_destination_high(hdma, value);
         let after = written.hdma;
+        let mut core = memory.core;
+        core.hdma = after;
         let mut next = memory;
         next.page[0x53] = written.byte;
-        next.hdma = after;
+        next.core = core;
         return next;
     }
     store(memory, 0x53, value)
@@ -77,14 +83,16 @@ pub fn write_destination_high(memory: Memory, value: u8) -> Memory
 pub fn write_destination_low(memory: Memory, value: u8) -> Memory
     ensures { λ r. ⌜ r ≡ destinationLowPut memory value ⌝ }
 {
-    let banks = memory.banks;
+    let banks = memory.core.banks;
     if banks.colour {
-        let hdma = memory.hdma;
+        let hdma = memory.core.hdma;
         let written = hdma::write_destination_low(hdma, value);
         let after = written.hdma;
+        let mut core = memory.core;
+        core.hdma = after;
         let mut next = memory;
         next.page[0x54] = written.byte;
-        next.hdma = after;
+        next.core = core;
         return next;
     }
     store(memory, 0x54, value)
@@ -94,15 +102,17 @@ pub fn write_destination_low(memory: Memory, value: u8) -> Memory
 pub fn do_cgb_dma(memory: Memory, value: u8) -> Memory
     ensures { λ r. ⌜ r ≡ startPut memory value ⌝ }
 {
-    let banks = memory.banks;
+    let banks = memory.core.banks;
     if banks.colour {
-        let hdma = memory.hdma;
-        let lcd = memory.lcd;
+        let hdma = memory.core.hdma;
+        let lcd = memory.core.lcd;
         let started = hdma::do_cgb_dma(hdma, lcd.mode, value, memory.page[0x55]);
         let after = started.hdma;
+        let mut core = memory.core;
+        core.hdma = after;
         let mut next = memory;
         next.page[0x55] = started.byte;
-        next.hdma = after;
+        next.core = core;
         return next;
     }
     store(memory, 0x55, value)
@@ -112,13 +122,15 @@ fn with_ended(memory: Memory, ended: Ended) -> Memory
     ensures { λ r. ⌜ r ≡ withEnded memory ended ⌝ }
 {
     let after = ended.hdma;
+    let mut core = memory.core;
+    core.hdma = after;
     let mut next = memory;
     next.page[0x51] = ended.r51;
     next.page[0x52] = ended.r52;
     next.page[0x53] = ended.r53;
     next.page[0x54] = ended.r54;
     next.page[0x55] = ended.r55;
-    next.hdma = after;
+    next.core = core;
     next
 }
 
@@ -155,7 +167,7 @@ fn no_copy() -> Copy
 pub fn block_copy(memory: Memory) -> Copy
     ensures { λ r. ⌜ (r ≡ blockCopy memory) × Bounded r ⌝ }
 {
-    let hdma = memory.hdma;
+    let hdma = memory.core.hdma;
     Copy {
         source: hdma::source_of(hdma),
         destination: hdma::destination_of(hdma),
@@ -180,7 +192,7 @@ fn landing(destination: u16, length: u16) -> u16
 fn general_copy(memory: Memory, value: u8) -> Copy
     ensures { λ r. ⌜ (r ≡ generalCopy memory value) × Bounded r ⌝ }
 {
-    let hdma = memory.hdma;
+    let hdma = memory.core.hdma;
     let destination = hdma::destination_of(hdma);
     let count = landing(destination, hdma::length(value));
     Copy {
@@ -195,10 +207,10 @@ fn general_copy(memory: Memory, value: u8) -> Copy
 fn start_copy(memory: Memory, value: u8) -> Copy
     ensures { λ r. ⌜ (r ≡ startCopy memory value) × Bounded r ⌝ }
 {
-    let banks = memory.banks;
+    let banks = memory.core.banks;
     if banks.colour {
-        let hdma = memory.hdma;
-        let lcd = memory.lcd;
+        let hdma = memory.core.hdma;
+        let lcd = memory.core.lcd;
         let started = hdma::do_cgb_dma(hdma, lcd.mode, value, 0);
         let start = started.start;
         return match start {
@@ -227,7 +239,7 @@ pub fn copy_of(memory: Memory, index: u16, value: u8) -> Copy
 pub fn end_copy(memory: Memory, kind: Finish, value: u8) -> Memory
     ensures { λ r. ⌜ r ≡ finished memory kind value ⌝ }
 {
-    let hdma = memory.hdma;
+    let hdma = memory.core.hdma;
     match kind {
         Finish::Nothing => memory,
         Finish::Block => with_ended(memory, hdma::end_block(hdma, memory.page[0x55])),

@@ -111,9 +111,9 @@ pub fn remove_interrupt(memory: Memory, interrupt: u8) -> Done
 }
 
 fn hdma_on(memory: Memory) -> bool
-    ensures { λ r. ⌜ r ≡ memory .hdma .on ⌝ }
+    ensures { λ r. ⌜ r ≡ memory .core .hdma .on ⌝ }
 {
-    let hdma = memory.hdma;
+    let hdma = memory.core.hdma;
     hdma.on
 }
 

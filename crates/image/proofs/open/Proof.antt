@@ -9,8 +9,8 @@ use Rattle.memory.specs.declared.Core.{Core}
 use Rattle.memory.specs.Ranges.{coreInRange}
 use Rattle.image.specs.declared.fields.Words.{Words}
 use Rattle.image.specs.declared.Opened.{Opened}
-use Rattle.image.specs.Load.{sound, loadCall, openedOf, openCall}
-use Rattle.image.specs.Words.{fieldsOf, coreFrom}
+use Rattle.image.specs.Load.{coreFrom, sound, loadCall, openedOf, openCall}
+use Rattle.image.specs.Words.{fieldsOf}
 use Rattle.image.proofs.LoadLaws.{state-core, core-storable, load-unsound, load-outside, load-done}
 use borrow.Author.Needs.{needs}
 use Rattle.image.proofs.open.Statement.{statement}

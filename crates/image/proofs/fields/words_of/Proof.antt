@@ -28,13 +28,13 @@ bit-of-requires-4 : tie.Need-bit-of-requires-4
 bit-of-requires-4 c κs = search needs
 
 first-of-requires : tie.Need-first-of-requires
-first-of-requires c κs = (c .before .before .before .bit-of .ensures .1, c .before .before .bit-of2 .ensures .1, c .before .bit-of3 .ensures .1, c .before .before .before .before .before .before .before .before .before .before .before .before .before .before .pre .vram, c .before .before .before .before .before .before .before .before .before .before .before .before .before .before .pre .wram, c .bit-of4 .ensures .1)
+first-of-requires c κs = (c .before .before .before .bit-of .ensures .1, c .before .before .bit-of2 .ensures .1, c .before .bit-of3 .ensures .1, c .before .before .before .before .before .before .before .before .before .before .before .before .before .before .before .pre .vram, c .before .before .before .before .before .before .before .before .before .before .before .before .before .before .before .pre .wram, c .bit-of4 .ensures .1)
 
 bit-of-requires-5 : tie.Need-bit-of-requires-5
 bit-of-requires-5 c κs = search needs
 
 second-of-requires : tie.Need-second-of-requires
-second-of-requires c κs = (c .bit-of5 .ensures .1, c .before .before .before .before .before .before .before .before .before .before .before .before .before .before .before .before .pre .tima)
+second-of-requires c κs = (c .bit-of5 .ensures .1, c .before .before .before .before .before .before .before .before .before .before .before .before .before .before .before .before .before .pre .tima)
 
 complement-of-requires-3 : tie.Need-complement-of-requires-3
 complement-of-requires-3 c κs = search needs
@@ -56,10 +56,10 @@ registers-of-requires c κs = search needs
 
 fifth-of-requires : tie.Need-fifth-of-requires
 fifth-of-requires c κs =
-    let m = c .before .before .before .before .before .before .before .before .before .before .before .before .before .before .before .before .before .before .before .before .before .before .before .before .before .args .memory .mapper in
-    let p = c .before .before .before .before .before .before .before .before .before .before .before .before .before .before .before .before .before .before .before .before .before .before .before .before .before .pre in
+    let m = c .before .before .before .before .before .before .before .before .before .before .before .before .before .before .before .before .before .before .before .before .before .before .before .before .before .before .args .memory .core .mapper in
+    let p = c .before .before .before .before .before .before .before .before .before .before .before .before .before .before .before .before .before .before .before .before .before .before .before .before .before .before .pre in
     let e = c .registers-of .ensures in (
-      rw (c .before .log2-of .ensures) (log2-lt (c .before .before .before .before .before .before .before .before .before .before .before .before .before .before .before .before .before .before .before .before .before .before .before .before .before .args .memory .cartridge .banks)),
+      rw (c .before .log2-of .ensures) (log2-lt (c .before .before .before .before .before .before .before .before .before .before .before .before .before .before .before .before .before .before .before .before .before .before .before .before .before .before .args .memory .core .cartridge .banks)),
       p .code,
       rw e (kind-lt m),
       rw e (p .rom),
@@ -72,11 +72,11 @@ fifth-of-requires c κs =
 returns : tie.Need-returns
 unfolding wordsOf
 returns c =
-    let m = c .before .before .before .before .before .before .before .before .before .before .before .before .before .before .before .before .before .before .before .before .before .before .before .before .before .before .args .memory in
-    let d : toZ w32 (ofZ w32 (m .lcd .delay)) ≡ m .lcd .delay = search (needs, c .before .before .before .before .before .before .before .before .struct-told3 .given) in
-    let k : toZ w32 (ofZ w32 (m .lcd .counter)) ≡ m .lcd .counter = search (needs, c .before .before .before .before .before .before .before .before .before .before .before .before .before .before .before .before .before .before .before .struct-told .given) in
-    let a : toZ w32 (ofZ w32 (m .lcd .aux)) ≡ m .lcd .aux = search (needs, c .before .before .before .before .before .struct-told4 .given) in
-    let w : toZ w32 (ofZ w32 (m .lcd .window)) ≡ m .lcd .window = search (needs, c .before .before .before .before .before .before .before .before .before .before .before .before .before .before .before .before .before .struct-told2 .given) in
+    let m = c .before .before .before .before .before .before .before .before .before .before .before .before .before .before .before .before .before .before .before .before .before .before .before .before .before .before .before .args .memory in
+    let d : toZ w32 (ofZ w32 (m .core .lcd .delay)) ≡ m .core .lcd .delay = search (needs, c .before .before .before .before .before .before .before .before .struct-told3 .given) in
+    let k : toZ w32 (ofZ w32 (m .core .lcd .counter)) ≡ m .core .lcd .counter = search (needs, c .before .before .before .before .before .before .before .before .before .before .before .before .before .before .before .before .before .before .before .struct-told .given) in
+    let a : toZ w32 (ofZ w32 (m .core .lcd .aux)) ≡ m .core .lcd .aux = search (needs, c .before .before .before .before .before .struct-told4 .given) in
+    let w : toZ w32 (ofZ w32 (m .core .lcd .window)) ≡ m .core .lcd .window = search (needs, c .before .before .before .before .before .before .before .before .before .before .before .before .before .before .before .before .before .struct-told2 .given) in
     words-same
     (c .before .before .before .before .before .before .before .before .before .before .before .first-of .ensures ∙ rw (c .before .before .before .before .before .before .before .before .before .before .before .before .before .before .before .bit-of .ensures .0, c .before .before .before .before .before .before .before .before .before .before .before .before .before .before .bit-of2 .ensures .0, c .before .before .before .before .before .before .before .before .before .before .before .before .before .bit-of3 .ensures .0, c .before .before .before .before .before .before .before .before .before .before .before .before .bit-of4 .ensures .0))
     (c .before .before .before .before .before .before .before .before .before .second-of .ensures ∙ rw (c .before .before .before .before .before .before .before .before .before .before .bit-of5 .ensures .0))

@@ -17,7 +17,7 @@ element-write-next c = search needs
 
 returns : tie.Need-returns
 unfolding startPut
-returns c = rw (c .before .before .before .before .before .if1 .taken, c .before .do-cgb-dma .ensures)
+returns c = rw (c .before .before .before .before .before .before .if1 .taken, c .before .before .do-cgb-dma .ensures)
 
 store-requires : tie.Need-store-requires
 store-requires c κs = search needs

@@ -14,7 +14,7 @@ element-write-next c = search needs
 
 returns : tie.Need-returns
 unfolding destinationHighPut
-returns c = rw (c .before .before .before .if1 .taken, c .before .write-destination-high .ensures)
+returns c = rw (c .before .before .before .before .if1 .taken, c .before .before .write-destination-high .ensures)
 
 store-requires : tie.Need-store-requires
 store-requires c κs = search needs

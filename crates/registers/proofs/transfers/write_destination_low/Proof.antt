@@ -14,7 +14,7 @@ element-write-next c = search needs
 
 returns : tie.Need-returns
 unfolding destinationLowPut
-returns c = rw (c .before .before .before .if1 .taken, c .before .write-destination-low .ensures)
+returns c = rw (c .before .before .before .before .if1 .taken, c .before .before .write-destination-low .ensures)
 
 store-requires : tie.Need-store-requires
 store-requires c κs = search needs

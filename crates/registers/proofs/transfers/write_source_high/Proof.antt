@@ -14,7 +14,7 @@ element-write-next c = search needs
 
 returns : tie.Need-returns
 unfolding sourceHighPut
-returns c = rw (c .before .before .before .if1 .taken, c .before .write-source-high .ensures)
+returns c = rw (c .before .before .before .before .if1 .taken, c .before .before .write-source-high .ensures)
 
 store-requires : tie.Need-store-requires
 store-requires c κs = search needs
