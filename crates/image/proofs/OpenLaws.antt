@@ -14,7 +14,7 @@ use Rattle.savelog.specs.Log.{logLimit}
 use Rattle.memory.specs.declared.Memory.{Memory}
 use Rattle.memory.specs.Ranges.{inRange}
 use Rattle.memory.specs.Start.{zeroed}
-use Rattle.image.specs.Layout.{imageOf}
+use Rattle.image.specs.Layout.{imageLen, imageOf}
 use Rattle.image.specs.Load.{storable, sound, fieldsIn, valuesOf, stateOf, loaded, loadCall, openCall}
 use Rattle.image.specs.declared.Loaded.{Loaded}
 use Rattle.image.specs.declared.Opened.{Opened}
@@ -33,15 +33,15 @@ module _ (l : List ℕ) where
   -- a refused load gives the all-zero state
   pub load-refused : (loadCall l .number ≡ done → ⊥) → loaded (loadCall l .number) zeroed ≡ loadCall l
   unfolding loadCall
-  load-refused h = given-zero (eqb (length l) 665) (sound (fieldsIn (valuesOf l)) && storable (stateOf l)) (stateOf l) h
+  load-refused h = given-zero (eqb (length l) imageLen) (sound (fieldsIn (valuesOf l)) && storable (stateOf l)) (stateOf l) h
 
   module _ (h : loadCall l .number ≡ done) where
-    tests : (eqb (length l) 665 ≡ true) × ((sound (fieldsIn (valuesOf l)) && storable (stateOf l)) ≡ true)
+    tests : (eqb (length l) imageLen ≡ true) × ((sound (fieldsIn (valuesOf l)) && storable (stateOf l)) ≡ true)
     unfolding loadCall
-    tests = number-done (eqb (length l) 665) (sound (fieldsIn (valuesOf l)) && storable (stateOf l)) (stateOf l) h
+    tests = number-done (eqb (length l) imageLen) (sound (fieldsIn (valuesOf l)) && storable (stateOf l)) (stateOf l) h
 
-    pub load-length : length l ≡ 665
-    load-length = eqb-true (length l) 665 (tests .0)
+    pub load-length : length l ≡ imageLen
+    load-length = eqb-true (length l) imageLen (tests .0)
 
     pub load-state : loadCall l ≡ loaded done (stateOf l)
     unfolding loadCall

@@ -22,7 +22,11 @@ fields-from l bit (w ∷ ws) h =
     let e : behind l bit w ≡ bits ws = omega arith in
     rw (e, fields-from l (bit + w) ws (omega arith))
 
--- A window of eight bytes
+pub field-lt : (l : List ℕ) (bit w : ℕ) → fieldAt l bit w < 2 ^ w
+unfolding fieldAt
+field-lt l bit w = mod-lt (number l / 2 ^ behind l bit w) (pow-pos w)
+
+-- Windows
 
 pub bits-eights : (k : ℕ) → bits (eights k) ≡ 8 * k
 bits-eights k = bits-replicate k 8 ∙ mul-comm k 8

@@ -4,11 +4,12 @@ use mathlib.Core.List.{List, [], _∷_, _++_}
 use Prim.Native.Nat.{ℕ, zero, suc, _+_, _-_, _*_, _/_, _%_, _^_, _<_, _≤_}
 use native.Mathlib.Nat.{mod-lt, mul-assoc, add-mul}
 use native.Mathlib.Omega.{arith}
-use lib.ListN.{length, take, drop, getD, set, length-replicate}
+use lib.ListN.{length, take, drop, getD, set, length-replicate, replicate-append-replicate}
+use lib.Seq.{take-at}
 use lib.Pow.{pow-pos, pow-add, high, split, mod-mod-pow, mod-pow-add, shr-shr}
-use Rattle.packing.specs.Packing.{Below, Fit, bits, packed, unpacked, eights}
-use Rattle.packing.proofs.Laws.{below-fit, fit-below, unpack-fit, unpack-pack, unpack-length, pack-unpack}
-use Rattle.places.specs.Places.{number, behind, fieldAt, replaced, putAt, putFields, widthsAt, setAll}
+use Rattle.packing.specs.Packing.{Below, Fit, bits, packed, unpacked, repacked, eights}
+use Rattle.packing.proofs.Laws.{below-fit, fit-below, unpack-fit, unpack-pack, unpack-length, unpack-mod, unpack-append, pack-unpack, pack-unpack-mod}
+use Rattle.places.specs.Places.{number, behind, fieldAt, replaced, putAt, putFields, FitAll, setAll}
 use Rattle.places.proofs.Laws.{bits-eights, number-lt, above-mod, replaced-above, replaced-lt, replaced-set}
 
 -- bytes are those of their number
@@ -42,14 +43,14 @@ around (w ∷ ws) zero = omega arith
 around (w ∷ ws) (suc k) = let h = around ws k in omega arith
 
 -- what fields put leave, of l before and l' after
-pub record Put (ws : List ℕ) (l l' fs : List ℕ) : Type 0 where
+pub record Put (ws l l' fs : List ℕ) : Type 0 where
   pub size : length l' ≡ length l
   pub below : Below 256 l'
   pub fields : unpacked ws (number l') ≡ fs
   pub before : number l' / 2 ^ bits ws ≡ number l / 2 ^ bits ws
 
 module _ (bit : ℕ) (ws : List ℕ) where
-  pub put-one : (l : List ℕ) (k v : ℕ) → Below 256 l → bit + bits ws ≡ 8 * length l → v < 2 ^ getD ws k 0
+  put-one : (l : List ℕ) (k v : ℕ) → Below 256 l → bit + bits ws ≡ 8 * length l → v < 2 ^ getD ws k 0
       → Put ws l (putAt l (bit + bits (take k ws)) (getD ws k 0) v) (set (unpacked ws (number l)) k v)
   put-one l k v b h hv =
       let at = bit + bits (take k ws) in
@@ -65,19 +66,45 @@ module _ (bit : ℕ) (ws : List ℕ) where
         before = ap (λ (i : ℕ). i / 2 ^ bits ws) n ∙ replaced-above (number l) (bits (drop (suc k) ws)) w v (bits ws) (omega arith) hv;
       }
 
-  pub put-fields : (l ks vs : List ℕ) → Below 256 l → bit + bits ws ≡ 8 * length l → Fit (widthsAt ws ks) vs
-      → Put ws l (putFields bit ws ks vs l) (setAll ks vs (unpacked ws (number l)))
-  put-fields l [] vs b h f = record { size = refl; below = b; fields = refl; before = refl }
-  put-fields l (k ∷ ks) [] b h f = absurd (omega arith)
-  put-fields l (k ∷ ks) (v ∷ vs) b h f =
-      let p = put-one l k v b h (f .0) in
-      let q = put-fields (putAt l (bit + bits (take k ws)) (getD ws k 0) v) ks vs (p .below) (h ∙ ap (λ (i : ℕ). 8 * i) (sym (p .size))) (f .1) in
+  pub put-fields : (l : List ℕ) (ps : List (ℕ × ℕ)) → Below 256 l → bit + bits ws ≡ 8 * length l → FitAll ws ps
+      → Put ws l (putFields bit ws ps l) (setAll ps (unpacked ws (number l)))
+  put-fields l [] b h f = record { size = refl; below = b; fields = refl; before = refl }
+  put-fields l (p ∷ ps) b h f =
+      let o = put-one l (p .0) (p .1) b h (f .0) in
+      let q = put-fields (putAt l (bit + bits (take (p .0) ws)) (getD ws (p .0) 0) (p .1)) ps (o .below) (h ∙ ap (λ (i : ℕ). 8 * i) (sym (o .size))) (f .1) in
       record {
-        size = q .size ∙ p .size;
+        size = q .size ∙ o .size;
         below = q .below;
-        fields = q .fields ∙ ap (setAll ks vs) (p .fields);
-        before = q .before ∙ p .before;
+        fields = q .fields ∙ ap (setAll ps) (o .fields);
+        before = q .before ∙ o .before;
       }
+
+-- A layout of j bytes behind k: the first k stay, and the others are those of the fields
+
+split-bytes : (l : List ℕ) (k j : ℕ) → Below 256 l → length l ≡ k + j
+    → l ≡ unpacked (eights k) (number l / 2 ^ (8 * j)) ++ unpacked (eights j) (number l)
+split-bytes l k j b e =
+    let r : eights k ++ eights j ≡ eights (k + j) = replicate-append-replicate k j 8 in
+    sym (bytes-back l b) ∙ ap (λ (i : ℕ). unpacked (eights i) (number l)) e ∙ ap (λ (ws : List ℕ). unpacked ws (number l)) (sym r)
+    ∙ unpack-append (eights k) (eights j) (number l)
+    ∙ ap (λ (i : ℕ). unpacked (eights k) (number l / 2 ^ i) ++ unpacked (eights j) (number l)) (bits-eights j)
+
+front-bytes : (l : List ℕ) (k j : ℕ) → Below 256 l → length l ≡ k + j → unpacked (eights k) (number l / 2 ^ (8 * j)) ≡ take k l
+front-bytes l k j b e =
+    let x = unpacked (eights k) (number l / 2 ^ (8 * j)) in
+    sym (ap (take k) (split-bytes l k j b e) ∙ take-at x (unpacked (eights j) (number l)) k (unpack-length (eights k) (number l / 2 ^ (8 * j)) ∙ length-replicate k 8))
+
+pub put-bytes : (ws l l' fs : List ℕ) (k j : ℕ) → Put ws l l' fs → Below 256 l → length l ≡ k + j → bits ws ≡ 8 * j → l' ≡ take k l ++ repacked ws (eights j) fs
+unfolding repacked
+put-bytes ws l l' fs k j p b e h =
+    let n = number l' in
+    let f : n / 2 ^ (8 * j) ≡ number l / 2 ^ (8 * j) = rw h at (p .before) in
+    let a : packed ws fs ≡ n % 2 ^ (8 * j) = ap (packed ws) (sym (p .fields)) ∙ pack-unpack-mod ws n ∙ ap (λ (i : ℕ). n % 2 ^ i) h in
+    let c : unpacked (eights j) (n % 2 ^ (8 * j)) ≡ unpacked (eights j) n = rw (bits-eights j) at (unpack-mod (eights j) n) in
+    split-bytes l' k j (p .below) (p .size ∙ e)
+    ∙ ap (λ (i : ℕ). unpacked (eights k) i ++ unpacked (eights j) n) f
+    ∙ ap (λ (x : List ℕ). x ++ unpacked (eights j) n) (front-bytes l k j b e)
+    ∙ ap (λ (x : List ℕ). take k l ++ x) (sym (ap (unpacked (eights j)) a ∙ c))
 
 -- A field of 64 bits is one of 32 above one of 32
 

@@ -29,21 +29,20 @@ replaced n b w v = (n / 2 ^ (w + b) * 2 ^ w + v) * 2 ^ b + n % 2 ^ b
 unfoldable pub putAt : List ℕ → ℕ → ℕ → ℕ → List ℕ
 putAt l bit width v = unpacked (eights (length l)) (replaced (number l) (behind l bit width) width v)
 
--- A layout `ws` that begins at `bit`: the fields ks of it put one after the other, their widths, and what is then in the list of the fields
+-- Fields of a layout `ws` that begins at `bit`, each by its number there and its value: put one after the other; that each is within its width; and
+-- what is then in the list of the fields
 
-abbrev pub putFields : ℕ → List ℕ → List ℕ → List ℕ → List ℕ → List ℕ
-putFields bit ws [] vs l = l
-putFields bit ws (k ∷ ks) [] l = l
-putFields bit ws (k ∷ ks) (v ∷ vs) l = putFields bit ws ks vs (putAt l (bit + bits (take k ws)) (getD ws k 0) v)
+abbrev pub putFields : ℕ → List ℕ → List (ℕ × ℕ) → List ℕ → List ℕ
+putFields bit ws [] l = l
+putFields bit ws (p ∷ ps) l = putFields bit ws ps (putAt l (bit + bits (take (p .0) ws)) (getD ws (p .0) 0) (p .1))
 
-abbrev pub widthsAt : List ℕ → List ℕ → List ℕ
-widthsAt ws [] = []
-widthsAt ws (k ∷ ks) = getD ws k 0 ∷ widthsAt ws ks
+abbrev pub FitAll : List ℕ → List (ℕ × ℕ) → Type 0
+FitAll ws [] = 0 < 1
+FitAll ws (p ∷ ps) = (p .1 < 2 ^ getD ws (p .0) 0) × FitAll ws ps
 
-abbrev pub setAll : List ℕ → List ℕ → List ℕ → List ℕ
-setAll [] vs fs = fs
-setAll (k ∷ ks) [] fs = fs
-setAll (k ∷ ks) (v ∷ vs) fs = setAll ks vs (set fs k v)
+abbrev pub setAll : List (ℕ × ℕ) → List ℕ → List ℕ
+setAll [] fs = fs
+setAll (p ∷ ps) fs = setAll ps (set fs (p .0) (p .1))
 
 -- Where the code takes a field: `least` bits must stand up to its end. (The last test holds its sums within their type.)
 abbrev pub Within : ℕ → List ℕ → ℕ → ℕ → Type 0
