@@ -96,14 +96,14 @@ pub record Fine (m : Memory) : Type 0 where
   pub page : Page (m .page)
   pub background : Colours (m .background)
   pub sprites : Colours (m .sprites)
-  pub joypad : joypad.Bytes (m .joypad)
-  pub lcd : LcdTyped (m .lcd)
-  pub hdma : InRange (m .hdma)
-  pub clock : (m .clock .div < 256) × (m .clock .tima < 1024)
+  pub joypad : joypad.Bytes (m .core .joypad)
+  pub lcd : LcdTyped (m .core .lcd)
+  pub hdma : InRange (m .core .hdma)
+  pub clock : (m .core .clock .div < 256) × (m .core .clock .tima < 1024)
 
 pub typed-fine : (m : Memory) → Typed m → stateInRange m ≡ true → Fine m
 typed-fine m t h =
-    let p = hdma-parts (m .hdma) (m .banks .colour) (range-hdma m h) in
+    let p = hdma-parts (m .core .hdma) (m .core .banks .colour) (range-hdma m h) in
     record {
       oam = record { size = t .oam .0; bytes = t .oam .1 };
       page = record { size = t .page .0; bytes = t .page .1 };
@@ -226,7 +226,7 @@ module _ {m : Memory} (f : Fine m) where
   -- Colour alone
 
   coloured : (at : ℕ) {v : ℕ} {n : Memory} → v < 256 → Fine n → Fine (inColour m at v n)
-  coloured at b n = cond-both Fine (m .banks .colour) n (stored-fine at b)
+  coloured at b n = cond-both Fine (m .core .banks .colour) n (stored-fine at b)
 
   background-ready : palette.Ready (backgroundOf m)
   background-ready =
@@ -253,8 +253,8 @@ module _ {m : Memory} (f : Fine m) where
   unfolding finished
   finished-fine Nothing v = f
   finished-fine Block v =
-      with-ended (hdma.block-range (m .hdma) (loaded m 0x55) (f .hdma)) (hdma.block-bytes (m .hdma) (loaded m 0x55) (f .hdma))
-  finished-fine General v = with-ended (hdma.general-range (m .hdma) v (f .hdma)) (hdma.general-bytes (m .hdma) v)
+      with-ended (hdma.block-range (m .core .hdma) (loaded m 0x55) (f .hdma)) (hdma.block-bytes (m .core .hdma) (loaded m 0x55) (f .hdma))
+  finished-fine General v = with-ended (hdma.general-range (m .core .hdma) v (f .hdma)) (hdma.general-bytes (m .core .hdma) v)
 
   -- a byte written to the page
   module _ (v : ℕ) (b : v < 256) where
@@ -273,30 +273,30 @@ module _ {m : Memory} (f : Fine m) where
     source-high-fine : Fine (sourceHighPut m v)
     unfolding sourceHighPut
     source-high-fine =
-        coloured 0x51 b (with-transfer 0x51 (hdma.source-high-range (m .hdma) v (f .hdma) b) (hdma.source-high-byte (m .hdma) v b))
+        coloured 0x51 b (with-transfer 0x51 (hdma.source-high-range (m .core .hdma) v (f .hdma) b) (hdma.source-high-byte (m .core .hdma) v b))
 
     source-low-fine : Fine (sourceLowPut m v)
     unfolding sourceLowPut
     source-low-fine =
-        coloured 0x52 b (with-transfer 0x52 (hdma.source-low-range (m .hdma) v (f .hdma)) (hdma.source-low-byte (m .hdma) v b))
+        coloured 0x52 b (with-transfer 0x52 (hdma.source-low-range (m .core .hdma) v (f .hdma)) (hdma.source-low-byte (m .core .hdma) v b))
 
     destination-high-fine : Fine (destinationHighPut m v)
     unfolding destinationHighPut
     destination-high-fine =
-        coloured 0x53 b (with-transfer 0x53 (hdma.destination-high-range (m .hdma) v (f .hdma)) (hdma.destination-high-byte (m .hdma) v))
+        coloured 0x53 b (with-transfer 0x53 (hdma.destination-high-range (m .core .hdma) v (f .hdma)) (hdma.destination-high-byte (m .core .hdma) v))
 
     destination-low-fine : Fine (destinationLowPut m v)
     unfolding destinationLowPut
     destination-low-fine =
-        coloured 0x54 b (with-transfer 0x54 (hdma.destination-low-range (m .hdma) v (f .hdma)) (hdma.destination-low-byte (m .hdma) v b))
+        coloured 0x54 b (with-transfer 0x54 (hdma.destination-low-range (m .core .hdma) v (f .hdma)) (hdma.destination-low-byte (m .core .hdma) v b))
 
     start-fine : Fine (startPut m v)
     unfolding startPut
     start-fine =
         let old = loaded m 0x55 in
         coloured 0x55 b
-        (with-transfer 0x55 (hdma.started-range (m .hdma) (m .lcd .mode) v old (f .hdma))
-        (hdma.started-byte (m .hdma) (m .lcd .mode) v old (loaded-byte 0x55)))
+        (with-transfer 0x55 (hdma.started-range (m .core .hdma) (m .core .lcd .mode) v old (f .hdma))
+        (hdma.started-byte (m .core .hdma) (m .core .lcd .mode) v old (loaded-byte 0x55)))
 
     background-index-fine : Fine (backgroundIndexPut m v)
     unfolding backgroundIndexPut
@@ -377,7 +377,7 @@ module _ {m : Memory} (f : Fine m) where
 
   polled-fine : Fine (polledIn m)
   polled-fine =
-      let u = update-bytes (m .joypad) (loaded m 0x00) (loaded m 0x0F) (f .joypad) (loaded-byte 0x0F) in
+      let u = update-bytes (m .core .joypad) (loaded m 0x00) (loaded m 0x0F) (f .joypad) (loaded-byte 0x0F) in
       joypad-fine (u .0) (page-set 0x0F (f .page) (u .1))
 
   changed-fine : (n : ℕ) {next : Memory} → Fine next → Fine (changed n m next .memory)
@@ -417,8 +417,8 @@ module _ {m : Memory} (f : Fine m) where
       on-interrupt removedIn (λ i. stored-fine 0x0F (unset-byte (loaded m 0x0F % 32) (bitOf i) (omega arith))) (named n)
   state-fine on.IsHdmaEnabled t = f
   state-fine (on.UpdateTimer c) t = changed-fine _ (timer-fine c)
-  state-fine (on.Press b) t = changed-fine _ (joypad-fine (press-bytes (m .joypad) b (f .joypad)) (f .page))
-  state-fine (on.Release b) t = changed-fine _ (joypad-fine (release-bytes (m .joypad) b (f .joypad)) (f .page))
+  state-fine (on.Press b) t = changed-fine _ (joypad-fine (press-bytes (m .core .joypad) b (f .joypad)) (f .page))
+  state-fine (on.Release b) t = changed-fine _ (joypad-fine (release-bytes (m .core .joypad) b (f .joypad)) (f .page))
   state-fine on.UpdateJoypad t = changed-fine _ polled-fine
   state-fine on.ClearLog t = changed-fine _ (used-fine 0)
   state-fine (on.Host lcd) t = changed-fine _ (lcd-fine t (f .page))

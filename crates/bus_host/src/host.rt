@@ -58,9 +58,9 @@ fn lent(needs: Lengths, rom: usize, vram: usize, wram: usize, save: usize) -> Le
 pub fn lengths_in(memory: Memory, rom: usize, vram: usize, wram: usize, save: usize) -> Lengths
     ensures { λ r. ⌜ (r ≡ lengthsIn memory rom vram wram save) × ((r .rom ≤ rom) × ((r .vram ≤ vram) × ((r .wram ≤ wram) × (r .save ≤ save)))) ⌝ }
 {
-    let cartridge = memory.cartridge;
-    let mapper = memory.mapper;
-    let kind = memory.banks;
+    let cartridge = memory.core.cartridge;
+    let mapper = memory.core.mapper;
+    let kind = memory.core.banks;
     lent(
         lengths_of(cartridge, mapper, kind.colour),
         rom,

@@ -88,12 +88,12 @@ module _ (i : List ℕ) {d : Loaded} (e : d ≡ loadCall i) where
       unfolding stateEntry encoded
       done-state h g = rw (← e, z, ← f, le-ltb 1 (p .number) h, g)
 
-    pub mapper-read : (rom s : List ℕ) (k : ℕ) {b : ReadByte} → b ≡ mbc.readByte (d .state .cartridge) (d .state .mapper) rom s k
+    pub mapper-read : (rom s : List ℕ) (k : ℕ) {b : ReadByte} → b ≡ mbc.readByte (d .state .core .cartridge) (d .state .core .mapper) rom s k
         → given (b .number) (b .value) ≡ mapperReadEntry i rom s k
     unfolding mapperReadEntry
     mapper-read rom s k f = rw (← e, z, f)
 
-    module _ (k v : ℕ) {b : WriteByte} (f : b ≡ mbc.writeByte (d .state .cartridge) (d .state .mapper) k v) where
+    module _ (k v : ℕ) {b : WriteByte} (f : b ≡ mbc.writeByte (d .state .core .cartridge) (d .state .core .mapper) k v) where
       pub refused-mapper : (b .number ≡ 0 → ⊥) → mapped (b .number) 0 i ≡ mapperWriteEntry i k v
       unfolding mapperWriteEntry encodedMapper
       refused-mapper h = rw (← e, z, ← f, ne-eqb (b .number) 0 h)

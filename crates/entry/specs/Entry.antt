@@ -58,7 +58,7 @@ askEntry i c =
 
 -- how many bytes of the log are used; the all-zero state of a refused image uses none
 abbrev pub usedEntry : List ℕ → Given
-usedEntry i = given (loadCall i .number) (loadCall i .state .used)
+usedEntry i = given (loadCall i .number) (loadCall i .state .core .used)
 
 -- a call that reads what is lent; no log is
 unfoldable pub readEntry : Fixed → List ℕ → List ℕ → List ℕ → List ℕ → Call → Given
@@ -117,8 +117,8 @@ freshEntry i v w b =
 unfoldable pub mapperReadEntry : List ℕ → List ℕ → List ℕ → ℕ → Given
 mapperReadEntry i rom save k =
     cond (eqb (loadCall i .number) done)
-    (given (readByte (loadCall i .state .cartridge) (loadCall i .state .mapper) rom save k .number)
-    (readByte (loadCall i .state .cartridge) (loadCall i .state .mapper) rom save k .value))
+    (given (readByte (loadCall i .state .core .cartridge) (loadCall i .state .core .mapper) rom save k .number)
+    (readByte (loadCall i .state .core .cartridge) (loadCall i .state .core .mapper) rom save k .value))
     (given (loadCall i .number) 0)
 
 -- a mapper's answer as the record that the bus would log: bit 1, address 15 bits, value 8 bits; 0 for "not stored"
@@ -141,5 +141,5 @@ encodedMapper i m w =
 unfoldable pub mapperWriteEntry : List ℕ → ℕ → ℕ → Mapped
 mapperWriteEntry i k v =
     cond (eqb (loadCall i .number) done)
-    (encodedMapper i (loadCall i .state) (writeByte (loadCall i .state .cartridge) (loadCall i .state .mapper) k v))
+    (encodedMapper i (loadCall i .state) (writeByte (loadCall i .state .core .cartridge) (loadCall i .state .core .mapper) k v))
     (mapped (loadCall i .number) 0 i)

@@ -8,7 +8,7 @@ unfoldable pub use Rattle.dispatch.specs.Step.{stateStep}
 pub use Rattle.refusals.proofs.Answers.{both-pass}
 unfoldable pub use Rattle.refusals.specs.Answers.{changed, byteGiven, wordGiven, flagGiven, waitingGiven}
 pub use Rattle.refusals.specs.Refusal.{refusedState, refusedRead, refusedWrite}
-unfoldable pub use Rattle.refusals.specs.Refusal.{orElse, stateRefused, lengthsFit, lengthsRefused, logRefused, readRefused, writeRefused, inSound, eitherInSave}
+unfoldable pub use Rattle.refusals.specs.Refusal.{orElse, stateRefused, lengthsFit, lengthsRefused, logRefused, lentRefused, readRefused, writeRefused, inSound, eitherInSave}
 unfoldable pub use Rattle.refusals.specs.Refusal.{byteRoom, wordRoom, rawRefused, vramLengthRefused, vramRefused}
 pub use Rattle.refusals.specs.declared.Byte.{Byte}
 pub use Rattle.refusals.specs.declared.Word.{Word}

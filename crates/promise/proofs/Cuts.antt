@@ -116,7 +116,7 @@ Wholes (l ∷ ls) = WholeCopy l × Wholes ls
 used-whole : (w : World) → Good w → WholeCopy (usedBytes w)
 used-whole w g =
     let u = good-use g in
-    let e = length-take-le (w .state .used) (w .log) (u .1) in
+    let e = length-take-le (w .state .core .used) (w .log) (u .1) in
     (rw e (u .0), rw e (omega (arith, u .1, g .holds .log)))
 
 before-whole : (k : Kind) (n : ℕ) (w : World) (ls : List (List ℕ)) → WholeCopy (usedBytes w) → Wholes ls → Wholes (copiedBefore k n w ++ ls)

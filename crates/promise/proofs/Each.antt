@@ -121,7 +121,7 @@ transfer-promise x w = (
 -- Calls with no index in A000..BFFF
 
 abbrev Spared : Kind → World → World → Type 0
-Spared k w u = (u .save ≡ w .save) × (u .log ≡ w .log) × ((k ≡ Clearing → ⊥) → u .state .used ≡ w .state .used)
+Spared k w u = (u .save ≡ w .save) × (u .log ≡ w .log) × ((k ≡ Clearing → ⊥) → u .state .core .used ≡ w .state .core .used)
 
 spared : {w u : World} (k : Kind) → Untouched w u → Spared k w u
 spared k t = (t .save, t .log, λ h. t .used)
@@ -134,10 +134,10 @@ neither : (a b : Bool) → (a || b) ≡ false → (a ≡ false) × (b ≡ false)
 neither true b e = not-done (sym e)
 neither false b e = (refl, e)
 
-changed-used : (w : World) (n : ℕ) (next : Memory) → next .used ≡ w .state .used → changed n (w .state) next .memory .used ≡ w .state .used
+changed-used : (w : World) (n : ℕ) (next : Memory) → next .used ≡ w .state .core .used → changed n (w .state) next .memory .core .used ≡ w .state .core .used
 unfolding changed
 changed-used w n next e =
-    by-cond (λ (d : Done). d .memory .used ≡ w .state .used) (eqb n 0) _ _ (λ t. e) (λ f. refl)
+    by-cond (λ (d : Done). d .memory .core .used ≡ w .state .core .used) (eqb n 0) _ _ (λ t. e) (λ f. refl)
 
 state-spared : (w : World) {k : Kind} {p : Performed} → Answers (w .state) k p → Spared k w (inWorld w p .after)
 state-spared w (reads n v z) = spared Reading (same w)

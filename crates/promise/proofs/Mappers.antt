@@ -25,7 +25,7 @@ use Rattle.registers.specs.declared.transfers.Copy.{Copy}
 use Rattle.savelog.specs.Log.{width}
 
 abbrev pub SameMapper : World → World → Type 0
-SameMapper w u = u .state .mapper ≡ w .state .mapper
+SameMapper w u = u .state .core .mapper ≡ w .state .core .mapper
 
 -- one byte
 
@@ -43,8 +43,8 @@ saved-mapper w NotStored = refl
 pub save-mapper : (w : World) (i v : ℕ) → SameMapper w (savePut w i v)
 unfolding savePut
 save-mapper w i v =
-    cond-both (SameMapper w) (ltb (length (w .log)) (w .state .used + width)) refl
-    (saved-mapper w (answer (w .state .cartridge) (w .state .mapper) i v))
+    cond-both (SameMapper w) (ltb (length (w .log)) (w .state .core .used + width)) refl
+    (saved-mapper w (answer (w .state .core .cartridge) (w .state .core .mapper) i v))
 
 put-at-mapper : (w : World) (i v : ℕ) → 0x8000 ≤ i → SameMapper w (putAt w i v)
 unfolding putAt
@@ -78,10 +78,10 @@ unfolding destinationUsed
 destination-least h = omega arith
 
 pub block-high : (m : Memory) → High (blockCopy m)
-block-high m k h = omega (arith, destination-least (m .hdma))
+block-high m k h = omega (arith, destination-least (m .core .hdma))
 
 general-high : (m : Memory) (v : ℕ) → High (generalCopy m v)
-general-high m v k h = omega (arith, destination-least (m .hdma))
+general-high m v k h = omega (arith, destination-least (m .core .hdma))
 
 started-high : (m : Memory) (v : ℕ) (s : Start) → High (startedCopy m v s)
 started-high m v start.Nothing = none-high
@@ -92,7 +92,7 @@ pub copy-high : (m : Memory) (index v : ℕ) → High (copyOf m index v)
 unfolding copyOf startCopy
 copy-high m index v =
     cond-both High (eqb index 0xFF46) (oam-high v)
-    (cond-both High (eqb index 0xFF55) (cond-both High (m .banks .colour) (started-high m v (starts (m .hdma .on) (m .lcd .mode) v)) none-high)
+    (cond-both High (eqb index 0xFF55) (cond-both High (m .core .banks .colour) (started-high m v (starts (m .core .hdma .on) (m .core .lcd .mode) v)) none-high)
     none-high)
 
 -- so transfers

@@ -19,6 +19,7 @@ use Rattle.promise.proofs.Bus.{
   stateRefused,
   lengthsFit,
   lengthsRefused,
+  lentRefused,
   logRefused,
   writeRefused,
   refusedWrite,
@@ -54,9 +55,9 @@ pub state-refusal : (m : Memory) (limit : ℕ) → Refusal (stateRefused m limit
 unfolding stateRefused
 state-refusal m limit = test-refusal (inRange m limit) 3 refl
 
-lengths-refusal : (m : Memory) (rom vram wram save sound : ℕ) → Refusal (lengthsRefused m rom vram wram save sound)
+lengths-refusal : (m : Memory) (rom vram wram save sound : ℕ) → Refusal (lengthsRefused (m .core) rom vram wram save sound)
 unfolding lengthsRefused
-lengths-refusal m rom vram wram save sound = test-refusal (lengthsFit m rom vram wram save sound) 4 refl
+lengths-refusal m rom vram wram save sound = test-refusal (lengthsFit (m .core) rom vram wram save sound) 4 refl
 
 log-refusal : (log : ℕ) → Refusal (logRefused log)
 unfolding logRefused
@@ -64,24 +65,24 @@ log-refusal log = test-refusal (leb log logLimit) 4 refl
 
 module _ (x : Fixed) (w : World) where
   write-refusal : Refusal (refusedWrite x w)
-  unfolding writeRefused
+  unfolding writeRefused lentRefused
   write-refusal =
       or-refusal (stateRefused (w .state) (length (w .log))) _ (state-refusal (w .state) (length (w .log)))
-      (or-refusal (lengthsRefused (w .state) (length (x .rom)) (length (w .vram)) (length (w .wram)) (length (w .save)) (length (x .sound))) _
+      (or-refusal (lengthsRefused (w .state .core) (length (x .rom)) (length (w .vram)) (length (w .wram)) (length (w .save)) (length (x .sound))) _
       (lengths-refusal (w .state) (length (x .rom)) (length (w .vram)) (length (w .wram)) (length (w .save)) (length (x .sound)))
       (log-refusal (length (w .log))))
 
-  pub byte-refusal : (i : ℕ) → Refusal (orElse (refusedWrite x w) (byteRoom (w .state .used) (length (w .log)) i))
+  pub byte-refusal : (i : ℕ) → Refusal (orElse (refusedWrite x w) (byteRoom (w .state .core .used) (length (w .log)) i))
   unfolding byteRoom
   byte-refusal i =
       or-refusal (refusedWrite x w) _ write-refusal
-      (room-refusal (inSave i && ltb (length (w .log)) (w .state .used + width)) 2 refl)
+      (room-refusal (inSave i && ltb (length (w .log)) (w .state .core .used + width)) 2 refl)
 
-  pub word-refusal : (i : ℕ) → Refusal (orElse (refusedWrite x w) (wordRoom (w .state .used) (length (w .log)) i))
+  pub word-refusal : (i : ℕ) → Refusal (orElse (refusedWrite x w) (wordRoom (w .state .core .used) (length (w .log)) i))
   unfolding wordRoom
   word-refusal i =
       or-refusal (refusedWrite x w) _ write-refusal
-      (room-refusal (eitherInSave i && ltb (length (w .log)) (w .state .used + (width + width))) 2 refl)
+      (room-refusal (eitherInSave i && ltb (length (w .log)) (w .state .core .used + (width + width))) 2 refl)
 
 -- none of two is due
 pub or-second : (n k : ℕ) → orElse n k ≡ 0 → k ≡ 0

@@ -50,7 +50,7 @@ recovers-cut (more {c} {cs} h hs) s n m e =
     )
 
 -- a bus whose log is unused, as a fresh one is
-module _ (w : World) (g : Good w) (unused : w .state .used ≡ 0) (ts : List Turn) where
+module _ (w : World) (g : Good w) (unused : w .state .core .used ≡ 0) (ts : List Turn) where
   run-stood : (later : List Turn) → run w ts .save ≡ applyAll (w .save) (take (length (admittedFrom w ts)) (admittedFrom w (ts ++ later)))
   run-stood later =
       let a = admittedFrom w ts in
@@ -62,13 +62,13 @@ module _ (w : World) (g : Good w) (unused : w .state .used ≡ 0) (ts : List Tur
 
   module _ (t : Typed (calls ts)) where
     -- the admitted writes fit the save, so their records are read back, and are sound
-    admitted-fit : Fit (ramLen (w .state .cartridge) (w .state .mapper)) (admittedFrom w ts)
-    admitted-fit = let-fit (w .state .cartridge) (w .state .mapper) _ (granted-bytes (numbers w ts) (calls ts) t)
+    admitted-fit : Fit (ramLen (w .state .core .cartridge) (w .state .core .mapper)) (admittedFrom w ts)
+    admitted-fit = let-fit (w .state .core .cartridge) (w .state .core .mapper) _ (granted-bytes (numbers w ts) (calls ts) t)
 
     run-names : records (joined (copiesFrom w ts)) ≡ admittedFrom w ts
     run-names =
         ap records run-records
-        ∙ fit-read _ (ram-len-most (w .state .cartridge) (w .state .mapper)) (admittedFrom w ts) admitted-fit
+        ∙ fit-read _ (ram-len-most (w .state .core .cartridge) (w .state .core .mapper)) (admittedFrom w ts) admitted-fit
 
     run-copies : Copies (length (w .save)) (copiesFrom w ts)
     run-copies =
@@ -78,7 +78,7 @@ module _ (w : World) (g : Good w) (unused : w .state .used ≡ 0) (ts : List Tur
         copies-sound (length (w .save)) ls (copies-whole w ts g) s
 
     saves : oneOf (length (w .save)) saveLengths ≡ true
-    saves = rw (g .holds .save) (ram-taken (w .state .cartridge) (w .state .mapper))
+    saves = rw (g .holds .save) (ram-taken (w .state .core .cartridge) (w .state .core .mapper))
 
     run-recovers : (n : ℕ) → Recovers (w .save) (cutCopies n (copiesFrom w ts))
     run-recovers n = recovers-cut run-copies (w .save) n refl saves
@@ -91,7 +91,7 @@ module _ (w : World) (g : Good w) (unused : w .state .used ≡ 0) (ts : List Tur
 admitted-is : (l : Lent) (ts : List Turn) → Started l (start l) → admittedFrom (begin l) ts ≡ admitted l ts
 admitted-is l ts s =
     let ns = numbers (begin l) ts in
-    ap (λ (c : Cartridge). admittedBy c (begin l .state .mapper) ns (calls ts)) (s .cartridge)
+    ap (λ (c : Cartridge). admittedBy c (begin l .state .core .mapper) ns (calls ts)) (s .cartridge)
     ∙ ap (λ (m : Mapper). admittedBy (cartridgeOf (l .banks) (l .code)) m ns (calls ts)) (s .mapper)
 
 pub promise : Promise
@@ -100,7 +100,7 @@ promise l ts z =
     let g = s .good in
     let e = admitted-is l ts s in
     let h = run-good (begin l) ts g in
-    let c : after l ts .state .cartridge ≡ cartridgeOf (l .banks) (l .code) = run-cartridge (begin l) ts g ∙ s .cartridge in
+    let c : after l ts .state .core .cartridge ≡ cartridgeOf (l .banks) (l .code) = run-cartridge (begin l) ts g ∙ s .cartridge in
     record {
       save = run-save (begin l) ts g ∙ ap (applyAll (l .image)) e;
       log = run-records (begin l) g (s .unused) ts ∙ ap recordsOf e;

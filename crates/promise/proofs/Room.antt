@@ -18,12 +18,12 @@ use Rattle.promise.proofs.Bus.{orElse, eitherInSave, byteRoom, wordRoom
 use Rattle.promise.proofs.Open.{Good, good-use, alone-open, write-number}
 
 -- what is free is what is not used
-free-room : (w : World) → Good w → (n : ℕ) → ltb (length (w .log)) (w .state .used + n) ≡ ltb (free w) n
+free-room : (w : World) → Good w → (n : ℕ) → ltb (length (w .log)) (w .state .core .used + n) ≡ ltb (free w) n
 free-room w g n = by-test (ltb (free w) n) refl
   where
-    by-test : (b : Bool) → ltb (free w) n ≡ b → ltb (length (w .log)) (w .state .used + n) ≡ b
-    by-test true e = lt-ltb (length (w .log)) (w .state .used + n) (omega (arith, ltb-true (free w) n e, good-use g .1))
-    by-test false e = le-ltb (length (w .log)) (w .state .used + n) (omega (arith, ltb-false (free w) n e, good-use g .1))
+    by-test : (b : Bool) → ltb (free w) n ≡ b → ltb (length (w .log)) (w .state .core .used + n) ≡ b
+    by-test true e = lt-ltb (length (w .log)) (w .state .core .used + n) (omega (arith, ltb-true (free w) n e, good-use g .1))
+    by-test false e = le-ltb (length (w .log)) (w .state .core .used + n) (omega (arith, ltb-false (free w) n e, good-use g .1))
 
 -- 4 comes before 2
 room-number : (f b : Bool) (w : World) (o : Outcome)
@@ -35,7 +35,7 @@ room-number false b w o = refl
 
 module _ (w : World) (g : Good w) (x : Fixed) where
   abbrev lentRight : Bool
-  lentRight = fits (w .state .cartridge) x
+  lentRight = fits (w .state .core .cartridge) x
 
   pub byte-number : (i v : ℕ)
       → step x w (call.WriteByte i v) .number ≡ cond lentRight (cond (inSave i && ltb (free w) width) noRoom (byteOwed i)) wrongLength

@@ -14,11 +14,11 @@ use Rattle.promise.proofs.Steps.{Moved, moved}
 
 -- the admitted writes on any bus
 abbrev pub admittedFrom : World → List Turn → List Rec
-admittedFrom w ts = admittedBy (w .state .cartridge) (w .state .mapper) (numbers w ts) (calls ts)
+admittedFrom w ts = admittedBy (w .state .core .cartridge) (w .state .core .mapper) (numbers w ts) (calls ts)
 
 -- what the first call stores
 abbrev pub first : World → Turn → List Rec
-first w t = letInAll (w .state .cartridge) (w .state .mapper) (granted (made w t .number) (t .call))
+first w t = letInAll (w .state .core .cartridge) (w .state .core .mapper) (granted (made w t .number) (t .call))
 
 pub made-moved : (w : World) → Good w → (t : Turn) → Moved w (t .call) (made w t)
 made-moved w g t = moved (t .read) w g (t .call)
@@ -28,16 +28,16 @@ unfolding run
 run-good w [] g = g
 run-good w (t ∷ ts) g = run-good (made w t .after) ts (made-moved w g t .good)
 
-pub run-cartridge : (w : World) (ts : List Turn) → Good w → run w ts .state .cartridge ≡ w .state .cartridge
+pub run-cartridge : (w : World) (ts : List Turn) → Good w → run w ts .state .core .cartridge ≡ w .state .core .cartridge
 unfolding run
 run-cartridge w [] g = refl
-run-cartridge w (t ∷ ts) g = let m = made-moved w g t in run-cartridge (made w t .after) ts (m .good) ∙ m .cartridge
+run-cartridge w (t ∷ ts) g = let m = made-moved w g t in run-cartridge (made w t .after) ts (m .good) ∙ m .core .cartridge
 
 pub admitted-more : (w : World) → Good w → (t : Turn) (ts : List Turn) → admittedFrom w (t ∷ ts) ≡ first w t ++ admittedFrom (made w t .after) ts
 unfolding numbers grantedAll
 admitted-more w g t ts =
     let m = made-moved w g t in
-    rw (let-append (w .state .cartridge) (w .state .mapper) (granted (made w t .number) (t .call)) _, ← m .mapper, m .cartridge)
+    rw (let-append (w .state .core .cartridge) (w .state .core .mapper) (granted (made w t .number) (t .call)) _, ← m .core .mapper, m .core .cartridge)
 
 pub run-save : (w : World) (ts : List Turn) → Good w → run w ts .save ≡ applyAll (w .save) (admittedFrom w ts)
 unfolding run numbers grantedAll letInAll applyAll

@@ -20,7 +20,7 @@ use Rattle.promise.specs.Bus.{Begun, begun}
 use Rattle.promise.specs.Each.{RefusedFresh}
 use Rattle.promise.specs.Promise.{Begins}
 use Rattle.promise.specs.Runs.{Lent, start}
-use Rattle.promise.proofs.Bus.{orElse, lengthsRefused, lengthsFit, both-pass, lengths-pass, startedBy, freshRefused, beginning, logRefused}
+use Rattle.promise.proofs.Bus.{orElse, lentRefused, lengthsRefused, lengthsFit, both-pass, lengths-pass, startedBy, freshRefused, beginning, logRefused}
 use Rattle.promise.proofs.Open.{Good}
 
 -- what was begun and not refused
@@ -58,9 +58,9 @@ log-passes n z = leb-true n logLimit (passes (leb n logLimit) z)
 
 pub record Started (l : Lent) (b : Begun) : Type 0 where
   pub good : Good (world (b .state) (b .vram) (b .wram) (l .image) (l .log))
-  pub unused : b .state .used ≡ 0
-  pub cartridge : b .state .cartridge ≡ mbc.cartridgeOf (l .banks) (l .code)
-  pub mapper : b .state .mapper ≡ mbc.start (l .kind)
+  pub unused : b .state .core .used ≡ 0
+  pub cartridge : b .state .core .cartridge ≡ mbc.cartridgeOf (l .banks) (l .code)
+  pub mapper : b .state .core .mapper ≡ mbc.start (l .kind)
 
 begun-started : (l : Lent)
     → freshRefused (mbc.fresh (l .kind) (l .banks) (l .code) .number) (startedBy (l .kind) (l .banks) (l .code) (l .colour)) (length (l .rom))
@@ -68,7 +68,7 @@ begun-started : (l : Lent)
     ≡ 0
     → Started l
     (begun 0 (startedBy (l .kind) (l .banks) (l .code) (l .colour)) (replicate (length (l .vram)) 0) (replicate (length (l .wram)) 0))
-unfolding freshRefused startedWith useInRange
+unfolding freshRefused lentRefused startedWith useInRange
 begun-started l e =
     let p = both-pass _ _ e in
     let q = both-pass _ _ (p .1) in
@@ -86,8 +86,8 @@ begun-started l e =
         used = rw (le-leb 0 (length (l .log)) (omega arith));
       };
       unused = refl;
-      cartridge = ap (λ (m : Fresh). m .cartridge) (f .0);
-      mapper = ap (λ (m : Fresh). m .mapper) (f .0);
+      cartridge = ap (λ (m : Fresh). m .core .cartridge) (f .0);
+      mapper = ap (λ (m : Fresh). m .core .mapper) (f .0);
     }
 
 pub started : (l : Lent) → start l .number ≡ done → Started l (start l)
@@ -100,7 +100,7 @@ unfolding mbc.fresh
 fresh-accepted kind banks code k d = rw (le-leb kind 2 k, d)
 
 pub begins : Begins
-unfolding beginning freshRefused orElse lengthsRefused lengthsFit logRefused startedWith
+unfolding beginning freshRefused orElse lentRefused lengthsRefused lengthsFit logRefused startedWith
 begins l f =
     rw (
       fresh-accepted (l .kind) (l .banks) (l .code) (f .kind) (f .described),

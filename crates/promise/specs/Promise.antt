@@ -32,7 +32,7 @@ Recovers save (c ∷ cs) = (recovery save c .number ≡ done) × Recovers (recov
 
 -- the bytes of the log that are free
 abbrev pub free : World → ℕ
-free w = length (w .log) - w .state .used
+free w = length (w .log) - w .state .core .used
 
 pub record Kept (l : Lent) (ts : List Turn) : Type 0 where
   -- "The save is that image with exactly those byte writes applied"
@@ -60,7 +60,7 @@ pub record Kept (l : Lent) (ts : List Turn) : Type 0 where
       (cond ((inSave i || inSave (nextIndex i)) && ltb (free (after l ts)) 6) noRoom (wordOwed i)) wrongLength
   pub clears : (x : Fixed) → step x (after l ts) (call.State on.ClearLog) .number ≡ done
   -- what is used of the log is whole records, and lies within it
-  pub within : (after l ts .state .used % 3 ≡ 0) × (after l ts .state .used ≤ length (after l ts .log))
+  pub within : (after l ts .state .core .used % 3 ≡ 0) × (after l ts .state .core .used ≤ length (after l ts .log))
 
 -- "Take a fresh bus over a save image and any list of bus calls"
 abbrev pub Promise : Type 0

@@ -84,7 +84,7 @@ admitted l ts = admittedBy (cartridgeOf (l .banks) (l .code)) (mapperOf (l .kind
 -- "The log's used bytes are copied off before each clearing and at the end": a clearing that is refused clears nothing, and nothing is copied
 
 abbrev pub usedBytes : World → List ℕ
-usedBytes w = take (w .state .used) (w .log)
+usedBytes w = take (w .state .core .used) (w .log)
 
 abbrev pub copiedBefore : Kind → ℕ → World → List (List ℕ)
 copiedBefore Reading n w = []

@@ -62,7 +62,7 @@ fn put_save(
     value: u8,
 ) -> u16
     requires { ⌜ ((length (now image) ≡ 665) × Slim (core .mapper)) × (((0xA000 ≤ at) × (at < 0xC000)) × ((inRange (core .cartridge) (core .mapper) ≡ true) × ((length (now save) ≡ ramLen (core .cartridge) (core .mapper)) × (length (now log) ≤ logLimit)))) ⌝ }
-    ensures { λ r. ⌜ (now (image .exit) ≡ mappingPut (now (image .entry)) (core .mapper) r) × ((m : Memory) → m .cartridge ≡ core .cartridge → m .mapper ≡ core .mapper → m .used ≡ core .used → world (withUsed m r) [] [] (now (save .exit)) (now (log .exit)) ≡ savePut (world m [] [] (now (save .entry)) (now (log .entry))) at value) ⌝ }
+    ensures { λ r. ⌜ (now (image .exit) ≡ mappingPut (now (image .entry)) (core .mapper) r) × ((m : Memory) → m .core .cartridge ≡ core .cartridge → m .core .mapper ≡ core .mapper → m .core .used ≡ core .used → world (withUsed m r) [] [] (now (save .exit)) (now (log .exit)) ≡ savePut (world m [] [] (now (save .entry)) (now (log .entry))) at value) ⌝ }
 {
     let cartridge = core.cartridge;
     let mapper = core.mapper;
