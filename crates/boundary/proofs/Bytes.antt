@@ -7,6 +7,7 @@ use lib.Bits.{bitOr, or-lt}
 use lib.Dec.{eqb, ltb, lit<}
 use lib.ListN.{length}
 use Rattle.bus.specs.Calls.{Outcome}
+use Rattle.dispatch.proofs.Numbered.{by-unless}
 use Rattle.dispatch.specs.Step.{step}
 use Rattle.dispatch.specs.declared.Call.{Call}
 use Rattle.dispatch.specs.declared.Call.the-variants as call
@@ -25,7 +26,6 @@ use Rattle.mmu.specs.Access.{lentAt, byteAt, readIn, saved, savePut, putAt, put
 use Rattle.mmu.specs.PanDocs.{echo}
 use Rattle.mmu.specs.Write.{copyBy, transferred, writeAt, wordAt}
 use Rattle.packing.specs.Packing.{Below}
-use Rattle.promise.proofs.Numbered.{by-unless}
 use Rattle.registers.proofs.Kept.{cond-both}
 use Rattle.registers.specs.Page.{byKind, lineRead, plainRead, shownAs, readRegister}
 use Rattle.registers.specs.State.{loaded}

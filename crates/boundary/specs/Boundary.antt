@@ -4,6 +4,7 @@ use mathlib.Core.List.{List}
 use mathlib.Core.Path.{_≡_}
 use Prim.Native.Nat.{ℕ, _/_}
 use lib.ListN.{take}
+use Rattle.dispatch.specs.Lent.{Lent, start}
 use Rattle.entry.specs.Entry.{Fresh, freshEntry}
 use Rattle.image.specs.Load.{storable}
 use Rattle.mbc.specs.Mbc.{cartridgeOf, start as mapperOf}
@@ -12,7 +13,7 @@ use Rattle.numbers.specs.Numbers.{done}
 use Rattle.packing.specs.Packing.{Below}
 use Rattle.promise.specs.Admitted.{admittedBy, recordsOf}
 use Rattle.promise.specs.Promise.{Recovers}
-use Rattle.promise.specs.Runs.{Lent, start, Turn, calls, run, copiesFrom}
+use Rattle.promise.specs.Runs.{Turn, calls, run, copiesFrom}
 use Rattle.savelog.specs.Log.{Rec, records, applyAll, recoverAll, joined, cutCopies}
 use Rattle.boundary.specs.Held.{Held, held, entryRun, entryAnswers, answers, numbersOf, entryCopies}
 use Rattle.boundary.specs.Types.{TurnsTyped, WorldTyped}

@@ -6,6 +6,8 @@ use Prim.Native.Nat.{ℕ}
 use lib.Dec.{eqb}
 use lib.ListN.{length}
 use Rattle.bus.specs.Calls.{Outcome, outcome, unless}
+use Rattle.dispatch.proofs.Open.{Good, stays-good, alone-open, read-number, write-number}
+use Rattle.dispatch.specs.Lent.{fits}
 use Rattle.dispatch.specs.Step.{inWorld, performedDone, stateStep, step}
 use Rattle.joypad.specs.Joypad as joypad
 use Rattle.memory.specs.World.{World, Fixed}
@@ -14,8 +16,6 @@ use Rattle.mmu.proofs.Laws.{Stays, stays-refl, kept-stays, write-stays, transfe
 use Rattle.mmu.specs.Access.{readIn, inState}
 use Rattle.mmu.specs.Write.{writeAt, transferred}
 use Rattle.numbers.specs.Numbers.{done}
-use Rattle.promise.proofs.Open.{Good, stays-good, alone-open, read-number, write-number}
-use Rattle.promise.specs.Runs.{fits}
 use Rattle.refusals.specs.Answers.{changed, byteGiven}
 use Rattle.refusals.specs.Refusal.{orElse, byteRoom, byteOwed, cyclesRefused}
 use Rattle.refusals.specs.declared.Done.{Done}

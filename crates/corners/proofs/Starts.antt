@@ -7,6 +7,8 @@ use native.Mathlib.Omega.{arith}
 use lib.ListN.{length, replicate, length-replicate}
 use borrow.Author.Tests.{eq-eqb, le-leb}
 use Rattle.bus.specs.Fresh.{begun, freshRefused, beginning}
+use Rattle.dispatch.proofs.Open.{Good}
+use Rattle.dispatch.specs.Lent.{fits}
 use Rattle.mbc.specs.Mbc as mbc
 use Rattle.mbc.specs.declared.cartridge.Cartridge.{Cartridge}
 use Rattle.mbc.specs.declared.mbc.Mapper.{Mapper}
@@ -15,8 +17,6 @@ use Rattle.memory.specs.Ranges.{vramLen, wramLen, soundLen}
 use Rattle.memory.specs.Start.{started}
 use Rattle.memory.specs.World.{World, world}
 use Rattle.numbers.specs.Numbers.{done}
-use Rattle.promise.proofs.Open.{Good}
-use Rattle.promise.specs.Runs.{fits}
 use Rattle.refusals.specs.Refusal.{orElse, lentRefused, lengthsFit, lengthsRefused, logRefused}
 use Rattle.savelog.specs.Log.{useInRange}
 use Rattle.corners.specs.Rows.{Lent, bytes, logLen, Description, Line, freshOn, fixedOn, seenOn, due, dueOn}

@@ -1,5 +1,5 @@
 -- What an entry needs: an image that was loaded has 665 bytes and a state in range, and every call leaves a state in range.
-use mathlib.Core.Bool.{Bool, true, false, not, cond, _&&_}
+use mathlib.Core.Bool.{Bool, true, not, _&&_}
 use mathlib.Core.List.{List}
 use mathlib.Core.Path.{_≡_, refl, sym, ap, _∙_}
 use Prim.Native.Nat.{ℕ, _%_, _≤_}
@@ -10,6 +10,11 @@ use borrow.Author.Tests.{eqb-true, leb-true, le-leb}
 use Rattle.bus.proofs.Passes.{write-passes}
 use Rattle.bus.specs.Calls.{Outcome}
 use Rattle.bus.specs.Fresh.{Begun, freshCall}
+use Rattle.dispatch.proofs.Numbered.{by-unless}
+use Rattle.dispatch.proofs.Starts.{started}
+use Rattle.dispatch.proofs.States.{Answers, reads, changes, clears, state-answers}
+use Rattle.dispatch.specs.Kinds.{Kind}
+use Rattle.dispatch.specs.Lent.{Lent, start}
 use Rattle.dispatch.specs.Step.{step, stateStep}
 use Rattle.dispatch.specs.declared.Call.{Call}
 use Rattle.dispatch.specs.declared.Call.the-variants as call
@@ -29,12 +34,7 @@ use Rattle.memory.specs.Ranges.{stateInRange, inRange}
 use Rattle.memory.specs.World.{World, Fixed, withUsed, withMapper}
 use Rattle.memory.specs.declared.Memory.{Memory}
 use Rattle.mmu.proofs.Laws.{Stays, write-stays, word-stays, transfer-stays}
-use Rattle.mmu.specs.Access.{Ready, Holds}
-use Rattle.promise.proofs.Numbered.{by-unless}
-use Rattle.promise.proofs.Starts.{started}
-use Rattle.promise.proofs.States.{Answers, reads, changes, clears, state-answers}
-use Rattle.promise.specs.Calls.{Kind}
-use Rattle.promise.specs.Runs.{Lent, start}
+use Rattle.mmu.specs.Access.{Ready}
 use Rattle.refusals.proofs.Answers.{both-pass, state-passes}
 use Rattle.refusals.specs.Answers.{changed}
 use Rattle.refusals.specs.Refusal.{refusedWrite, refusedState, lentRefused, writeRefused}

@@ -1,12 +1,13 @@
 -- What an entry of the C boundary does: decode the image, make the call, encode the state (document 01, "are exported to our C host on numbers and
 -- byte slices": the state as an image, the memories lent, a number answered). A refusal leaves image and memories as they are and gives 0.
-use mathlib.Core.Bool.{Bool, cond}
+use mathlib.Core.Bool.{cond}
 use mathlib.Core.List.{List, []}
 use Prim.Native.Nat.{ℕ, _+_, _*_, _%_}
-use lib.Dec.{eqb, ltb}
+use lib.Dec.{eqb}
 use lib.ListN.{length}
 use Rattle.bus.specs.Calls.{Outcome}
 use Rattle.bus.specs.Fresh.{Begun}
+use Rattle.dispatch.specs.Kinds.{refused}
 use Rattle.dispatch.specs.Step.{step, stateStep}
 use Rattle.dispatch.specs.declared.Call.{Call}
 use Rattle.dispatch.specs.declared.Performed.{Performed}
@@ -19,11 +20,7 @@ use Rattle.mbc.specs.declared.mbc.Answer.the-variants.{Stored, NotStored}
 use Rattle.mbc.specs.declared.mbc.WriteByte.{WriteByte}
 use Rattle.memory.specs.World.{World, world, Fixed, withMapper}
 use Rattle.memory.specs.declared.Memory.{Memory}
-use Rattle.numbers.specs.Numbers.{done, owed, wrongLength}
-
--- 0 and 1 are done, any other number refuses
-abbrev pub refuses : ℕ → Bool
-refuses n = ltb owed n
+use Rattle.numbers.specs.Numbers.{done, wrongLength}
 
 -- An entry that changes the state alone: the number, and the image as it is then
 
@@ -35,7 +32,7 @@ abbrev pub changed : ℕ → List ℕ → Changed
 changed n i = record { number = n; image = i }
 
 unfoldable pub encoded : List ℕ → Performed → Changed
-encoded i p = cond (refuses (p .number)) (changed (p .number) i) (changed (p .number) (imageOf (p .memory)))
+encoded i p = cond (refused (p .number)) (changed (p .number) i) (changed (p .number) (imageOf (p .memory)))
 
 unfoldable pub stateEntry : List ℕ → StateCall → Changed
 stateEntry i c =
@@ -86,7 +83,7 @@ leftIn n v i w = left n v i (w .vram) (w .wram) (w .save) (w .log)
 
 unfoldable pub encodedIn : List ℕ → World → Outcome → Left
 encodedIn i w o =
-    cond (refuses (o .number)) (leftIn (o .number) 0 i w)
+    cond (refused (o .number)) (leftIn (o .number) 0 i w)
     (leftIn (o .number) (o .value) (imageOf (o .after .state)) (o .after))
 
 unfoldable pub worldEntry : Fixed → List ℕ → List ℕ → List ℕ → List ℕ → List ℕ → Call → Left

@@ -8,6 +8,7 @@ use lib.Dec.{eqb, ltb}
 use lib.ListN.{length, length-append}
 use lib.Seq.{take-at, drop-at, length-take-le}
 use borrow.Author.Tests.{eq-eqb, lt-ltb}
+use Rattle.dispatch.proofs.Open.{Good, good-use}
 use Rattle.mbc.proofs.Laws.{stored-within, ram-len-after}
 use Rattle.mbc.specs.Mbc.{ramBanks, ramLen, answer}
 use Rattle.mbc.specs.declared.cartridge.Cartridge.{Cartridge}
@@ -22,13 +23,12 @@ use Rattle.savelog.proofs.Laws.{round, records-cons, records-none}
 use Rattle.savelog.proofs.Prefix.{records-append}
 use Rattle.savelog.specs.Laws.{Copies, none, more}
 use Rattle.savelog.specs.Log.{Rec, width, addressEnd, recordBytes, stored, records, soundRecord, allSound, joined, logLimit, saveLengths, oneOf}
-use Rattle.promise.specs.Bus.{Call, inSave}
-use Rattle.promise.specs.Calls.{ByteWrite, refused, Kind, Reading, Clearing, Other, kindOf}
+use Rattle.promise.specs.Bus.{Call, inSave, refused, Kind, Reading, Clearing, Other, kindOf}
+use Rattle.promise.specs.Calls.{ByteWrite}
 use Rattle.promise.specs.Admitted.{granted, grantedAll, mapperAfter, answered, letIn, letInAll, recordsOf}
 use Rattle.promise.specs.Promise.{Bytes, Typed}
 use Rattle.promise.specs.Runs.{Turn, made, usedBytes, copiedBefore, copiesFrom}
 use Rattle.promise.proofs.Writes.{record-length}
-use Rattle.promise.proofs.Open.{Good, good-use}
 use Rattle.promise.proofs.Runs.{made-moved}
 
 -- Records that a log for a save of `ram` bytes holds

@@ -5,6 +5,8 @@ use mathlib.Core.Path.{_≡_, refl, ap, sym, subst, _∙_}
 use Prim.Native.Nat.{ℕ, _-_, _/_}
 use lib.ListN.{length, take}
 use lib.Seq.{take-at}
+use Rattle.dispatch.proofs.Open.{Good, good-use}
+use Rattle.dispatch.proofs.Starts.{Started, started}
 use Rattle.mbc.proofs.Laws.{ram-len-most}
 use Rattle.mbc.specs.Mbc as mbc
 use Rattle.mbc.specs.Mbc.{cartridgeOf, ramLen}
@@ -14,15 +16,13 @@ use Rattle.memory.specs.World.{World}
 use Rattle.savelog.proofs.Prefix as savelog
 use Rattle.savelog.specs.Laws.{Copies, none, more}
 use Rattle.savelog.specs.Log.{Rec, Outcome, width, records, allSound, applyAll, saveLengths, oneOf, recoverAll, joined, cutCopies}
-use Rattle.promise.specs.Bus.{inSave}
+use Rattle.promise.specs.Bus.{inSave, Lent, start, begin}
 use Rattle.promise.specs.Admitted.{admittedBy, grantedAll, mapperAfter, letIn, letInAll, recordsOf}
 use Rattle.promise.specs.Promise.{Typed, Recovers, Promise, Example}
-use Rattle.promise.specs.Runs.{Lent, start, begin, Turn, calls, made, run, after, numbers, admitted, copiesFrom, copies}
+use Rattle.promise.specs.Runs.{Turn, calls, made, run, after, numbers, admitted, copiesFrom, copies}
 use Rattle.promise.proofs.Cuts.{Fit, fit-sound, fit-read, let-fit, granted-bytes, ram-taken, copies-whole, copies-sound}
-use Rattle.promise.proofs.Open.{Good, good-use}
 use Rattle.promise.proofs.Room.{byte-number, word-number, clear-number}
 use Rattle.promise.proofs.Runs.{admittedFrom, first, made-moved, run-good, run-cartridge, admitted-more, run-save, run-log}
-use Rattle.promise.proofs.Starts.{Started, started}
 
 -- the admitted writes of the first calls come first
 admitted-append : (w : World) (ts later : List Turn) → Good w → admittedFrom w (ts ++ later) ≡ admittedFrom w ts ++ admittedFrom (run w ts) later

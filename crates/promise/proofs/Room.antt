@@ -6,16 +6,15 @@ use native.Mathlib.Omega.{arith}
 use lib.Dec.{ltb}
 use lib.ListN.{length}
 use borrow.Author.Tests.{lt-ltb, le-ltb, ltb-true, ltb-false}
+use Rattle.dispatch.proofs.Open.{Good, good-use, alone-open, write-number}
 use Rattle.memory.specs.World.{World, Fixed}
 use Rattle.numbers.specs.Numbers.{done, noRoom, wrongLength}
 use Rattle.savelog.specs.Log.{width}
-use Rattle.promise.specs.Bus.{Outcome, inSave, nextIndex, byteOwed, wordOwed, step}
+use Rattle.promise.specs.Bus.{Outcome, inSave, nextIndex, byteOwed, wordOwed, step, fits}
 use Rattle.promise.specs.Bus.call as call
 use Rattle.promise.specs.Bus.on as on
 use Rattle.promise.specs.Promise.{free}
-use Rattle.promise.specs.Runs.{fits}
 use Rattle.promise.proofs.Bus.{orElse, eitherInSave, byteRoom, wordRoom, changed, unless, stateStep}
-use Rattle.promise.proofs.Open.{Good, good-use, alone-open, write-number}
 
 -- what is free is what is not used
 free-room : (w : World) → Good w → (n : ℕ) → ltb (length (w .log)) (w .state .core .used + n) ≡ ltb (free w) n

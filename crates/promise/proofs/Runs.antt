@@ -2,14 +2,14 @@
 use mathlib.Core.List.{List, [], _∷_, _++_, append-assoc}
 use mathlib.Core.Path.{_≡_, refl, ap, sym, _∙_}
 use Prim.Native.Nat.{ℕ}
+use Rattle.dispatch.proofs.Open.{Good}
 use Rattle.memory.specs.World.{World}
 use Rattle.savelog.proofs.Prefix.{applyAll-append}
 use Rattle.savelog.specs.Log.{Rec, applyAll, joined}
-use Rattle.promise.specs.Calls.{kindOf}
 use Rattle.promise.specs.Admitted.{granted, grantedAll, admittedBy, letInAll, recordsOf}
 use Rattle.promise.specs.Runs.{Turn, calls, made, run, usedBytes, numbers, copiedBefore, copiesFrom}
+use Rattle.promise.specs.Bus.{kindOf}
 use Rattle.promise.proofs.Lists.{let-append, records-join, joined-append}
-use Rattle.promise.proofs.Open.{Good}
 use Rattle.promise.proofs.Steps.{Moved, moved}
 
 -- the admitted writes on any bus

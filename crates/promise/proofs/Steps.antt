@@ -7,6 +7,9 @@ use native.Mathlib.Omega.{arith}
 use lib.Dec.{eqb}
 use lib.ListN.{length}
 use borrow.Author.Tests.{le-leb, eqb-false}
+use Rattle.dispatch.proofs.Numbered.{by-unless, state-refusal, byte-refusal, word-refusal, byte-fits, low-fits, high-fits, byte-done, word-done}
+use Rattle.dispatch.proofs.Open.{Good, stays-good}
+use Rattle.dispatch.proofs.States.{Answers, reads, changes, clears, state-answers}
 use Rattle.mbc.proofs.Bools.{by-cond}
 use Rattle.memory.proofs.Laws.{used-range}
 use Rattle.memory.specs.World.{World, Fixed, withUsed}
@@ -14,32 +17,19 @@ use Rattle.mmu.proofs.Laws.{kept-stays, write-stays, transfer-stays}
 use Rattle.mmu.proofs.Saves.{Clear, transfer-spares, oam-clear, block-clear}
 use Rattle.mmu.specs.Access.{Holds, inState}
 use Rattle.mmu.specs.Write.{transferred, writeAt, wordAt}
+use Rattle.refusals.proofs.Answers.{both-pass}
 use Rattle.registers.specs.Transfers.{oamCopy, blockCopy}
 use Rattle.registers.specs.declared.transfers.Copy.{Copy}
 use Rattle.savelog.specs.Log.{width, logLimit, joined, applyAll, useInRange}
-use Rattle.promise.specs.Bus.{Outcome, outcome, step, Performed, Call, inSave, nextIndex, Done}
+use Rattle.promise.specs.Bus.{Outcome, outcome, step, Performed, Call, inSave, nextIndex, Done, refused, Kind, Reading, Clearing, Other, kindOf}
 use Rattle.promise.specs.Bus.call as call
-use Rattle.promise.specs.Calls.{ByteWrite, byte, refused, writesOf, Kind, Reading, Clearing, Other, kindOf}
+use Rattle.promise.specs.Calls.{ByteWrite, byte, writesOf}
 use Rattle.promise.specs.Admitted.{granted, letInAll, recordsOf}
 use Rattle.promise.specs.Runs.{usedBytes, copiedBefore}
 use Rattle.promise.proofs.Bus.{orElse, refusedWrite, byteRoom, wordRoom, changed, refusedState, unless, inWorld}
 use Rattle.promise.proofs.Mappers.{High, transfer-mapper, oam-high, block-high}
 use Rattle.promise.proofs.Writes.{write-stores, write-after}
 use Rattle.promise.proofs.Lists.{mappersAfter, Quiet, quiet-refl, Made, Left, left-none, left-more}
-use Rattle.promise.proofs.Open.{Good, stays-good}
-use Rattle.promise.proofs.Numbered.{
-  by-unless,
-  state-refusal,
-  byte-refusal,
-  word-refusal,
-  or-second,
-  byte-fits,
-  low-fits,
-  high-fits,
-  byte-done,
-  word-done,
-}
-use Rattle.promise.proofs.States.{Answers, reads, changes, clears, state-answers}
 
 pub record Moved (w : World) (c : Call) (o : Outcome) : Type 0 where
   pub good : Good (o .after)
@@ -179,13 +169,13 @@ moved x w g (call.WriteByte i v) =
     let n = orElse (refusedWrite x w) (byteRoom (w .state .core .used) (length (w .log)) i) in
     by-unless (Moved w (call.WriteByte i v)) n w _
     (λ z.
-    let a = made-byte w g x i v (byte-fits (w .state .core .used) (length (w .log)) i (or-second _ _ z)) in
+    let a = made-byte w g x i v (byte-fits (w .state .core .used) (length (w .log)) i (both-pass (refusedWrite x w) _ z .1)) in
     moved-left w g (call.WriteByte i v) _ refl (rw (byte-done i)) (left-more a (left-none _ _ (quiet-refl _ (a .stays .holds)))))
     (λ h. moved-refused w g (call.WriteByte i v) n refl (byte-refusal x w i h))
 moved x w g (call.WriteWord i v) =
     let n = orElse (refusedWrite x w) (wordRoom (w .state .core .used) (length (w .log)) i) in
     by-unless (Moved w (call.WriteWord i v)) n w _
-    (λ z. moved-left w g (call.WriteWord i v) _ refl (rw (word-done i)) (left-word x w g i v (or-second _ _ z)))
+    (λ z. moved-left w g (call.WriteWord i v) _ refl (rw (word-done i)) (left-word x w g i v (both-pass (refusedWrite x w) _ z .1)))
     (λ h. moved-refused w g (call.WriteWord i v) n refl (word-refusal x w i h))
 moved x w g (call.DoDmaTransfer page) =
     moved-transfer w g (call.DoDmaTransfer page) other refl x 0 (oamCopy page) (oam-clear page) (oam-high page)

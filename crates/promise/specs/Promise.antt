@@ -9,12 +9,12 @@ use Rattle.mbc.specs.Mbc.{cartridgeOf, start as mapperOf}
 use Rattle.memory.specs.World.{World, Fixed}
 use Rattle.numbers.specs.Numbers.{done, noRoom, wrongLength}
 use Rattle.savelog.specs.Log.{stored, records, applyAll, recovery, recoverAll, joined, cutCopies}
-use Rattle.promise.specs.Bus.{inSave, nextIndex, byteOwed, wordOwed, step, Call}
+use Rattle.promise.specs.Bus.{inSave, nextIndex, byteOwed, wordOwed, step, Call, Lent, start, fits}
 use Rattle.promise.specs.Bus.call as call
 use Rattle.promise.specs.Bus.on as on
 use Rattle.promise.specs.Calls.{ByteWrite, byte, writesOf}
 use Rattle.promise.specs.Admitted.{letInAll, recordsOf}
-use Rattle.promise.specs.Runs.{Lent, Fitting, start, Turn, calls, after, fits, admitted, copies}
+use Rattle.promise.specs.Runs.{Fitting, Turn, calls, after, admitted, copies}
 
 -- A number of this language has no bound; a byte write's value is a u8, and the halves of a word write's are u8 too
 abbrev pub Bytes : List ByteWrite → Type 0

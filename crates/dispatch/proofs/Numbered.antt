@@ -1,20 +1,22 @@
 -- Numbers: what refuses a write gives 0 or a number above 1; and a call by its refusal.
 use mathlib.Core.Bool.{Bool, true, false, cond, _&&_, _||_, or-true}
-use mathlib.Core.Path.{_≡_, refl, sym}
+use mathlib.Core.Path.{_≡_, refl}
 use Prim.Native.Nat.{ℕ, _+_, _≤_}
 use native.Mathlib.Omega.{arith}
 use lib.Dec.{eqb, ltb, leb}
 use lib.ListN.{length}
 use borrow.Author.Tests.{eqb-true, eqb-false, ltb-false}
+use Rattle.bus.specs.Calls.{Outcome, outcome, unless}
 use Rattle.mbc.proofs.Bools.{by-cond}
 use Rattle.memory.specs.Ranges.{inRange}
 use Rattle.memory.specs.World.{World, Fixed}
 use Rattle.memory.specs.declared.Memory.{Memory}
 use Rattle.numbers.specs.Numbers.{done, owed}
-use Rattle.savelog.specs.Log.{width, logLimit}
-use Rattle.promise.specs.Bus.{Outcome, outcome, inSave, nextIndex, byteOwed, wordOwed}
-use Rattle.promise.specs.Calls.{refused}
-use Rattle.promise.proofs.Bus.{
+use Rattle.refusals.specs.Refusal.{
+  inSave,
+  nextIndex,
+  byteOwed,
+  wordOwed,
   orElse,
   stateRefused,
   lengthsFit,
@@ -27,8 +29,9 @@ use Rattle.promise.proofs.Bus.{
   byteRoom,
   wordRoom,
   inSound,
-  unless,
 }
+use Rattle.savelog.specs.Log.{width, logLimit}
+use Rattle.dispatch.specs.Kinds.{refused}
 
 -- a call by its refusal
 pub by-unless : (P : Outcome → Type 0) (n : ℕ) (w : World) (o : Outcome) → (n ≡ 0 → P o) → ((n ≡ 0 → ⊥) → P (outcome n 0 w)) → P (unless n w o)
@@ -83,15 +86,6 @@ module _ (x : Fixed) (w : World) where
   word-refusal i =
       or-refusal (refusedWrite x w) _ write-refusal
       (room-refusal (eitherInSave i && ltb (length (w .log)) (w .state .core .used + (width + width))) 2 refl)
-
--- none of two is due
-pub or-second : (n k : ℕ) → orElse n k ≡ 0 → k ≡ 0
-unfolding orElse
-or-second n k h = passes (eqb n 0) refl h
-  where
-    passes : (b : Bool) → b ≡ eqb n 0 → cond b k n ≡ 0 → k ≡ 0
-    passes true e h = h
-    passes false e h = absurd (eqb-false n 0 (sym e) h)
 
 -- room in the log
 

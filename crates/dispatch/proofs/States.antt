@@ -14,6 +14,11 @@ use Rattle.lcd.specs.Lcd.{screenEnabled, screenDisabled, windowLineReset, lyCom
 use Rattle.mbc.proofs.Bools.{by-cond}
 use Rattle.memory.specs.declared.Memory.{Memory}
 use Rattle.numbers.specs.Numbers.{outside}
+use Rattle.refusals.specs.Answers.{changed, byteGiven, flagGiven, waitingGiven}
+use Rattle.refusals.specs.Refusal.{orElse, rawRefused, refusedState}
+use Rattle.refusals.specs.declared.Byte.{Byte}
+use Rattle.refusals.specs.declared.Flag.{Flag}
+use Rattle.refusals.specs.declared.Waiting.{Waiting}
 use Rattle.registers.proofs.Kept.{
   Kept,
   kept-refl,
@@ -27,28 +32,12 @@ use Rattle.registers.proofs.Kept.{
   timer-kept,
 }
 use Rattle.registers.specs.State.{loaded, requestedIn, removedIn}
-use Rattle.promise.specs.Bus.{Performed, StateCall}
-use Rattle.promise.specs.Bus.on as on
-use Rattle.promise.specs.Calls.{refused, Kind, Reading, Clearing, Other, stateKind}
-use Rattle.promise.proofs.Bus.{
-  orElse,
-  rawRefused,
-  changed,
-  byteGiven,
-  flagGiven,
-  waitingGiven,
-  refusedState,
-  onInterrupt,
-  flagNumber,
-  waitingNumber,
-  performed,
-  performedDone,
-  stateStep,
-  Byte,
-  Flag,
-  Waiting,
-  clearLogCall,
-}
+use Rattle.state_calls.specs.State.{onInterrupt, clearLogCall}
+use Rattle.dispatch.specs.declared.StateCall.the-variants as on
+use Rattle.dispatch.specs.declared.Performed.{Performed}
+use Rattle.dispatch.specs.declared.StateCall.{StateCall}
+use Rattle.dispatch.specs.Kinds.{refused, Kind, Reading, Clearing, Other, stateKind}
+use Rattle.dispatch.specs.Step.{flagNumber, waitingNumber, performed, performedDone, stateStep}
 
 pub not-done : {A : Type 0} → false ≡ true → A
 not-done e = let z : _≡_ {A = ℕ} 0 1 = cc in absurd (omega arith)

@@ -11,10 +11,7 @@ use Rattle.memory.specs.World.{World, Fixed}
 use Rattle.mmu.proofs.Laws.{Stays}
 use Rattle.mmu.specs.Access.{Holds}
 use Rattle.numbers.specs.Numbers.{done, wrongLength}
-use Rattle.rules.proofs.Tests.{both-true}
-use Rattle.savelog.specs.Log.{width, logLimit, useInRange}
-use Rattle.promise.specs.Runs.{fits}
-use Rattle.promise.proofs.Bus.{
+use Rattle.refusals.specs.Refusal.{
   orElse,
   stateRefused,
   lengthsFit,
@@ -27,6 +24,9 @@ use Rattle.promise.proofs.Bus.{
   refusedRead,
   refusedWrite,
 }
+use Rattle.rules.proofs.Tests.{both-true}
+use Rattle.savelog.specs.Log.{width, logLimit, useInRange}
+use Rattle.dispatch.specs.Lent.{fits}
 
 pub record Good (w : World) : Type 0 where
   pub holds : Holds w

@@ -6,7 +6,9 @@ use Prim.Native.Nat.{ℕ, _≤_}
 use native.Mathlib.Omega.{arith}
 use lib.Dec.{eqb, leb}
 use lib.ListN.{length, replicate, length-replicate}
-use borrow.Author.Tests.{eq-eqb, eqb-false, eqb-true, leb-true, le-leb}
+use borrow.Author.Tests.{eqb-false, eqb-true, leb-true, le-leb}
+use Rattle.bus.proofs.Passes.{lengths-pass}
+use Rattle.bus.specs.Fresh.{Begun, begun, startedBy, freshRefused, beginning}
 use Rattle.mbc.specs.Mbc as mbc
 use Rattle.mbc.specs.declared.mbc.Fresh.{Fresh}
 use Rattle.memory.proofs.Laws.{fresh-range}
@@ -14,14 +16,13 @@ use Rattle.memory.specs.Start.{zeroed, started as startedWith}
 use Rattle.memory.specs.World.{world}
 use Rattle.memory.specs.declared.Memory.{Memory}
 use Rattle.numbers.specs.Numbers.{done}
+use Rattle.refusals.proofs.Answers.{both-pass}
+use Rattle.refusals.specs.Refusal.{lentRefused, logRefused}
 use Rattle.rules.proofs.Tests.{both-true}
 use Rattle.savelog.specs.Log.{logLimit, useInRange}
-use Rattle.promise.specs.Bus.{Begun, begun}
-use Rattle.promise.specs.Each.{RefusedFresh}
-use Rattle.promise.specs.Promise.{Begins}
-use Rattle.promise.specs.Runs.{Lent, start}
-use Rattle.promise.proofs.Bus.{orElse, lentRefused, lengthsRefused, lengthsFit, both-pass, lengths-pass, startedBy, freshRefused, beginning, logRefused}
-use Rattle.promise.proofs.Open.{Good}
+use Rattle.dispatch.specs.Unchanged.{RefusedFresh}
+use Rattle.dispatch.specs.Lent.{Lent, start}
+use Rattle.dispatch.proofs.Open.{Good}
 
 -- what was begun and not refused
 pub by-begun : (P : Begun → Type 0) (n : ℕ) (m : Memory) (v w : List ℕ) → beginning n m v w .number ≡ 0
@@ -93,27 +94,8 @@ begun-started l e =
 pub started : (l : Lent) → start l .number ≡ done → Started l (start l)
 started l z = by-begun (Started l) _ _ _ _ z (begun-started l)
 
--- a description and lengths that fit
-fresh-accepted : (kind banks code : ℕ) → kind ≤ 2 → mbc.described (mbc.cartridgeOf banks code) (mbc.start kind) ≡ true
-    → mbc.fresh kind banks code ≡ record { number = 0; cartridge = mbc.cartridgeOf banks code; mapper = mbc.start kind }
-unfolding mbc.fresh
-fresh-accepted kind banks code k d = rw (le-leb kind 2 k, d)
-
-pub begins : Begins
-unfolding beginning freshRefused orElse lentRefused lengthsRefused lengthsFit logRefused startedWith
-begins l f =
-    rw (
-      fresh-accepted (l .kind) (l .banks) (l .code) (f .kind) (f .described),
-      eq-eqb _ _ (f .rom),
-      eq-eqb _ _ (f .vram),
-      eq-eqb _ _ (f .wram),
-      eq-eqb _ _ (f .image),
-      eq-eqb _ _ (f .sound),
-      le-leb _ _ (f .log),
-    )
-
 -- a fresh bus that is refused
-begun-refused : (n : ℕ) (m : Memory) (v w : List ℕ) → (beginning n m v w .number ≡ 0 → ⊥) → beginning n m v w ≡ begun n zeroed v w
+pub begun-refused : (n : ℕ) (m : Memory) (v w : List ℕ) → (beginning n m v w .number ≡ 0 → ⊥) → beginning n m v w ≡ begun n zeroed v w
 unfolding beginning
 begun-refused n m v w h = by-test (eqb n 0) h
   where
