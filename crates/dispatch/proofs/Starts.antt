@@ -87,8 +87,8 @@ begun-started l e =
         used = rw (le-leb 0 (length (l .log)) (omega arith));
       };
       unused = refl;
-      cartridge = ap (λ (m : Fresh). m .core .cartridge) (f .0);
-      mapper = ap (λ (m : Fresh). m .core .mapper) (f .0);
+      cartridge = ap (λ (m : Fresh). m .cartridge) (f .0);
+      mapper = ap (λ (m : Fresh). m .mapper) (f .0);
     }
 
 pub started : (l : Lent) → start l .number ≡ done → Started l (start l)
