@@ -62,7 +62,7 @@ neither : (a b : Bool) → (a || b) ≡ false → (a ≡ false) × (b ≡ false)
 neither true b e = not-done (sym e)
 neither false b e = (refl, e)
 
-changed-used : (w : World) (n : ℕ) (next : Memory) → next .used ≡ w .state .core .used → changed n (w .state) next .memory .core .used ≡ w .state .core .used
+changed-used : (w : World) (n : ℕ) (next : Memory) → next .core .used ≡ w .state .core .used → changed n (w .state) next .memory .core .used ≡ w .state .core .used
 unfolding changed
 changed-used w n next e =
     by-cond (λ (d : Done). d .memory .core .used ≡ w .state .core .used) (eqb n 0) _ _ (λ t. e) (λ f. refl)

@@ -73,10 +73,10 @@ left-more {b} {bs} {w} {u} {y} m l =
     let c = w .state .core .cartridge in
     let k = letIn c (w .state .core .mapper) b in
     let ks = letInAll c (mapperAfter c (w .state .core .mapper) b) bs in
-    let e : letInAll (u .state .core .cartridge) (u .state .core .mapper) bs ≡ ks = rw (m .stays .cartridge, m .core .mapper) in
+    let e : letInAll (u .state .core .cartridge) (u .state .core .mapper) bs ≡ ks = rw (m .stays .cartridge, m .mapper) in
     record {
       stays = stays-trans (m .stays) (l .stays);
-      mapper = l .mapper ∙ rw (m .stays .cartridge, m .core .mapper);
+      mapper = l .mapper ∙ rw (m .stays .cartridge, m .mapper);
       save = l .save ∙ (rw (e, m .stores .save) (sym (applyAll-append (w .save) k ks)));
       log = l .log ∙ (rw (e, m .stores .log, records-join k ks, append-assoc));
     }

@@ -31,13 +31,13 @@ run-good w (t ∷ ts) g = run-good (made w t .after) ts (made-moved w g t .good)
 pub run-cartridge : (w : World) (ts : List Turn) → Good w → run w ts .state .core .cartridge ≡ w .state .core .cartridge
 unfolding run
 run-cartridge w [] g = refl
-run-cartridge w (t ∷ ts) g = let m = made-moved w g t in run-cartridge (made w t .after) ts (m .good) ∙ m .core .cartridge
+run-cartridge w (t ∷ ts) g = let m = made-moved w g t in run-cartridge (made w t .after) ts (m .good) ∙ m .cartridge
 
 pub admitted-more : (w : World) → Good w → (t : Turn) (ts : List Turn) → admittedFrom w (t ∷ ts) ≡ first w t ++ admittedFrom (made w t .after) ts
 unfolding numbers grantedAll
 admitted-more w g t ts =
     let m = made-moved w g t in
-    rw (let-append (w .state .core .cartridge) (w .state .core .mapper) (granted (made w t .number) (t .call)) _, ← m .core .mapper, m .core .cartridge)
+    rw (let-append (w .state .core .cartridge) (w .state .core .mapper) (granted (made w t .number) (t .call)) _, ← m .mapper, m .cartridge)
 
 pub run-save : (w : World) (ts : List Turn) → Good w → run w ts .save ≡ applyAll (w .save) (admittedFrom w ts)
 unfolding run numbers grantedAll letInAll applyAll

@@ -26,7 +26,7 @@ use Rattle.interrupt.specs.declared.Interrupt.{Interrupt}
 use Rattle.interrupt.specs.declared.Pending.{Pending}
 use Rattle.interrupt.specs.declared.Pending.the-variants.{Some, None}
 use Rattle.memory.proofs.Laws.{clock-range, range-clock}
-use Rattle.memory.specs.Ranges.{stateInRange, inRange, coreOf}
+use Rattle.memory.specs.Ranges.{stateInRange, inRange}
 use Rattle.memory.specs.World.{withClock, withUsed}
 use Rattle.memory.specs.declared.Clock.{Clock}
 use Rattle.memory.specs.declared.Core.{Core}

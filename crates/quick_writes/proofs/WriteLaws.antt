@@ -26,7 +26,6 @@ use Rattle.image.specs.declared.Loaded.{Loaded}
 use Rattle.image.specs.declared.Opened.{Opened}
 use Rattle.mbc.proofs.Bools.{by-cond}
 use Rattle.mbc.specs.Mbc.{inRange, ramLen, after}
-use Rattle.memory.specs.Ranges.{coreOf}
 use Rattle.memory.specs.World.{World, world, Fixed, fixed, withUsed}
 use Rattle.memory.specs.declared.Core.{Core}
 use Rattle.memory.specs.declared.Memory.{Memory}
@@ -38,8 +37,8 @@ use Rattle.mmu.specs.Write.{writeAt, wordAt}
 use Rattle.numbers.specs.Numbers.{done}
 use Rattle.packing.specs.Packing.{Below}
 use Rattle.refusals.proofs.Answers.{both-pass}
-use Rattle.refusals.proofs.Core.{write-core}
-use Rattle.refusals.specs.Refusal.{orElse, writeRefused, coreWriteRefused, refusedWrite, inSound, nextIndex, byteRoom, wordRoom, byteOwed, wordOwed}
+use Rattle.refusals.proofs.Core.{write-lent}
+use Rattle.refusals.specs.Refusal.{orElse, useRefused, lentRefused, writeRefused, refusedWrite, inSound, nextIndex, byteRoom, wordRoom, byteOwed, wordOwed}
 use Rattle.savelog.specs.Log.{logLimit, useInRange}
 use Rattle.entry.specs.Entry.{Left, left, leftIn, encodedIn, worldEntry}
 use Rattle.quick_writes.specs.Writes.{quick, worldOf, Taken, leftBy, ownPut}
@@ -73,7 +72,7 @@ module _ {i v w s l : List ℕ} (t : Taken i v w s l) where
   taken-length = load-length i (t .number)
 
   -- what the parts ask for, of the state without its arrays
-  module _ {c : Core} (e : c ≡ coreOf (loadCall i .state)) where
+  module _ {c : Core} (e : c ≡ loadCall i .state .core) where
     pub taken-mapper : inRange (c .cartridge) (c .mapper) ≡ true
     taken-mapper = rw e (holds-mapper (t .holds))
 
@@ -221,7 +220,7 @@ word-owed index = by-cond (λ (n : ℕ). n ≤ 1) (inSound index || inSound (nex
 
 -- the number that the code finds: the image's, the lengths', the log's
 module _ (rom sound i v w s l : List ℕ) (below : Below 256 i) {o : Opened} (r : ℕ) {n : ℕ}
-    (p : (o .number ≡ orElse (loadCall i .number) (refusedWrite (fixed rom sound) (worldOf i v w s l))) × (o .core ≡ coreOf (loadCall i .state)))
+    (p : (o .number ≡ orElse (loadCall i .number) (refusedWrite (fixed rom sound) (worldOf i v w s l))) × (o .core ≡ loadCall i .state .core))
     (e : n ≡ orElse (o .number) r) where
   numbered : (room : ℕ) → r ≡ room → n ≡ orElse (orElse (loadCall i .number) (refusedWrite (fixed rom sound) (worldOf i v w s l))) room
   numbered room y = e ∙ ap (λ (a : ℕ). orElse (o .number) a) y ∙ ap (λ (a : ℕ). orElse a room) (p .0)
@@ -281,12 +280,12 @@ module _ {o : Opened} (i : List ℕ) (e : o ≡ openCall i) where
   opened-refused h a = open-number i e ∙ rw (ne-eqb (loadCall i .number) 0 (λ z. h (open-number i e ∙ z)))
 
   pub opened-write : Below 256 i → o .number ≡ 0 → (rom vram wram save sound log : ℕ) {n : ℕ}
-      → n ≡ coreWriteRefused (o .core) rom vram wram save sound log
+      → n ≡ orElse (useRefused (o .core .used) log) (lentRefused (o .core) rom vram wram save sound log)
       → n ≡ orElse (loadCall i .number) (writeRefused (loadCall i .state) rom vram wram save sound log)
   opened-write below z rom vram wram save sound log f =
       let m = loadCall i .state in
       let y = sym (open-number i e) ∙ z in
       f
-      ∙ ap (λ (c : Core). coreWriteRefused c rom vram wram save sound log) (open-core i e)
-      ∙ sym (write-core m (load-range i y below) rom vram wram save sound log)
+      ∙ ap (λ (c : Core). orElse (useRefused (c .used) log) (lentRefused c rom vram wram save sound log)) (open-core i e)
+      ∙ sym (write-lent m (load-range i y below) rom vram wram save sound log)
       ∙ sym (ap (λ (a : ℕ). orElse a (writeRefused m rom vram wram save sound log)) y ∙ zero-else (writeRefused m rom vram wram save sound log))
