@@ -37,9 +37,6 @@ pub struct Waiting {
     pub pending: Pending,
 }
 
-// The most bytes of a log, and what a log use is held to where none is lent.
-pub const LOG_LIMIT: usize = 65535;
-
 // The first of two refusals that is due.
 pub fn or_else(number: u8, next: u8) -> u8
     ensures { λ r. ⌜ r ≡ orElse number next ⌝ }
@@ -63,7 +60,7 @@ pub fn state_refused(memory: Memory, limit: usize) -> u8
 pub fn refused(memory: Memory) -> u8
     ensures { λ r. ⌜ r ≡ refusedState memory ⌝ }
 {
-    state_refused(memory, LOG_LIMIT)
+    state_refused(memory, savelog::LOG_LIMIT)
 }
 
 // The state without its arrays, as an image gives it: no colour of an image is out of range.
@@ -170,7 +167,7 @@ pub fn read_refused(
 ) -> u8
     ensures { λ r. ⌜ r ≡ readRefused memory rom vram wram save sound ⌝ }
 {
-    let state = state_refused(memory, LOG_LIMIT);
+    let state = state_refused(memory, savelog::LOG_LIMIT);
     let lengths = lengths_refused(memory, rom, vram, wram, save, sound);
     or_else(state, lengths)
 }
@@ -178,7 +175,7 @@ pub fn read_refused(
 pub fn log_refused(log: usize) -> u8
     ensures { λ r. ⌜ r ≡ logRefused log ⌝ }
 {
-    if log <= LOG_LIMIT {
+    if log <= savelog::LOG_LIMIT {
         return numbers::DONE;
     }
     numbers::WRONG_LENGTH
@@ -250,7 +247,7 @@ pub fn byte_room(used: u16, log: usize, index: u16) -> u8
     ensures { λ r. ⌜ r ≡ byteRoom used log index ⌝ }
 {
     if in_save(index) {
-        if log < used as usize + 3 {
+        if savelog::full(log, used, 1) {
             return numbers::NO_ROOM;
         }
     }
@@ -270,7 +267,7 @@ pub fn word_room(used: u16, log: usize, index: u16) -> u8
     ensures { λ r. ⌜ r ≡ wordRoom used log index ⌝ }
 {
     if either_in_save(index) {
-        if log < used as usize + 6 {
+        if savelog::full(log, used, 2) {
             return numbers::NO_ROOM;
         }
     }
