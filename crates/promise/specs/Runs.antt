@@ -10,7 +10,8 @@ use Rattle.mbc.specs.Mbc.{romLen, ramLen, described, cartridgeOf, start as mapp
 use Rattle.mbc.specs.declared.cartridge.Cartridge.{Cartridge}
 use Rattle.memory.specs.Ranges.{vramLen, wramLen, soundLen}
 use Rattle.memory.specs.World.{World, world, Fixed}
-use Rattle.savelog.specs.Log.{Rec}
+use Rattle.savelog.specs.Log.{logLimit}
+use Rattle.savelog.specs.declared.Rec.{Rec}
 use Rattle.promise.specs.Bus.{Begun, freshCall, Outcome, step, Call}
 use Rattle.promise.specs.Calls.{refused, Kind, Reading, Clearing, Other, kindOf}
 use Rattle.promise.specs.Admitted.{admittedBy}
@@ -45,7 +46,7 @@ pub record Fitting (l : Lent) : Type 0 where
   pub vram : length (l .vram) ≡ vramLen (l .colour)
   pub wram : length (l .wram) ≡ wramLen (l .colour)
   pub image : length (l .image) ≡ ramLen (cartridgeOf (l .banks) (l .code)) (mapperOf (l .kind))
-  pub log : length (l .log) ≤ 65535
+  pub log : length (l .log) ≤ logLimit
   pub sound : length (l .sound) ≡ 48
 
 -- "any list of bus calls, refused ones too, each on the state and buffers the last one left". Each call is lent its own ROM and sound window for reading,

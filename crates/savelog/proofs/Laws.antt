@@ -5,11 +5,12 @@ use mathlib.Core.Logic.{_⊎_, inl, inr}
 use mathlib.Core.Path.{_≡_, refl, ap, sym, _∙_}
 use mathlib.Core.List.{List, [], _∷_, _++_, append-assoc, append-nil}
 use Prim.Native.Nat.{ℕ, zero, suc, _+_, _-_, _*_, _/_, _%_, _≤_, _<_}
+use native.Mathlib.Decide.{decLt}
 use native.Mathlib.Omega.{arith}
 use lib.Dec.{eqb}
 use lib.ListN.{length, getD, take, drop, set, length-append, length-drop, length-set, take-append-drop}
 use lib.Seq.{drop-cons, drop-drop, take-set-le, drop-set-lt, getD-set-same}
-use borrow.Author.Tests.{ltb-true, ne-eqb}
+use borrow.Author.Tests.{lt-ltb, ltb-true, ne-eqb}
 use Rattle.savelog.specs.Log.{Rec, width, addressEnd, bytesOf, numberFrom, recordNumber, recordBytes, fieldsOf, recordOf, stored, firstRecords, records, soundRecord, allSound, applyAll, oneOf, saveLengths, saveLimit}
 
 -- k bytes make the numbers below `bytesEnd k`
@@ -110,6 +111,10 @@ pub round : (a v : ℕ) → v < 256 → a < addressEnd → recordOf (recordBytes
 unfolding recordBytes
 round a v h k = ap fieldsOf (number-bytes width (recordNumber a v) (number-below a v h k)) ∙ fields-number a v h k
 
+-- and is sound where its address is in the save
+pub stored-sound : (ram a v : ℕ) → a < ram → soundRecord ram (stored a v) ≡ true
+stored-sound ram a v h = lt-ltb a ram h
+
 -- a log of at least one record has its first record first
 pub records-cons : (l : List ℕ) → width ≤ length l → records l ≡ recordOf (take width l) ∷ records (drop width l)
 unfolding records firstRecords
@@ -188,3 +193,17 @@ none-of n h =
       ne-eqb n 8192 (λ e. h (inr (inr (inl e)))),
       ne-eqb n saveLimit (λ e. h (inr (inr (inr e)))),
     )
+
+-- every address of a save that recovery takes fits a record
+too-long : (n : ℕ) → addressEnd < n → (n ≡ 0) ⊎ ((n ≡ 512) ⊎ ((n ≡ 8192) ⊎ (n ≡ saveLimit))) → ⊥
+too-long n h (inl e) = omega arith
+too-long n h (inr (inl e)) = omega arith
+too-long n h (inr (inr (inl e))) = omega arith
+too-long n h (inr (inr (inr e))) = omega arith
+
+pub save-within : (n : ℕ) → oneOf n saveLengths ≡ true → n ≤ addressEnd
+save-within n e = by-test (decLt addressEnd n)
+  where
+    by-test : Dec (addressEnd < n) → n ≤ addressEnd
+    by-test (yes h) = let f = none-of n (too-long n h) in let z : _≡_ {A = Bool} true false = sym e ∙ f in let y : _≡_ {A = ℕ} 0 1 = cc in absurd (omega arith)
+    by-test (no f) = omega (arith, f)
