@@ -31,7 +31,7 @@ use Rattle.registers.specs.Page.{byKind, lineRead, plainRead, shownAs, readRegi
 use Rattle.registers.specs.State.{loaded}
 use Rattle.registers.specs.Transfers.{copyOf, oamCopy, blockCopy}
 use Rattle.registers.specs.declared.transfers.Copy.{Copy}
-use Rattle.savelog.specs.Log.{width}
+use Rattle.savelog.specs.Log.{width, full}
 use Rattle.boundary.specs.Types.{CallTyped}
 use Rattle.boundary.proofs.Fine.{Fine, below-set, page-set, oam-fine, mapper-fine, used-fine, loaded-byte, write-fine, finished-fine, state-fine}
 
@@ -119,7 +119,7 @@ module _ (w : World) (g : Whole w) (v : ℕ) (b : v < 256) where
 
   save-whole : (i : ℕ) → Whole (savePut w i v)
   unfolding savePut
-  save-whole i = cond-both Whole (ltb (length (w .log)) (w .state .core .used + width)) g (saved-whole i _ refl)
+  save-whole i = cond-both Whole (full (length (w .log)) (w .state .core .used) 1) g (saved-whole i _ refl)
 
   state-whole : {m : Memory} → Fine m → Whole (record { state = m; vram = w .vram; wram = w .wram; save = w .save; log = w .log })
   state-whole f = record { state = f; vram = g .vram; wram = g .wram; save = g .save }

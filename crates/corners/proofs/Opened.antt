@@ -34,6 +34,6 @@ unfolding
     palette.moved colours.byteAt colours.putAt answers.changed refusal.inSave refusal.inSound refusal.byteRoom refusal.byteOwed refusal.cyclesRefused
     colour.wramBankPut colour.backgroundIndexPut colour.backgroundDataPut page.byKind page.lineRead page.plainRead page.shownAs page.readRegister page.plainWrite
     page.writeRegister selected.wramBankOf transfers.sourceHighPut transfers.sourceLowPut transfers.destinationHighPut transfers.destinationLowPut
-    transfers.startPut transfers.startCopy transfers.copyOf transfers.finished log.bytesOf log.recordBytes log.appended counter.period
+    transfers.startPut transfers.startCopy transfers.copyOf transfers.finished log.bytesOf log.recordNumber log.recordBytes log.appended counter.period
     counter.stepTima counter.steps timer.divided timer.counted rows.bytes rows.due oam.written oam.dma oam.oamAfter oam.laid quick.quick quick.quickly
 opened = tt

@@ -1,17 +1,19 @@
 -- Numbers: what refuses a write gives 0 or a number above 1; and a call by its refusal.
 use mathlib.Core.Bool.{Bool, true, false, cond, _&&_, _||_, or-true}
-use mathlib.Core.Path.{_≡_, refl}
-use Prim.Native.Nat.{ℕ, _+_, _≤_}
+use mathlib.Core.Path.{_≡_, refl, sym}
+use Prim.Native.Nat.{ℕ, _+_, _*_, _≤_}
 use native.Mathlib.Omega.{arith}
-use lib.Dec.{eqb, ltb, leb}
+use lib.Dec.{eqb, leb}
 use lib.ListN.{length}
-use borrow.Author.Tests.{eqb-true, eqb-false, ltb-false}
+use borrow.Author.Tests.{eqb-true, eqb-false}
 use Rattle.bus.specs.Calls.{Outcome, outcome, unless}
 use Rattle.mbc.proofs.Bools.{by-cond}
 use Rattle.memory.specs.Ranges.{inRange}
 use Rattle.memory.specs.World.{World, Fixed}
 use Rattle.memory.specs.declared.Memory.{Memory}
 use Rattle.numbers.specs.Numbers.{done, owed}
+use Rattle.savelog.proofs.Use.{has-room}
+use Rattle.savelog.specs.Log.{width, logLimit, full}
 use Rattle.refusals.specs.Refusal.{
   inSave,
   nextIndex,
@@ -30,7 +32,6 @@ use Rattle.refusals.specs.Refusal.{
   wordRoom,
   inSound,
 }
-use Rattle.savelog.specs.Log.{width, logLimit}
 use Rattle.dispatch.specs.Kinds.{refused}
 
 -- a call by its refusal
@@ -79,13 +80,13 @@ module _ (x : Fixed) (w : World) where
   unfolding byteRoom
   byte-refusal i =
       or-refusal (refusedWrite x w) _ write-refusal
-      (room-refusal (inSave i && ltb (length (w .log)) (w .state .core .used + width)) 2 refl)
+      (room-refusal (inSave i && full (length (w .log)) (w .state .core .used) 1) 2 refl)
 
   pub word-refusal : (i : ℕ) → Refusal (orElse (refusedWrite x w) (wordRoom (w .state .core .used) (length (w .log)) i))
   unfolding wordRoom
   word-refusal i =
       or-refusal (refusedWrite x w) _ write-refusal
-      (room-refusal (eitherInSave i && ltb (length (w .log)) (w .state .core .used + (width + width))) 2 refl)
+      (room-refusal (eitherInSave i && full (length (w .log)) (w .state .core .used) 2) 2 refl)
 
 -- room in the log
 
@@ -97,17 +98,17 @@ no-room false b e t = let z : _≡_ {A = ℕ} 0 1 = cc in absurd (omega arith)
 module _ (used log i : ℕ) where
   pub byte-fits : byteRoom used log i ≡ 0 → inSave i ≡ true → used + width ≤ log
   unfolding byteRoom
-  byte-fits e t = ltb-false log (used + width) (no-room (inSave i) (ltb log (used + width)) e t)
+  byte-fits e t = has-room log used 1 (no-room (inSave i) (full log used 1) e t)
 
-  word-fits : wordRoom used log i ≡ 0 → eitherInSave i ≡ true → used + (width + width) ≤ log
+  word-fits : wordRoom used log i ≡ 0 → eitherInSave i ≡ true → used + 2 * width ≤ log
   unfolding wordRoom
-  word-fits e t = ltb-false log (used + (width + width)) (no-room (eitherInSave i) (ltb log (used + (width + width))) e t)
+  word-fits e t = has-room log used 2 (no-room (eitherInSave i) (full log used 2) e t)
 
-  pub low-fits : wordRoom used log i ≡ 0 → inSave i ≡ true → used + (width + width) ≤ log
+  pub low-fits : wordRoom used log i ≡ 0 → inSave i ≡ true → used + 2 * width ≤ log
   unfolding eitherInSave
   low-fits e t = word-fits e (rw t)
 
-  pub high-fits : wordRoom used log i ≡ 0 → inSave (nextIndex i) ≡ true → used + (width + width) ≤ log
+  pub high-fits : wordRoom used log i ≡ 0 → inSave (nextIndex i) ≡ true → used + 2 * width ≤ log
   unfolding eitherInSave
   high-fits e t = word-fits e (rw t (or-true (inSave i)))
 

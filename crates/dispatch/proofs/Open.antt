@@ -3,14 +3,16 @@ use mathlib.Core.Bool.{Bool, true, false, cond}
 use mathlib.Core.Path.{_≡_, refl}
 use Prim.Native.Nat.{ℕ, _%_, _≤_}
 use native.Mathlib.Omega.{arith}
-use lib.Dec.{eqb, leb}
+use lib.Dec.{eqb}
 use lib.ListN.{length}
-use borrow.Author.Tests.{eq-eqb, le-leb, eqb-true, leb-true}
+use borrow.Author.Tests.{eq-eqb, le-leb}
 use Rattle.memory.specs.Ranges.{inRange}
 use Rattle.memory.specs.World.{World, Fixed}
 use Rattle.mmu.proofs.Laws.{Stays}
 use Rattle.mmu.specs.Access.{Holds}
 use Rattle.numbers.specs.Numbers.{done, wrongLength}
+use Rattle.savelog.proofs.Use.{use-parts, use-joins}
+use Rattle.savelog.specs.Log.{width, logLimit, useInRange}
 use Rattle.refusals.specs.Refusal.{
   orElse,
   stateRefused,
@@ -36,15 +38,12 @@ pub stays-good : (w u : World) → Good w → Stays w u → Good u
 stays-good w u g s = record { holds = s .holds; used = s .used (g .used) }
 
 pub good-use : {w : World} → Good w → (w .state .core .used % width ≡ 0) × (w .state .core .used ≤ length (w .log))
-unfolding useInRange
-good-use {w} g =
-    let b = both-true (eqb (w .state .core .used % width) 0) (leb (w .state .core .used) (length (w .log))) (g .used) in
-    (eqb-true (w .state .core .used % width) 0 (b .0), leb-true (w .state .core .used) (length (w .log)) (b .1))
+good-use {w} g = use-parts (w .state .core .used) (length (w .log)) (g .used)
 
 module _ (w : World) (g : Good w) where
   state-open : (limit : ℕ) → w .state .core .used ≤ limit → stateRefused (w .state) limit ≡ done
-  unfolding stateRefused inRange useInRange
-  state-open limit h = rw (g .holds .state, eq-eqb (w .state .core .used % width) 0 (good-use g .0), le-leb (w .state .core .used) limit h)
+  unfolding stateRefused inRange
+  state-open limit h = rw (g .holds .state, use-joins (w .state .core .used) limit (good-use g .0) h)
 
   pub alone-open : refusedState (w .state) ≡ done
   alone-open = state-open logLimit (omega (arith, good-use g .1, g .holds .log))

@@ -2,11 +2,11 @@
 use mathlib.Core.Bool.{Bool, true, not, _&&_}
 use mathlib.Core.List.{List}
 use mathlib.Core.Path.{_≡_, refl, sym, ap, _∙_}
-use Prim.Native.Nat.{ℕ, _%_, _≤_}
+use Prim.Native.Nat.{ℕ}
 use native.Mathlib.Omega.{arith}
-use lib.Dec.{eqb, leb}
+use lib.Dec.{eqb}
 use lib.ListN.{length}
-use borrow.Author.Tests.{eqb-true, leb-true, le-leb}
+use borrow.Author.Tests.{eqb-true}
 use Rattle.bus.proofs.Passes.{write-passes}
 use Rattle.bus.specs.Calls.{Outcome}
 use Rattle.bus.specs.Fresh.{Begun, freshCall}
@@ -42,7 +42,8 @@ use Rattle.refusals.specs.declared.Done.{Done}
 use Rattle.registers.proofs.Kept.{Kept}
 use Rattle.registers.specs.Transfers.{oamCopy, blockCopy}
 use Rattle.rules.proofs.Tests.{both-true}
-use Rattle.savelog.specs.Log.{width, logLimit, useInRange}
+use Rattle.savelog.proofs.Use.{use-wider}
+use Rattle.savelog.specs.Log.{logLimit, useInRange}
 
 -- an image that was loaded
 right : (l : List ℕ) → loadCall l .number ≡ 0 → (length l ≡ 665) × (storable (loadCall l .state) ≡ true)
@@ -60,13 +61,6 @@ pub loaded-right : (l : List ℕ) {d : Loaded} → d ≡ loadCall l → d .numbe
 loaded-right l {d} e z =
     let r = right l (sym (ap (λ (a : Loaded). a .number) e) ∙ z) in
     (r .0, ap (λ (a : Loaded). storable (a .state)) e ∙ r .1)
-
--- a use within a log is within the longest one
-wider : (n len : ℕ) → len ≤ logLimit → useInRange n len ≡ true → useInRange n logLimit ≡ true
-unfolding useInRange
-wider n len h e =
-    let b = both-true (eqb (n % width) 0) (leb n len) e in
-    rw (b .0, le-leb n logLimit (omega (arith, h, leb-true n len (b .1))))
 
 -- a state in range is made of two
 parts : (m : Memory) → storable m ≡ true → (stateInRange m ≡ true) × (useInRange (m .core .used) logLimit ≡ true)
@@ -101,7 +95,7 @@ module _ (x : Fixed) (w : World) (h : storable (w .state) ≡ true) where
   Fine o = storable (o .after .state) ≡ true
 
   pub stays-storable : useInRange (w .state .core .used) (length (w .log)) ≡ true → (u : World) → Stays w u → storable (u .state) ≡ true
-  stays-storable e u s = joins (u .state) (s .holds .state) (wider (u .state .core .used) (length (u .log)) (s .holds .log) (s .used e))
+  stays-storable e u s = joins (u .state) (s .holds .state) (use-wider (u .state .core .used) (length (u .log)) logLimit (s .holds .log) (s .used e))
 
   -- what is not refused is ready
   ready : refusedWrite x w ≡ 0 → Ready x w
@@ -155,4 +149,4 @@ fresh-storable kind banks code colour rom v w save log sound e z =
     let s = started l (sym (ap (λ (a : Begun). a .number) e) ∙ z) in
     let u = start l .state in
     ap (λ (a : Begun). storable (a .state)) e
-    ∙ joins u (s .good .holds .state) (wider (u .used) (length log) (s .good .holds .log) (s .good .used))
+    ∙ joins u (s .good .holds .state) (use-wider (u .used) (length log) logLimit (s .good .holds .log) (s .good .used))

@@ -34,7 +34,7 @@ fn answer_number(answer: Answer) -> u32
     let Answer::Stored { at, value } = answer else {
         return 0;
     };
-    0x800000 + (at % 32768) as u32 * 256 + value as u32
+    savelog::record_number(at % savelog::ADDRESS_END, value)
 }
 
 // What the mapper answers, and its registers in the image.

@@ -11,7 +11,7 @@ use lib.ListN.{length, take, drop, getD, length-append}
 use mir.Syntax.{w32}
 use mir.Val.{ofZ, toZ, SFits}
 use mir.Facts.{fits-ofZ}
-use borrow.Author.Tests.{eqb-true, leb-true}
+use borrow.Author.Tests.{eqb-true}
 use Rattle.rules.proofs.Tests.{both-true}
 use Rattle.packing.specs.Packing.{Below, bits, packed, unpacked, repacked, eights, fives}
 use Rattle.packing.proofs.Laws.{Fit, packed-lt, below-fit}
@@ -21,6 +21,7 @@ use Rattle.mbc.proofs.Ranges.{rom-below, banks-most, mbc1-facts}
 use Rattle.mbc.specs.declared.cartridge.Cartridge.{Cartridge}
 use Rattle.mbc.specs.declared.mbc.Mapper.{Mapper}
 use Rattle.mbc.specs.declared.mbc.Mapper.the-variants.{RomOnly, Mbc1, Mbc2}
+use Rattle.savelog.proofs.Use.{use-parts}
 use Rattle.savelog.specs.Log.{logLimit, useInRange}
 use Rattle.memory.specs.declared.Banks.{Banks}
 use Rattle.memory.specs.declared.Memory.{Memory}
@@ -38,11 +39,9 @@ pub storable-state : (m : Memory) → storable m ≡ true → stateInRange m ≡
 unfolding storable inRange
 storable-state m h = both-true (stateInRange m) (useInRange (m .core .used) logLimit) h .0
 
-pub storable-use : (m : Memory) → storable m ≡ true → m .core .used ≤ 65535
-unfolding storable inRange useInRange
-storable-use m h =
-    let u = both-true (stateInRange m) (useInRange (m .core .used) logLimit) h .1 in
-    leb-true (m .core .used) logLimit (both-true (eqb (m .core .used % 3) 0) _ u .1)
+pub storable-use : (m : Memory) → storable m ≡ true → m .core .used ≤ logLimit
+unfolding storable inRange
+storable-use m h = use-parts (m .core .used) logLimit (both-true (stateInRange m) (useInRange (m .core .used) logLimit) h .1) .1
 
 abbrev AllBelow : ℕ → List ℕ → Type 0
 AllBelow k [] = 0 < 1

@@ -22,8 +22,6 @@ pub use patches::put_mapping;
 
 const LENGTH: usize = 665;
 
-const NO_LOG: usize = 65535;
-
 // The number, and the state that an image gave.
 pub struct Loaded {
     pub number: u8,
@@ -69,7 +67,7 @@ pub fn encode(memory: Memory, image: &mut [u8]) -> u8
     if image.len() != LENGTH {
         return numbers::WRONG_LENGTH;
     }
-    if !memory::in_range(memory, NO_LOG) {
+    if !memory::in_range(memory, savelog::LOG_LIMIT) {
         return numbers::OUT_OF_RANGE;
     }
     store(memory, image);
@@ -101,7 +99,7 @@ pub fn open(image: &[u8]) -> Opened
         return closed(numbers::OUT_OF_RANGE);
     }
     let core = fields::core_of(words);
-    if !memory::core_in_range(core, NO_LOG) {
+    if !memory::core_in_range(core, savelog::LOG_LIMIT) {
         return closed(numbers::OUT_OF_RANGE);
     }
     Opened {

@@ -1,14 +1,13 @@
 -- Every write leaves a world in which the next one can be made; and a copy and a write by cases, as the code makes them.
 use mathlib.Core.Path.{_≡_, refl, sym, ap, _∙_}
 use mathlib.Core.Bool.{true}
-use mathlib.Core.List.{List, []}
+use mathlib.Core.List.{[]}
 use Prim.Native.Nat.{ℕ, zero, suc, _+_, _-_, _/_, _%_, _≤_}
 use native.Mathlib.Numerals.{add-one, sub-one}
 use native.Mathlib.Omega.{arith}
-use lib.Dec.{eqb, ltb, leb}
-use lib.ListN.{length, set, length-set, length-append, length-take, length-drop}
-use borrow.Author.Tests.{ltb-false, eqb-true, eq-eqb, ne-eqb, le-leb}
-use Rattle.rules.proofs.Tests.{both-true}
+use lib.Dec.{ltb}
+use lib.ListN.{length, set, length-set}
+use borrow.Author.Tests.{ne-eqb}
 use Rattle.mbc.proofs.Bools.{by-cond}
 use Rattle.mbc.proofs.Laws.{ram-len-after}
 use Rattle.mbc.specs.Mbc.{answer}
@@ -21,27 +20,11 @@ use Rattle.registers.proofs.Kept.{Kept, cond-both, oam-kept, write-kept, finish
 use Rattle.registers.specs.Transfers.{copyOf, finished}
 use Rattle.registers.specs.declared.transfers.Copy.{Copy}
 use Rattle.registers.specs.declared.transfers.Finish.{Finish}
-use Rattle.savelog.specs.Log.{width, bytesOf, recordBytes, appended, useInRange}
+use Rattle.savelog.proofs.Use.{has-room, use-more, appended-length}
+use Rattle.savelog.specs.Log.{width, useInRange, full}
 use Rattle.mmu.specs.PanDocs.{echo, vramAt, wramAt}
 use Rattle.mmu.specs.Access.{Holds, Ready, readIn, mapperPut, saved, savePut, inState, inVram, inWram, putAt, put}
 use Rattle.mmu.specs.Write.{copyBy, transferred, writeAt, wordAt}
-
--- a record is put over as many bytes
-record-length : (at v : ℕ) → length (recordBytes at v) ≡ width
-unfolding recordBytes bytesOf
-record-length at v = refl
-
-pub appended-length : (l : List ℕ) (used at v : ℕ) → used + width ≤ length l → length (appended l used at v) ≡ length l
-unfolding appended
-appended-length l used at v h =
-    rw (length-append, length-append, length-take, record-length, length-drop) (omega arith)
-
--- a use in range stays so with one record more, if there is room for it
-use-more : (used len : ℕ) → used + width ≤ len → useInRange used len ≡ true → useInRange (used + width) len ≡ true
-unfolding useInRange
-use-more used len room e =
-    let k = eqb-true (used % width) 0 (both-true (eqb (used % width) 0) (leb used len) e .0) in
-    rw (eq-eqb ((used + width) % width) 0 (omega arith), le-leb (used + width) len room)
 
 -- what a write leaves: a world that holds, of the same kind and cartridge, with a log use in range where it was
 pub record Stays (w u : World) : Type 0 where
@@ -144,8 +127,8 @@ module _ (w : World) (h : Holds w) where
   unfolding savePut
   save-stays i v =
       let a = answer (w .state .core .cartridge) (w .state .core .mapper) i v in
-      by-cond (Stays w) (ltb (length (w .log)) (w .state .core .used + width)) w (saved a w) (λ t. stays-refl w h)
-      (λ f. saved-stays a (ltb-false (length (w .log)) (w .state .core .used + width) f))
+      by-cond (Stays w) (full (length (w .log)) (w .state .core .used) 1) w (saved a w) (λ t. stays-refl w h)
+      (λ f. saved-stays a (has-room (length (w .log)) (w .state .core .used) 1 f))
 
   put-at-stays : (i v : ℕ) → Stays w (putAt w i v)
   unfolding putAt

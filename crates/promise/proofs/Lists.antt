@@ -9,7 +9,8 @@ use Rattle.mmu.proofs.Laws.{Stays, stays-refl, stays-trans}
 use Rattle.mmu.proofs.Saves.{Spares}
 use Rattle.mmu.specs.Access.{Holds}
 use Rattle.savelog.proofs.Prefix.{applyAll-append}
-use Rattle.savelog.specs.Log.{Rec, applyAll, joined}
+use Rattle.savelog.specs.Log.{applyAll, joined}
+use Rattle.savelog.specs.declared.Rec.{Rec}
 use Rattle.promise.specs.Calls.{ByteWrite}
 use Rattle.promise.specs.Admitted.{mapperAfter, letIn, letInAll, recordsOf}
 use Rattle.promise.specs.Runs.{usedBytes}

@@ -22,7 +22,7 @@ use Rattle.mmu.specs.Write.{copyBy, transferred, writeAt}
 use Rattle.registers.proofs.Kept.{cond-both, oam-kept, write-kept, finished-kept}
 use Rattle.registers.specs.Transfers.{oamCopy, blockCopy, generalCopy, startedCopy, startCopy, copyOf, nothing}
 use Rattle.registers.specs.declared.transfers.Copy.{Copy}
-use Rattle.savelog.specs.Log.{width}
+use Rattle.savelog.specs.Log.{full}
 
 abbrev pub SameMapper : World → World → Type 0
 SameMapper w u = u .state .core .mapper ≡ w .state .core .mapper
@@ -43,7 +43,7 @@ saved-mapper w NotStored = refl
 pub save-mapper : (w : World) (i v : ℕ) → SameMapper w (savePut w i v)
 unfolding savePut
 save-mapper w i v =
-    cond-both (SameMapper w) (ltb (length (w .log)) (w .state .core .used + width)) refl
+    cond-both (SameMapper w) (full (length (w .log)) (w .state .core .used) 1) refl
     (saved-mapper w (answer (w .state .core .cartridge) (w .state .core .mapper) i v))
 
 put-at-mapper : (w : World) (i v : ℕ) → 0x8000 ≤ i → SameMapper w (putAt w i v)

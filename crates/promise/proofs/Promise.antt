@@ -7,15 +7,16 @@ use lib.ListN.{length, take}
 use lib.Seq.{take-at}
 use Rattle.dispatch.proofs.Open.{Good, good-use}
 use Rattle.dispatch.proofs.Starts.{Started, started}
-use Rattle.mbc.proofs.Laws.{ram-len-most}
 use Rattle.mbc.specs.Mbc as mbc
 use Rattle.mbc.specs.Mbc.{cartridgeOf, ramLen}
 use Rattle.mbc.specs.declared.cartridge.Cartridge.{Cartridge}
 use Rattle.mbc.specs.declared.mbc.Mapper.{Mapper}
 use Rattle.memory.specs.World.{World}
+use Rattle.savelog.proofs.Laws.{save-within}
 use Rattle.savelog.proofs.Prefix as savelog
 use Rattle.savelog.specs.Laws.{Copies, none, more}
-use Rattle.savelog.specs.Log.{Rec, Outcome, width, records, allSound, applyAll, saveLengths, oneOf, recoverAll, joined, cutCopies}
+use Rattle.savelog.specs.Log.{Outcome, width, records, allSound, applyAll, saveLengths, oneOf, recoverAll, joined, cutCopies}
+use Rattle.savelog.specs.declared.Rec.{Rec}
 use Rattle.promise.specs.Bus.{inSave, Lent, start, begin}
 use Rattle.promise.specs.Admitted.{admittedBy, grantedAll, mapperAfter, letIn, letInAll, recordsOf}
 use Rattle.promise.specs.Promise.{Typed, Recovers, Promise, Example}
@@ -68,7 +69,7 @@ module _ (w : World) (g : Good w) (unused : w .state .core .used ≡ 0) (ts : Li
     run-names : records (joined (copiesFrom w ts)) ≡ admittedFrom w ts
     run-names =
         ap records run-records
-        ∙ fit-read _ (ram-len-most (w .state .core .cartridge) (w .state .core .mapper)) (admittedFrom w ts) admitted-fit
+        ∙ fit-read _ (save-within _ (ram-taken (w .state .core .cartridge) (w .state .core .mapper))) (admittedFrom w ts) admitted-fit
 
     run-copies : Copies (length (w .save)) (copiesFrom w ts)
     run-copies =
@@ -106,7 +107,7 @@ promise l ts z =
       log = run-records (begin l) g (s .unused) ts ∙ ap recordsOf e;
       names = λ t. run-names (begin l) g (s .unused) ts t ∙ e;
       first = λ n. savelog.joined-cut n (copies l ts);
-      cut = λ t n. run-cut (begin l) g (s .unused) ts t n ∙ ap (λ (rs : List Rec). applyAll (l .image) (take (n / 3) rs)) e;
+      cut = λ t n. run-cut (begin l) g (s .unused) ts t n ∙ ap (λ (rs : List Rec). applyAll (l .image) (take (n / width) rs)) e;
       recovers = λ t. run-recovers (begin l) g (s .unused) ts t;
       stood = λ later.
           run-stood (begin l) g (s .unused) ts later

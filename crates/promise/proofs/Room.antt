@@ -1,7 +1,7 @@
 -- A bus on which every call can be made refuses a write whose lent lengths are right for want of room alone, and no clearing.
 use mathlib.Core.Bool.{Bool, true, false, cond, _&&_, _||_}
 use mathlib.Core.Path.{_≡_, refl}
-use Prim.Native.Nat.{ℕ, _+_}
+use Prim.Native.Nat.{ℕ, _+_, _*_}
 use native.Mathlib.Omega.{arith}
 use lib.Dec.{ltb}
 use lib.ListN.{length}
@@ -43,11 +43,11 @@ module _ (w : World) (g : Good w) (x : Fixed) where
 
   pub word-number : (i v : ℕ)
       → step x w (call.WriteWord i v) .number
-      ≡ cond lentRight (cond ((inSave i || inSave (nextIndex i)) && ltb (free w) (width + width)) noRoom (wordOwed i)) wrongLength
+      ≡ cond lentRight (cond ((inSave i || inSave (nextIndex i)) && ltb (free w) (2 * width)) noRoom (wordOwed i)) wrongLength
   unfolding step wordRoom eitherInSave
   word-number i v =
-      rw (write-number w g x, free-room w g (width + width))
-      (room-number lentRight ((inSave i || inSave (nextIndex i)) && ltb (free w) (width + width)) w _)
+      rw (write-number w g x, free-room w g (2 * width))
+      (room-number lentRight ((inSave i || inSave (nextIndex i)) && ltb (free w) (2 * width)) w _)
 
   pub clear-number : step x w (call.State on.ClearLog) .number ≡ done
   unfolding step stateStep changed

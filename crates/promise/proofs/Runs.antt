@@ -5,7 +5,8 @@ use Prim.Native.Nat.{ℕ}
 use Rattle.dispatch.proofs.Open.{Good}
 use Rattle.memory.specs.World.{World}
 use Rattle.savelog.proofs.Prefix.{applyAll-append}
-use Rattle.savelog.specs.Log.{Rec, applyAll, joined}
+use Rattle.savelog.specs.Log.{applyAll, joined}
+use Rattle.savelog.specs.declared.Rec.{Rec}
 use Rattle.promise.specs.Admitted.{granted, grantedAll, admittedBy, letInAll, recordsOf}
 use Rattle.promise.specs.Runs.{Turn, calls, made, run, usedBytes, numbers, copiedBefore, copiesFrom}
 use Rattle.promise.specs.Bus.{kindOf}

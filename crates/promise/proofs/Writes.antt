@@ -5,8 +5,7 @@ use mathlib.Core.Path.{_≡_, refl, ap, sym, _∙_}
 use Prim.Native.Nat.{ℕ, _+_, _<_, _≤_}
 use native.Mathlib.Omega.{arith}
 use lib.Dec.{ltb, leb}
-use lib.ListN.{length, take, drop, length-append}
-use lib.Seq.{take-at, length-take-le}
+use lib.ListN.{length}
 use borrow.Author.Tests.{ltb-true, ltb-false, leb-true, lt-ltb, le-ltb, le-leb}
 use Rattle.mbc.proofs.Bools.{by-cond}
 use Rattle.mbc.specs.Mbc.{answer}
@@ -14,7 +13,6 @@ use Rattle.mbc.specs.declared.mbc.Mapper.{Mapper}
 use Rattle.mbc.specs.declared.mbc.Answer.{Answer}
 use Rattle.mbc.specs.declared.mbc.Answer.the-variants.{Stored, NotStored}
 use Rattle.memory.specs.World.{World, Fixed}
-use Rattle.mmu.proofs.Laws.{appended-length}
 use Rattle.mmu.proofs.Places.{put-rom}
 use Rattle.mmu.proofs.Saves.{Spares, put-spares, transfer-spares, copy-clear}
 use Rattle.mmu.specs.Access.{saved, savePut, put, putAt}
@@ -22,25 +20,14 @@ use Rattle.mmu.specs.PanDocs.{echo}
 use Rattle.mmu.specs.Write.{writeAt}
 use Rattle.registers.specs.Transfers.{copyOf}
 use Rattle.rules.proofs.Tests.{both-true}
-use Rattle.savelog.specs.Log.{Rec, width, bytesOf, recordBytes, appended, applyAll}
+use Rattle.savelog.proofs.Use.{lacks-room, appended-length, used-more}
+use Rattle.savelog.specs.Log.{width, applyAll, full}
+use Rattle.savelog.specs.declared.Rec.{Rec}
 use Rattle.promise.specs.Bus.{inSave}
 use Rattle.promise.specs.Calls.{byte}
 use Rattle.promise.specs.Admitted.{mapperAfter, answered, letIn, recordsOf}
 use Rattle.promise.specs.Runs.{usedBytes}
 use Rattle.promise.proofs.Mappers.{put-mapper, transfer-mapper, copy-high}
-
--- A record more behind the used bytes
-
-pub record-length : (at v : ℕ) → length (recordBytes at v) ≡ width
-unfolding recordBytes bytesOf
-record-length at v = refl
-
-used-more : (l : List ℕ) (u at v : ℕ) → u + width ≤ length l → take (u + width) (appended l u at v) ≡ take u l ++ (recordBytes at v ++ [])
-unfolding appended
-used-more l u at v h =
-    let t : length (take u l) ≡ u = length-take-le u l (omega arith) in
-    let j : length (take u l ++ recordBytes at v) ≡ u + width = rw (length-append, t, record-length at v) in
-    rw (take-at (take u l ++ recordBytes at v) (drop (u + width) l) (u + width) j, append-nil)
 
 -- One byte write from w to u: `w` gives the mapper, `rs` is what it lets in
 
@@ -65,7 +52,7 @@ unfolding applyAll recordsOf
 saved-stores w (Stored at v) h =
     record {
       save = refl;
-      log = used-more (w .log) (w .state .core .used) at v h;
+      log = rw append-nil (used-more (w .log) (w .state .core .used) at v h);
       grown = omega arith;
       same = appended-length (w .log) (w .state .core .used) at v h;
     }
@@ -115,8 +102,8 @@ module _ (w : World) (i v : ℕ) where
   unfolding savePut
   save-stores h =
       let a = answer (w .state .core .cartridge) (w .state .core .mapper) i v in
-      by-cond (Stores (answered a) w) (ltb (length (w .log)) (w .state .core .used + width)) w (saved a w)
-      (λ t. absurd (omega (arith, ltb-true (length (w .log)) (w .state .core .used + width) t))) (λ f. saved-stores w a h)
+      by-cond (Stores (answered a) w) (full (length (w .log)) (w .state .core .used) 1) w (saved a w)
+      (λ t. absurd (omega (arith, lacks-room (length (w .log)) (w .state .core .used) 1 t))) (λ f. saved-stores w a h)
 
   put-stores : (inSave i ≡ true → w .state .core .used + width ≤ length (w .log)) → Stores lets w (put w i v)
   unfolding letIn

@@ -27,7 +27,7 @@ use Rattle.registers.proofs.Kept.{cond-both}
 use Rattle.registers.proofs.Rest.{rest-write, sound-write, high-write}
 use Rattle.registers.specs.Page.{plainWrite, writeRegister}
 use Rattle.registers.specs.State.{stored}
-use Rattle.savelog.specs.Log.{width}
+use Rattle.savelog.specs.Log.{width, full}
 use Rattle.entry.specs.Entry.{left}
 use Rattle.quick_writes.specs.Writes.{quick, leftBy, ownPut}
 
@@ -101,7 +101,7 @@ module _ (w : World) (t : Typed (w .state)) (i v : ℕ) (hv : v < 256) where
   save-typed : TypedIn (savePut w i v)
   unfolding savePut
   save-typed =
-      cond-both TypedIn (ltb (length (w .log)) (w .state .core .used + width)) t (saved-typed (answer (w .state .core .cartridge) (w .state .core .mapper) i v))
+      cond-both TypedIn (full (length (w .log)) (w .state .core .used) 1) t (saved-typed (answer (w .state .core .cartridge) (w .state .core .mapper) i v))
 
   oam-typed : Typed (withOam (w .state) (set (w .state .oam) (i - 0xFE00) v))
   oam-typed =

@@ -9,17 +9,17 @@ use Rattle.memory.specs.World.{World, Fixed}
 use Rattle.memory.specs.declared.Core.{Core}
 use Rattle.memory.specs.declared.Memory.{Memory}
 use Rattle.numbers.specs.Numbers.{done, owed, noRoom, outOfRange, wrongLength, tooManyCycles, outside}
-use Rattle.savelog.specs.Log.{width, logLimit, useInRange}
+use Rattle.savelog.specs.Log.{logLimit, full, useInRange}
 
 -- the first refusal of two that is due; 0 where none is
 unfoldable pub orElse : ℕ → ℕ → ℕ
 orElse n next = cond (eqb n done) next n
 
--- 3: the state is out of range; the log use is within the lent log, or within 65,535 bytes where none is lent
+-- 3: the state is out of range; the log use is within the lent log, or within the longest where none is lent
 unfoldable pub stateRefused : Memory → ℕ → ℕ
 stateRefused m limit = cond (inRange m limit) done outOfRange
 
--- 3 where no log is lent: its use is held to 65,535
+-- 3 where no log is lent
 abbrev pub refusedState : Memory → ℕ
 refusedState m = stateRefused m logLimit
 
@@ -42,7 +42,7 @@ lengthsRefused c rom vram wram save sound = cond (lengthsFit c rom vram wram sav
 unfoldable pub readRefused : Memory → ℕ → ℕ → ℕ → ℕ → ℕ → ℕ
 readRefused m rom vram wram save sound = orElse (stateRefused m logLimit) (lengthsRefused (m .core) rom vram wram save sound)
 
--- a log of 0 to 65,535 bytes
+-- 4: a log longer than one may be
 unfoldable pub logRefused : ℕ → ℕ
 logRefused log = cond (leb log logLimit) done wrongLength
 
@@ -65,15 +65,15 @@ inSound i = leb 0xFF10 i && ltb i 0xFF40
 abbrev pub nextIndex : ℕ → ℕ
 nextIndex i = (i + 1) % 65536
 
--- 2: a byte write in A000..BFFF with under 3 log bytes free; a word write with either index there, under 6 free
+-- 2: a byte write in A000..BFFF without room for a record; a word write with either index there, without room for two
 unfoldable pub byteRoom : ℕ → ℕ → ℕ → ℕ
-byteRoom used log i = cond (inSave i && ltb log (used + width)) noRoom done
+byteRoom used log i = cond (inSave i && full log used 1) noRoom done
 
 unfoldable pub eitherInSave : ℕ → Bool
 eitherInSave i = inSave i || inSave (nextIndex i)
 
 unfoldable pub wordRoom : ℕ → ℕ → ℕ → ℕ
-wordRoom used log i = cond (eitherInSave i && ltb log (used + (width + width))) noRoom done
+wordRoom used log i = cond (eitherInSave i && full log used 2) noRoom done
 
 -- 1: done, and the host owes the sound write
 unfoldable pub byteOwed : ℕ → ℕ

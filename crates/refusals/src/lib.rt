@@ -35,9 +35,6 @@ pub struct Waiting {
     pub pending: Pending,
 }
 
-// The most bytes of a log, and what a log use is held to where none is lent.
-pub const LOG_LIMIT: usize = 65535;
-
 // The first of two refusals that is due.
 pub fn or_else(number: u8, next: u8) -> u8
     ensures { λ r. ⌜ r ≡ orElse number next ⌝ }
@@ -61,7 +58,7 @@ pub fn state_refused(memory: Memory, limit: usize) -> u8
 pub fn refused(memory: Memory) -> u8
     ensures { λ r. ⌜ r ≡ refusedState memory ⌝ }
 {
-    state_refused(memory, LOG_LIMIT)
+    state_refused(memory, savelog::LOG_LIMIT)
 }
 
 // Where the rest of the state is known to be in range: a log's use within the lent log.
@@ -122,7 +119,7 @@ pub fn read_refused(
 ) -> u8
     ensures { λ r. ⌜ r ≡ readRefused memory rom vram wram save sound ⌝ }
 {
-    let state = state_refused(memory, LOG_LIMIT);
+    let state = state_refused(memory, savelog::LOG_LIMIT);
     let lengths = lengths_refused(memory.core, rom, vram, wram, save, sound);
     or_else(state, lengths)
 }
@@ -130,7 +127,7 @@ pub fn read_refused(
 pub fn log_refused(log: usize) -> u8
     ensures { λ r. ⌜ r ≡ logRefused log ⌝ }
 {
-    if log <= LOG_LIMIT {
+    if log <= savelog::LOG_LIMIT {
         return numbers::DONE;
     }
     numbers::WRONG_LENGTH
@@ -200,7 +197,7 @@ pub fn byte_room(used: u16, log: usize, index: u16) -> u8
     ensures { λ r. ⌜ r ≡ byteRoom used log index ⌝ }
 {
     if in_save(index) {
-        if log < used as usize + 3 {
+        if savelog::full(log, used, 1) {
             return numbers::NO_ROOM;
         }
     }
@@ -220,7 +217,7 @@ pub fn word_room(used: u16, log: usize, index: u16) -> u8
     ensures { λ r. ⌜ r ≡ wordRoom used log index ⌝ }
 {
     if either_in_save(index) {
-        if log < used as usize + 6 {
+        if savelog::full(log, used, 2) {
             return numbers::NO_ROOM;
         }
     }

@@ -1,8 +1,8 @@
 -- The number of a call is one digit.
 use mathlib.Core.Bool.{Bool, true, false, cond, _&&_}
-use Prim.Native.Nat.{ℕ, _+_, _<_}
+use Prim.Native.Nat.{ℕ, _<_}
 use native.Mathlib.Omega.{arith}
-use lib.Dec.{eqb, leb, ltb}
+use lib.Dec.{eqb, leb}
 use Rattle.bus.specs.Calls.{Outcome, outcome, unless}
 use Rattle.input_calls.specs.Input.{updateTimerCall}
 use Rattle.memory.specs.Ranges.{inRange}
@@ -13,7 +13,7 @@ use Rattle.refusals.specs.Answers.{changed}
 use Rattle.refusals.specs.declared.Done.{Done}
 use Rattle.refusals.specs.Refusal.{orElse, inSave, inSound, byteRoom, byteOwed, cyclesRefused}
 use Rattle.refusals.specs.Refusal.{stateRefused, lengthsFit, lengthsRefused, logRefused, lentRefused, writeRefused}
-use Rattle.savelog.specs.Log.{width, logLimit}
+use Rattle.savelog.specs.Log.{logLimit, full}
 use Rattle.write_calls.specs.Writes.{writeByteCall}
 
 either : (b : Bool) (x y : ℕ) → x < 10 → y < 10 → cond b x y < 10
@@ -42,7 +42,7 @@ write m a b c d e l = first _ _ (state m l) (first _ _ (lengths m a b c d e) (lo
 
 room : (used n i : ℕ) → byteRoom used n i < 10
 unfolding byteRoom
-room used n i = either (inSave i && ltb n (used + width)) noRoom done (omega arith) (omega arith)
+room used n i = either (inSave i && full n used 1) noRoom done (omega arith) (omega arith)
 
 sound : (i : ℕ) → byteOwed i < 10
 unfolding byteOwed

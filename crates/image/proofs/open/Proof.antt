@@ -7,6 +7,7 @@ use Rattle.rules.proofs.Tests.{denied, granted}
 use Rattle.packing.specs.Packing.{Below}
 use Rattle.memory.specs.declared.Core.{Core}
 use Rattle.memory.specs.Ranges.{coreInRange}
+use Rattle.savelog.specs.Log.{logLimit}
 use Rattle.image.specs.declared.fields.Words.{Words}
 use Rattle.image.specs.declared.Opened.{Opened}
 use Rattle.image.specs.Load.{coreFrom, sound, loadCall, openedOf, openCall}
@@ -59,7 +60,7 @@ returns-3 c =
     let size = c .before .before .before .before .before .before .before .if1 .left in
     let below : Below 256 l = λ i. c .before .before .before .before .before .before .before .before .shared-slice-known .given i .fits in
     let e = c .before .before .before .core-of .ensures ∙ ap (λ (w : Words). coreFrom (fieldsOf w)) (c .before .before .before .before .before .before .words-at .ensures) in
-    let r = c .before .before .core-in-range .ensures ∙ ap (λ (k : Core). coreInRange k 65535) e in
+    let r = c .before .before .core-in-range .ensures ∙ ap (λ (k : Core). coreInRange k logLimit) e in
     c .closed3 .ensures ∙ ap openedOf (sym (load-outside l size below (core-storable l size below ∙ denied r (c .before .if3 .taken))))
 
 returns-4 : tie.Need-returns-4
@@ -70,7 +71,7 @@ returns-4 c =
     let below : Below 256 l = λ i. c .before .before .before .before .before .before .before .shared-slice-known .given i .fits in
     let s = c .before .before .before .before .is-sound .ensures ∙ ap (λ (w : Words). sound (fieldsOf w)) (c .before .before .before .before .before .words-at .ensures) in
     let e = c .before .before .core-of .ensures ∙ ap (λ (w : Words). coreFrom (fieldsOf w)) (c .before .before .before .before .before .words-at .ensures) in
-    let r = c .before .core-in-range .ensures ∙ ap (λ (k : Core). coreInRange k 65535) e in
+    let r = c .before .core-in-range .ensures ∙ ap (λ (k : Core). coreInRange k logLimit) e in
     ap (opened 0) (e ∙ sym (state-core l size below))
     ∙ ap openedOf (sym (load-done l size below (granted s (c .before .before .before .if2 .left)) (core-storable l size below ∙ granted r (c .if3 .left))))
 
