@@ -62,7 +62,7 @@ pub fn fresh(
         sound.len(),
         log.len(),
     );
-    if number != 0 {
+    if number != numbers::DONE {
         return Done {
             number: number,
             memory: memory::zero(),

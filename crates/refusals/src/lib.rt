@@ -5,6 +5,14 @@ use interrupt::Pending;
 use memory::Core;
 use memory::Memory;
 
+mod door;
+
+pub use door::byte_given;
+pub use door::changed;
+pub use door::flag_given;
+pub use door::waiting_given;
+pub use door::word_given;
+
 // The number, and the state after the call.
 pub struct Done {
     pub number: u8,
@@ -39,7 +47,7 @@ pub struct Waiting {
 pub fn or_else(number: u8, next: u8) -> u8
     ensures { λ r. ⌜ r ≡ orElse number next ⌝ }
 {
-    if number == 0 {
+    if number == numbers::DONE {
         return next;
     }
     number

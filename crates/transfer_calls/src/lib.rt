@@ -34,7 +34,7 @@ pub fn do_dma_transfer(
         sound.len(),
         log.len(),
     );
-    if number != 0 {
+    if number != numbers::DONE {
         return Done {
             number: number,
             memory: memory,
@@ -68,7 +68,7 @@ pub fn do_hdma(
         sound.len(),
         log.len(),
     );
-    if number != 0 {
+    if number != numbers::DONE {
         return Moved {
             number: number,
             cycles: 0,
