@@ -16,6 +16,8 @@ use Rattle.hdma.proofs.Laws as hdma
 use Rattle.hdma.specs.Hdma.{InRange}
 use Rattle.hdma.specs.declared.Ended.{Ended}
 use Rattle.hdma.specs.declared.Hdma.{Hdma}
+use Rattle.hdma.specs.declared.Start.{Start}
+use Rattle.hdma.specs.declared.Written.{Written}
 use Rattle.image.specs.Laws.{Typed}
 use Rattle.interrupt.specs.Flags.{named}
 use Rattle.interrupt.specs.PanDocs.{bitOf}
@@ -62,9 +64,10 @@ use Rattle.registers.specs.Colour.{
 }
 use Rattle.registers.specs.Page.{plainWrite, writeRegister}
 use Rattle.registers.specs.State.{loaded, stored, screenOf, withScreen, onScreen, timerOf, withTimer, requestedIn, removedIn, polledIn}
-use Rattle.registers.specs.Transfers.{transferPut, sourceHighPut, sourceLowPut, destinationHighPut, destinationLowPut, startPut, withEnded, finished}
+use Rattle.registers.specs.Transfers.{transferPut, sourceHighPut, sourceLowPut, destinationHighPut, destinationLowPut, startedBy, started, startPut, withEnded, finished}
 use Rattle.registers.specs.declared.transfers.Finish.{Finish}
 use Rattle.registers.specs.declared.transfers.Finish.the-variants.{Nothing, Block, General}
+use Rattle.registers.specs.declared.transfers.Started.{Started}
 use Rattle.state_calls.specs.State.{onInterrupt}
 use Rattle.timer.proofs.Laws as timer
 use Rattle.timer.specs.Promises.{Ready}
@@ -241,7 +244,7 @@ module _ {m : Memory} (f : Fine m) where
   with-sprites : {p : Palette} → palette.Ready p → Fine (withSpritePalette m p)
   with-sprites r = sprites-fine (r .size, r .range) (page-set 0x6B (page-set 0x6A (f .page) (r .index)) (r .shown))
 
-  with-transfer : (at : ℕ) {h : Hdma} {b : ℕ} → InRange h → b < 256 → Fine (transferPut m at h b)
+  with-transfer : (at : ℕ) {w : Written} → InRange (w .hdma) → w .byte < 256 → Fine (transferPut m at w)
   with-transfer at h b = hdma-fine h (page-set at (f .page) b)
 
   with-ended : {e : Ended} → InRange (e .hdma) → hdma.Bytes e → Fine (withEnded m e)
@@ -291,12 +294,12 @@ module _ {m : Memory} (f : Fine m) where
         coloured 0x54 b (with-transfer 0x54 (hdma.destination-low-range (m .core .hdma) v (f .hdma)) (hdma.destination-low-byte (m .core .hdma) v b))
 
     start-fine : Fine (startPut m v)
-    unfolding startPut
+    unfolding started
     start-fine =
-        let old = loaded m 0x55 in
-        coloured 0x55 b
-        (with-transfer 0x55 (hdma.started-range (m .core .hdma) (m .core .lcd .mode) v old (f .hdma))
-        (hdma.started-byte (m .core .hdma) (m .core .lcd .mode) v old (loaded-byte 0x55)))
+        cond-both (λ (s : Started). Fine (s .memory)) (m .core .banks .colour)
+        (hdma.by-start (λ (s : Start). Fine (startedBy m v s .memory)) (m .core .hdma) (m .core .lcd .mode) v (with-transfer 0x55 (f .hdma) (omega arith))
+        (with-transfer 0x55 (f .hdma) (omega arith)) (with-transfer 0x55 (f .hdma) (omega arith)) f)
+        (stored-fine 0x55 b)
 
     background-index-fine : Fine (backgroundIndexPut m v)
     unfolding backgroundIndexPut

@@ -27,7 +27,6 @@ use Rattle.refusals.specs.Refusal.{
   refusedWrite,
 }
 use Rattle.rules.proofs.Tests.{both-true}
-use Rattle.savelog.specs.Log.{width, logLimit, useInRange}
 use Rattle.dispatch.specs.Lent.{fits}
 
 pub record Good (w : World) : Type 0 where

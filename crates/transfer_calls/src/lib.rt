@@ -40,7 +40,7 @@ pub fn do_dma_transfer(
             memory: memory,
         };
     }
-    let next = mmu::do_dma_transfer(memory, rom, vram, wram, save, log, sound, page);
+    let next = mmu::do_oam_dma(memory, rom, vram, wram, save, log, sound, page);
     Done {
         number: numbers::DONE,
         memory: next,
