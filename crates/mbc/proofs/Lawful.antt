@@ -3,7 +3,7 @@ use mathlib.Core.Path.{_≡_}
 use mathlib.Core.Bool.{true}
 use mathlib.Core.Logic.{_⊎_}
 use Prim.Native.Nat.{ℕ, _<_, _≤_}
-use Rattle.mbc.specs.Mbc.{oneOf, powers, romLen, ramLen, described, inRange, behaviour, registersOf, mapperOf, ramSource, after}
+use Rattle.mbc.specs.Mbc.{oneOf, powers, romLen, ramLen, described, inRange, behaviour, known, registersOf, mapperOf, ramSource, after}
 use Rattle.mbc.specs.declared.cartridge.Cartridge.{Cartridge}
 use Rattle.mbc.specs.declared.mbc.Mapper.{Mapper}
 use Rattle.mbc.specs.declared.mbc.Source.{Source}
@@ -39,6 +39,7 @@ pub record Lawful (m : Mapper) : Type 0 where
   pub describes : (c : Cartridge) → described c m ≡ true → Described c
   pub holds : (c : Cartridge) → inRange c m ≡ true → Held c m
   -- registers and back
+  pub kind : known (registersOf m .kind) ≡ true
   pub back : mapperOf (registersOf m) ≡ m
   pub bits : (registersOf m .mode < 2) × (registersOf m .enabled < 2)
   -- a save is as long as the RAM code says, or 512 bytes

@@ -1,6 +1,6 @@
 -- Mbc1's laws: what its ranges say, as a record of facts, and that each of its writes keeps them.
 use mathlib.Core.Path.{_≡_, refl}
-use mathlib.Core.Bool.{Bool, true, false, cond, _&&_, _||_, or-true}
+use mathlib.Core.Bool.{true, false, cond, _&&_, _||_, or-true}
 use mathlib.Core.List.{[], _∷_}
 use mathlib.Core.Logic.{inl}
 use Prim.Native.Nat.{ℕ, _<_, _≤_, _%_}
@@ -224,6 +224,7 @@ mbc1-lawful m =
           let b = and-left (hasBanks 128 c) (hasCode c) e in
           record { power = banks-power 128 c b; most = banks-most 128 c b; code = code-most c (and-right (hasBanks 128 c) (hasCode c) e) };
       holds = λ c e. let f = mbc1-facts c m e in record { rom = f .rom; ram = f .ram; high = f .high };
+      kind = refl;
       back = rw (bit-back (m .mode), bit-back (m .enabled));
       bits = (bit-small (m .mode), bit-small (m .enabled));
       owns = inl refl;

@@ -2,7 +2,6 @@
 use mathlib.Core.Path.{_≡_, refl}
 use mathlib.Core.Bool.{true, _&&_, and-true}
 use mathlib.Core.Logic.{inl}
-use Prim.Native.Nat.{ℕ}
 use native.Mathlib.Omega.{arith}
 use lib.Dec.{eqb, lit<}
 use Rattle.mbc.specs.PanDocs.{ramAddress}
@@ -34,6 +33,7 @@ rom-only-lawful =
           let b = and-left (hasBanks 2 c) (hasCode c) e in
           record { power = banks-power 2 c b; most = omega (arith, banks-most 2 c b); code = code-most c (and-right (hasBanks 2 c) (hasCode c) e) };
       holds = λ c e. record { rom = omega (arith, banks-least 2 c (in-banks c e)); ram = omega arith; high = omega arith };
+      kind = refl;
       back = refl;
       bits = (omega arith, omega arith);
       owns = inl refl;

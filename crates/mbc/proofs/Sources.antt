@@ -9,7 +9,6 @@ use Rattle.mbc.specs.PanDocs.{romAddress}
 use Rattle.mbc.specs.Mbc.{inRange, mapped, romBank, ramSource, source}
 use Rattle.mbc.specs.declared.cartridge.Cartridge.{Cartridge}
 use Rattle.mbc.specs.declared.mbc.Mapper.{Mapper}
-use Rattle.mbc.specs.declared.mbc.Source.{Source}
 use Rattle.mbc.specs.declared.mbc.Source.the-variants.{Rom}
 use Rattle.mbc.proofs.Bools.{by-cond}
 use Rattle.mbc.proofs.Lawful.{Within, Whole}
