@@ -9,7 +9,6 @@ use crate::complement::unsigned;
 use crate::host::least;
 use crate::host::lengths_in;
 use lcd::Lcd;
-use lines::mapper::registers_of;
 use lines::number::flag;
 use lines::number::high;
 use lines::number::low;
@@ -119,13 +118,13 @@ fn of_cycles(h: u32, lcd: Lcd) -> u32 {
 fn of_mapper(h: u32, memory: Memory) -> u32 {
     let cartridge = memory.core.cartridge;
     let mapper = memory.core.mapper;
-    let held = registers_of(mapper);
+    let held = mapper.registers();
     let bytes = [
         held.kind,
         high(cartridge.banks),
         low(cartridge.banks),
         cartridge.code,
-        held.rom,
+        low(held.rom),
         held.ram,
         held.mode,
         held.enabled,

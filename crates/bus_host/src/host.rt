@@ -8,7 +8,6 @@ ghost use Rattle.memory.specs.World.{world, fixed};
 ghost use Rattle.bus_host.specs.Host.{smaller, lengthsOf, lentOf, lengthsIn, lentParts};
 use dispatch::Call;
 use dispatch::Performed;
-use lines::mapper::banks;
 use lines::pattern;
 use mbc::Cartridge;
 use mbc::Mapper;
@@ -123,7 +122,7 @@ struct Description {
 fn described(given: &[u8; 52]) -> Description {
     Description {
         kind: given[0],
-        banks: banks(given[1]),
+        banks: Cartridge::banks_of(given[1]),
         code: given[2],
         colour: given[3] == 1,
     }

@@ -12,7 +12,7 @@ use lib.Seq.{take-at, drop-at, drop-drop, length-take-le}
 use mir.Syntax.{w32}
 use mir.Val.{ofZ, toZ}
 use mir.Facts.{toZ-ofZ, ofZ-toZ}
-use borrow.Author.Tests.{eqb-true, eq-eqb, ne-eqb}
+use borrow.Author.Tests.{leb-true, eqb-true, eq-eqb, ne-eqb}
 use Rattle.rules.proofs.Tests.{both-true}
 use Rattle.numbers.specs.Numbers.{done, outOfRange, wrongLength}
 use Rattle.packing.specs.Packing.{Below, bits, packed, unpacked, repacked, eights, fives}
@@ -53,24 +53,26 @@ signed-again n h = ofZ-toZ {w = w32} {n = n} (record { fits = h })
 
 Powers : List ℕ → Type 0
 Powers [] = 0 < 1
-Powers (x ∷ xs) = (2 ^ log2 x ≡ x) × Powers xs
+Powers (x ∷ xs) = (x ≤ 128 → 2 ^ log2 x ≡ x) × Powers xs
 
-power-of : (xs : List ℕ) (n : ℕ) → Powers xs → mbc.oneOf xs n ≡ true → 2 ^ log2 n ≡ n
+power-of : (xs : List ℕ) (n : ℕ) → Powers xs → n ≤ 128 → mbc.oneOf xs n ≡ true → 2 ^ log2 n ≡ n
 unfolding Powers
-power-of [] n p h = let z : _≡_ {A = ℕ} 0 1 = cc in absurd (omega arith)
-power-of (x ∷ xs) n p h =
-    ⊎-elim (λ e. let q = eqb-true n x e in rw q (p .0)) (λ e. power-of xs n (p .1) e) (or-cases (eqb n x) (mbc.oneOf xs n) h)
+power-of [] n p m h = let z : _≡_ {A = ℕ} 0 1 = cc in absurd (omega arith)
+power-of (x ∷ xs) n p m h =
+    ⊎-elim (λ e. let q = eqb-true n x e in rw q (p .0 (omega arith))) (λ e. power-of xs n (p .1) m e) (or-cases (eqb n x) (mbc.oneOf xs n) h)
 
-power-log : (most : ℕ) (c : Cartridge) → mbc.hasBanks most c ≡ true → 2 ^ log2 (c .banks) ≡ c .banks
+power-log : (most : ℕ) (c : Cartridge) → most ≤ 128 → mbc.hasBanks most c ≡ true → 2 ^ log2 (c .banks) ≡ c .banks
 unfolding mbc.hasBanks log2 Powers
-power-log most c h =
-    power-of (2 ∷ 4 ∷ 8 ∷ 16 ∷ 32 ∷ 64 ∷ 128 ∷ []) (c .banks) (refl, (refl, (refl, (refl, (refl, (refl, (refl, omega arith))))))) (both-true (leb (c .banks) most) _ h .1)
+power-log most c m h =
+    let b = both-true (leb (c .banks) most) _ h in
+    power-of mbc.powers (c .banks)
+    (λ k. refl, (λ k. refl, (λ k. refl, (λ k. refl, (λ k. refl, (λ k. refl, (λ k. refl, (λ k. absurd (omega arith), (λ k. absurd (omega arith), omega arith))))))))) (omega (arith, leb-true (c .banks) most (b .0))) (b .1)
 
 banks-back : (c : Cartridge) (m : Mapper) → mbc.inRange c m ≡ true → 2 ^ log2 (c .banks) ≡ c .banks
 unfolding mbc.inRange mbc.described
-banks-back c RomOnly h = power-log 2 c (both-true (mbc.hasBanks 2 c) _ (both-true (mbc.described c RomOnly) _ h .0) .0)
-banks-back c (Mbc1 m) h = power-log 128 c (both-true (mbc.hasBanks 128 c) _ (both-true (mbc.described c (Mbc1 m)) _ h .0) .0)
-banks-back c (Mbc2 m) h = power-log 16 c (both-true (mbc.hasBanks 16 c) _ (both-true (mbc.described c (Mbc2 m)) _ h .0) .0)
+banks-back c RomOnly h = power-log 2 c (omega arith) (both-true (mbc.hasBanks 2 c) _ (both-true (mbc.described c RomOnly) _ h .0) .0)
+banks-back c (Mbc1 m) h = power-log 128 c (omega arith) (both-true (mbc.hasBanks 128 c) _ (both-true (mbc.described c (Mbc1 m)) _ h .0) .0)
+banks-back c (Mbc2 m) h = power-log 16 c (omega arith) (both-true (mbc.hasBanks 16 c) _ (both-true (mbc.described c (Mbc2 m)) _ h .0) .0)
 
 log-again : (n : ℕ) → n < 8 → log2 (2 ^ n) ≡ n
 unfolding log2

@@ -31,7 +31,7 @@ pub struct Words {
 // A mapper's fields as numbers; those that it lacks hold their starting values.
 pub struct Registers {
     pub kind: u8,
-    pub rom: u8,
+    pub rom: u16,
     pub ram: u8,
     pub mode: u8,
     pub enabled: u8,
@@ -332,7 +332,7 @@ fn registers_at(fifth: u64) -> Registers
 {
     Registers {
         kind: (fifth / 0x800000000 % 4) as u8,
-        rom: (fifth / 0x800000 % 128) as u8,
+        rom: (fifth / 0x800000 % 128) as u16,
         ram: (fifth / 0x200000 % 4) as u8,
         mode: (fifth / 0x100000 % 2) as u8,
         enabled: (fifth / 0x80000 % 2) as u8,
