@@ -11,6 +11,9 @@ use mir.Syntax.{w32}
 use mir.Val.{SFits}
 use borrow.Author.Tests.{ltb-true, eqb-true, eqb-false}
 use Rattle.bus.specs.Fresh.{Begun}
+use Rattle.dispatch.proofs.Starts.{by-begun}
+use Rattle.dispatch.specs.Kinds.{Kind, Reading, Clearing, Other, kindOf}
+use Rattle.dispatch.specs.Lent.{Lent, start, begin}
 use Rattle.dispatch.specs.declared.Call.{Call}
 use Rattle.dispatch.specs.declared.Call.the-variants as call
 use Rattle.hdma.proofs.Laws.{start-range}
@@ -31,11 +34,10 @@ use Rattle.numbers.specs.Numbers.{done}
 use Rattle.packing.specs.Packing.{Below}
 use Rattle.palette.specs.Palette as palette
 use Rattle.promise.proofs.Promise.{promise}
-use Rattle.promise.proofs.Starts.{by-begun}
 use Rattle.promise.specs.Admitted.{admittedBy}
-use Rattle.promise.specs.Calls.{writesOf, Kind, Reading, Clearing, Other, kindOf}
+use Rattle.promise.specs.Calls.{writesOf}
 use Rattle.promise.specs.Promise.{Bytes, Typed}
-use Rattle.promise.specs.Runs.{Lent, start, begin, Turn, calls, made, run, numbers, admitted, usedBytes, copiedBefore, copiesFrom}
+use Rattle.promise.specs.Runs.{Turn, calls, made, run, numbers, admitted, usedBytes, copiedBefore, copiesFrom}
 use Rattle.registers.proofs.Kept.{cond-both}
 use Rattle.rules.proofs.Tests.{both-true}
 use Rattle.boundary.specs.Boundary.{Alike, EntryRuns, entryAdmitted, EntryKept, EntryPromise}

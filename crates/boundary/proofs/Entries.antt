@@ -1,20 +1,20 @@
 -- An entry on a state's image is the call on the state.
 use mathlib.Core.Bool.{Bool, true, false, cond}
 use mathlib.Core.Path.{_≡_, refl, sym, ap}
+use Rattle.dispatch.proofs.States.{Answers, reads, changes, clears, state-answers}
+use Rattle.dispatch.proofs.Unchanged.{refused-promise}
+use Rattle.dispatch.specs.Kinds.{Kind, refused}
 use Rattle.dispatch.specs.Step.{step, stateStep}
 use Rattle.dispatch.specs.declared.Call.{Call}
 use Rattle.dispatch.specs.declared.Call.the-variants as call
 use Rattle.dispatch.specs.declared.Performed.{Performed}
 use Rattle.dispatch.specs.declared.StateCall.{StateCall}
-use Rattle.entry.specs.Entry.{Left, leftIn, encoded, stateEntry, askEntry, readEntry, encodedIn, worldEntry, refuses}
+use Rattle.entry.specs.Entry.{Left, leftIn, encoded, stateEntry, askEntry, readEntry, encodedIn, worldEntry}
 use Rattle.image.specs.Layout.{imageOf}
 use Rattle.image.specs.Load.{loaded, loadCall}
 use Rattle.memory.specs.World.{World, Fixed}
 use Rattle.mmu.specs.Access.{inState}
 use Rattle.numbers.specs.Numbers.{done}
-use Rattle.promise.proofs.Each.{refused-promise}
-use Rattle.promise.proofs.States.{Answers, reads, changes, clears, state-answers}
-use Rattle.promise.specs.Calls.{Kind}
 use Rattle.boundary.specs.Held.{held, changes as changed, onState, onWorld, entry}
 
 module _ (x : Fixed) (w : World) (e : loadCall (imageOf (w .state)) ≡ loaded done (w .state)) where
@@ -24,9 +24,9 @@ module _ (x : Fixed) (w : World) (e : loadCall (imageOf (w .state)) ≡ loaded d
 
   world-step : (c : Call) → onWorld x (held w) c ≡ stepped c
   unfolding worldEntry encodedIn
-  world-step c = rw e (by-test (refuses (step x w c .number)) refl)
+  world-step c = rw e (by-test (refused (step x w c .number)) refl)
     where
-      by-test : (b : Bool) → refuses (step x w c .number) ≡ b
+      by-test : (b : Bool) → refused (step x w c .number) ≡ b
           → cond b (leftIn (step x w c .number) 0 (imageOf (w .state)) w) (stepped c) ≡ stepped c
       by-test true t = let r = refused-promise x w c t in rw (r .0, r .1)
       by-test false t = refl
@@ -37,9 +37,9 @@ module _ (x : Fixed) (w : World) (e : loadCall (imageOf (w .state)) ≡ loaded d
   changed-step : (c : StateCall) → stateStep (w .state) c .value ≡ 0
       → changed (held w) (stateEntry (imageOf (w .state)) c) ≡ steppedBy (stateStep (w .state) c)
   unfolding stateEntry encoded step
-  changed-step c z = rw (e, z) (by-test (refuses (stateStep (w .state) c .number)) refl)
+  changed-step c z = rw (e, z) (by-test (refused (stateStep (w .state) c .number)) refl)
     where
-      by-test : (b : Bool) → refuses (stateStep (w .state) c .number) ≡ b
+      by-test : (b : Bool) → refused (stateStep (w .state) c .number) ≡ b
           → changed (held w)
           (cond b (record { number = stateStep (w .state) c .number; image = imageOf (w .state) })
           (record { number = stateStep (w .state) c .number; image = imageOf (stateStep (w .state) c .memory) }))

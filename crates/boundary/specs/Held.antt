@@ -3,13 +3,13 @@ use mathlib.Core.Bool.{cond}
 use mathlib.Core.List.{List, [], _∷_, _++_}
 use Prim.Native.Nat.{ℕ}
 use lib.ListN.{take}
+use Rattle.dispatch.specs.Kinds.{refused, Kind, Reading, Clearing, Other, stateKind, kindOf}
 use Rattle.dispatch.specs.declared.Call.{Call}
 use Rattle.dispatch.specs.declared.Call.the-variants as call
 use Rattle.dispatch.specs.declared.StateCall.{StateCall}
 use Rattle.entry.specs.Entry.{Changed, stateEntry, Given, given, askEntry, usedEntry, readEntry, Left, left, worldEntry}
 use Rattle.image.specs.Layout.{imageOf}
 use Rattle.memory.specs.World.{World, Fixed, fixed}
-use Rattle.promise.specs.Calls.{refused, Kind, Reading, Clearing, Other, stateKind, kindOf}
 use Rattle.promise.specs.Runs.{Turn, made}
 
 -- the state as an image, and the memories that it lends

@@ -10,11 +10,12 @@ use borrow.Author.Tests.{eqb-true, leb-true, ltb-true}
 use Rattle.mbc.specs.Mbc.{romLen, ramLen}
 use Rattle.memory.specs.Ranges.{vramLen, wramLen, soundLen}
 use Rattle.memory.specs.World.{world, fixed}
+use Rattle.memory.specs.declared.Core.{Core}
 use Rattle.memory.specs.declared.Memory.{Memory}
 use Rattle.mmu.specs.Access.{Ready}
 use Rattle.rules.proofs.Tests.{both-true}
 use Rattle.savelog.specs.Log.{logLimit}
-use Rattle.refusals.specs.Refusal.{lengthsFit, lengthsRefused, logRefused, readRefused, writeRefused, vramLengthRefused, vramRefused, hasBank}
+use Rattle.refusals.specs.Refusal.{lengthsFit, lengthsRefused, logRefused, readRefused, lentRefused, writeRefused, vramLengthRefused, vramRefused, hasBank}
 use Rattle.refusals.proofs.Answers.{both-pass, state-passes, range-state}
 
 -- a test whose failure would have been a number other than 0
@@ -22,18 +23,18 @@ passes : (b : Bool) (k : ℕ) → 0 < k → _≡_ {A = ℕ} (cond b 0 k) 0 → b
 passes true k h e = refl
 passes false k h e = absurd (omega arith)
 
-pub lengths-pass : (m : Memory) (rom vram wram save sound : ℕ) → lengthsRefused m rom vram wram save sound ≡ 0
-    → (rom ≡ romLen (m .core .cartridge))
-    × (vram ≡ vramLen (m .core .banks .colour))
-    × (wram ≡ wramLen (m .core .banks .colour))
-    × (save ≡ ramLen (m .core .cartridge) (m .core .mapper))
+pub lengths-pass : (k : Core) (rom vram wram save sound : ℕ) → lengthsRefused k rom vram wram save sound ≡ 0
+    → (rom ≡ romLen (k .cartridge))
+    × (vram ≡ vramLen (k .banks .colour))
+    × (wram ≡ wramLen (k .banks .colour))
+    × (save ≡ ramLen (k .cartridge) (k .mapper))
     × (sound ≡ soundLen)
 unfolding lengthsRefused lengthsFit
-lengths-pass m rom vram wram save sound e =
-    let a = both-true (eqb rom (romLen (m .core .cartridge))) _ (passes _ 4 (omega arith) e) in
-    let b = both-true (eqb vram (vramLen (m .core .banks .colour))) _ (a .1) in
-    let c = both-true (eqb wram (wramLen (m .core .banks .colour))) _ (b .1) in
-    let d = both-true (eqb save (ramLen (m .core .cartridge) (m .core .mapper))) _ (c .1) in
+lengths-pass k rom vram wram save sound e =
+    let a = both-true (eqb rom (romLen (k .cartridge))) _ (passes _ 4 (omega arith) e) in
+    let b = both-true (eqb vram (vramLen (k .banks .colour))) _ (a .1) in
+    let c = both-true (eqb wram (wramLen (k .banks .colour))) _ (b .1) in
+    let d = both-true (eqb save (ramLen (k .cartridge) (k .mapper))) _ (c .1) in
     (eqb-true rom _ (a .0), eqb-true vram _ (b .0), eqb-true wram _ (c .0), eqb-true save _ (d .0), eqb-true sound 48 (d .1))
 
 module _ (rom sound : List ℕ) (m : Memory) (v w s : List ℕ) where
@@ -57,7 +58,7 @@ module _ (rom sound : List ℕ) (m : Memory) (v w s : List ℕ) where
 
   pub write-passes : (g : List ℕ) → writeRefused m (length rom) (length v) (length w) (length s) (length sound) (length g) ≡ 0
       → Ready (fixed rom sound) (world m v w s g)
-  unfolding writeRefused logRefused
+  unfolding writeRefused lentRefused logRefused
   write-passes g e =
       let p = both-pass _ _ e in
       let q = both-pass (lengthsRefused _ _ _ _ _ _) _ (p .1) in

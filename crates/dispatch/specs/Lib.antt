@@ -1,1 +1,4 @@
 pub mod Step
+pub mod Kinds
+pub mod Lent
+pub mod Unchanged

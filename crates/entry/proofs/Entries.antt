@@ -1,5 +1,4 @@
 -- How an entry answers, by what the image gave and what the call gave.
-use mathlib.Core.Bool.{cond}
 use mathlib.Core.List.{List, []}
 use mathlib.Core.Path.{_≡_, refl, ap, subst, _∙_}
 use Prim.Native.Nat.{ℕ, _<_, _≤_}
@@ -8,6 +7,9 @@ use lib.ListN.{length}
 use borrow.Author.Tests.{ne-eqb, lt-ltb, le-ltb}
 use Rattle.bus.specs.Calls.{Outcome, readByteCall, readWordCall, readCgbLcdRamCall}
 use Rattle.bus.specs.Fresh.{Begun, beginning}
+use Rattle.dispatch.proofs.Numbered.{by-unless}
+use Rattle.dispatch.proofs.Starts.{begun-refused}
+use Rattle.dispatch.proofs.Unchanged.{refused-promise}
 use Rattle.dispatch.specs.Step.{step, stateStep}
 use Rattle.dispatch.specs.declared.Call.{Call}
 use Rattle.dispatch.specs.declared.Call.the-variants as call
@@ -22,8 +24,6 @@ use Rattle.mbc.specs.declared.mbc.ReadByte.{ReadByte}
 use Rattle.mbc.specs.declared.mbc.WriteByte.{WriteByte}
 use Rattle.memory.specs.World.{World, world, Fixed, withMapper}
 use Rattle.memory.specs.declared.Memory.{Memory}
-use Rattle.promise.proofs.Each.{refused-promise}
-use Rattle.promise.proofs.Numbered.{by-unless}
 use Rattle.refusals.specs.declared.Byte.{Byte}
 use Rattle.refusals.specs.declared.Word.{Word}
 use Rattle.entry.specs.Entry.{
@@ -88,12 +88,12 @@ module _ (i : List ℕ) {d : Loaded} (e : d ≡ loadCall i) where
       unfolding stateEntry encoded
       done-state h g = rw (← e, z, ← f, le-ltb 1 (p .number) h, g)
 
-    pub mapper-read : (rom s : List ℕ) (k : ℕ) {b : ReadByte} → b ≡ mbc.readByte (d .state .cartridge) (d .state .mapper) rom s k
+    pub mapper-read : (rom s : List ℕ) (k : ℕ) {b : ReadByte} → b ≡ mbc.readByte (d .state .core .cartridge) (d .state .core .mapper) rom s k
         → given (b .number) (b .value) ≡ mapperReadEntry i rom s k
     unfolding mapperReadEntry
     mapper-read rom s k f = rw (← e, z, f)
 
-    module _ (k v : ℕ) {b : WriteByte} (f : b ≡ mbc.writeByte (d .state .cartridge) (d .state .mapper) k v) where
+    module _ (k v : ℕ) {b : WriteByte} (f : b ≡ mbc.writeByte (d .state .core .cartridge) (d .state .core .mapper) k v) where
       pub refused-mapper : (b .number ≡ 0 → ⊥) → mapped (b .number) 0 i ≡ mapperWriteEntry i k v
       unfolding mapperWriteEntry encodedMapper
       refused-mapper h = rw (← e, z, ← f, ne-eqb (b .number) 0 h)
@@ -164,12 +164,6 @@ module _ (x : Fixed) (i v w s l : List ℕ) where
 
 -- a fresh bus
 
-beginning-refused : (n : ℕ) (m : Memory) (v w : List ℕ) → (beginning n m v w .number ≡ 0 → ⊥)
-    → (beginning n m v w .vram ≡ v) × (beginning n m v w .wram ≡ w)
-unfolding beginning
-beginning-refused n m v w =
-    by-cond (λ (b : Begun). (b .number ≡ 0 → ⊥) → (b .vram ≡ v) × (b .wram ≡ w)) (eqb n 0) _ _ (λ t h. absurd (h refl)) (λ f h. (refl, refl))
-
 module _ (i v w : List ℕ) where
   pub fresh-length : (b : Begun) → (length i ≡ 665 → ⊥) → fresh 4 i v w ≡ freshEntry i v w b
   unfolding freshEntry
@@ -179,9 +173,9 @@ module _ (i v w : List ℕ) where
     pub fresh-refused : (b .number ≡ 0 → ⊥) → fresh (b .number) i (b .vram) (b .wram) ≡ freshEntry i v w (beginning n m v w)
     unfolding freshEntry
     fresh-refused z =
-        let r = beginning-refused n m v w (λ k. z (ap (λ (a : Begun). a .number) e ∙ k)) in
-        let p : b .vram ≡ v = ap (λ (a : Begun). a .vram) e ∙ r .0 in
-        let q : b .wram ≡ w = ap (λ (a : Begun). a .wram) e ∙ r .1 in
+        let r = e ∙ begun-refused n m v w (λ k. z (ap (λ (a : Begun). a .number) e ∙ k)) in
+        let p : b .vram ≡ v = ap (λ (a : Begun). a .vram) r in
+        let q : b .wram ≡ w = ap (λ (a : Begun). a .wram) r in
         rw (← e, h, ne-eqb (b .number) 0 z, p, q)
 
     pub fresh-done : b .number ≡ 0 → {j : List ℕ} → j ≡ imageOf (b .state)

@@ -1,15 +1,20 @@
 -- What an entry needs: an image that was loaded has 665 bytes and a state in range, and every call leaves a state in range.
-use mathlib.Core.Bool.{Bool, true, false, not, cond, _&&_}
+use mathlib.Core.Bool.{Bool, true, not, _&&_}
 use mathlib.Core.List.{List}
 use mathlib.Core.Path.{_≡_, refl, sym, ap, _∙_}
-use Prim.Native.Nat.{ℕ, _%_, _≤_}
+use Prim.Native.Nat.{ℕ}
 use native.Mathlib.Omega.{arith}
-use lib.Dec.{eqb, leb}
+use lib.Dec.{eqb}
 use lib.ListN.{length}
-use borrow.Author.Tests.{eqb-true, leb-true, le-leb}
+use borrow.Author.Tests.{eqb-true}
 use Rattle.bus.proofs.Passes.{write-passes}
 use Rattle.bus.specs.Calls.{Outcome}
 use Rattle.bus.specs.Fresh.{Begun, freshCall}
+use Rattle.dispatch.proofs.Numbered.{by-unless}
+use Rattle.dispatch.proofs.Starts.{started}
+use Rattle.dispatch.proofs.States.{Answers, reads, changes, clears, state-answers}
+use Rattle.dispatch.specs.Kinds.{Kind}
+use Rattle.dispatch.specs.Lent.{Lent, start}
 use Rattle.dispatch.specs.Step.{step, stateStep}
 use Rattle.dispatch.specs.declared.Call.{Call}
 use Rattle.dispatch.specs.declared.Call.the-variants as call
@@ -29,20 +34,16 @@ use Rattle.memory.specs.Ranges.{stateInRange, inRange}
 use Rattle.memory.specs.World.{World, Fixed, withUsed, withMapper}
 use Rattle.memory.specs.declared.Memory.{Memory}
 use Rattle.mmu.proofs.Laws.{Stays, write-stays, word-stays, transfer-stays}
-use Rattle.mmu.specs.Access.{Ready, Holds}
-use Rattle.promise.proofs.Numbered.{by-unless}
-use Rattle.promise.proofs.Starts.{started}
-use Rattle.promise.proofs.States.{Answers, reads, changes, clears, state-answers}
-use Rattle.promise.specs.Calls.{Kind}
-use Rattle.promise.specs.Runs.{Lent, start}
+use Rattle.mmu.specs.Access.{Ready}
 use Rattle.refusals.proofs.Answers.{both-pass, state-passes}
 use Rattle.refusals.specs.Answers.{changed}
-use Rattle.refusals.specs.Refusal.{refusedWrite, refusedState, writeRefused}
+use Rattle.refusals.specs.Refusal.{refusedWrite, refusedState, lentRefused, writeRefused}
 use Rattle.refusals.specs.declared.Done.{Done}
 use Rattle.registers.proofs.Kept.{Kept}
 use Rattle.registers.specs.Transfers.{oamCopy, blockCopy}
 use Rattle.rules.proofs.Tests.{both-true}
-use Rattle.savelog.specs.Log.{width, logLimit, useInRange}
+use Rattle.savelog.proofs.Use.{use-wider}
+use Rattle.savelog.specs.Log.{logLimit, useInRange}
 
 -- an image that was loaded
 right : (l : List ℕ) → loadCall l .number ≡ 0 → (length l ≡ 665) × (storable (loadCall l .state) ≡ true)
@@ -61,19 +62,12 @@ loaded-right l {d} e z =
     let r = right l (sym (ap (λ (a : Loaded). a .number) e) ∙ z) in
     (r .0, ap (λ (a : Loaded). storable (a .state)) e ∙ r .1)
 
--- a use within a log is within the longest one
-wider : (n len : ℕ) → len ≤ logLimit → useInRange n len ≡ true → useInRange n logLimit ≡ true
-unfolding useInRange
-wider n len h e =
-    let b = both-true (eqb (n % width) 0) (leb n len) e in
-    rw (b .0, le-leb n logLimit (omega (arith, h, leb-true n len (b .1))))
-
 -- a state in range is made of two
-parts : (m : Memory) → storable m ≡ true → (stateInRange m ≡ true) × (useInRange (m .used) logLimit ≡ true)
+parts : (m : Memory) → storable m ≡ true → (stateInRange m ≡ true) × (useInRange (m .core .used) logLimit ≡ true)
 unfolding storable inRange
 parts m h = both-true (stateInRange m) _ h
 
-joins : (m : Memory) → stateInRange m ≡ true → useInRange (m .used) logLimit ≡ true → storable m ≡ true
+joins : (m : Memory) → stateInRange m ≡ true → useInRange (m .core .used) logLimit ≡ true → storable m ≡ true
 unfolding storable inRange
 joins m a b = rw (a, b)
 
@@ -100,15 +94,15 @@ module _ (x : Fixed) (w : World) (h : storable (w .state) ≡ true) where
   abbrev Fine : Outcome → Type 0
   Fine o = storable (o .after .state) ≡ true
 
-  pub stays-storable : useInRange (w .state .used) (length (w .log)) ≡ true → (u : World) → Stays w u → storable (u .state) ≡ true
-  stays-storable e u s = joins (u .state) (s .holds .state) (wider (u .state .used) (length (u .log)) (s .holds .log) (s .used e))
+  pub stays-storable : useInRange (w .state .core .used) (length (w .log)) ≡ true → (u : World) → Stays w u → storable (u .state) ≡ true
+  stays-storable e u s = joins (u .state) (s .holds .state) (use-wider (u .state .core .used) (length (u .log)) logLimit (s .holds .log) (s .used e))
 
   -- what is not refused is ready
   ready : refusedWrite x w ≡ 0 → Ready x w
   ready e = write-passes (x .rom) (x .sound) (w .state) (w .vram) (w .wram) (w .save) (w .log) e
 
-  pub in-log : refusedWrite x w ≡ 0 → useInRange (w .state .used) (length (w .log)) ≡ true
-  unfolding writeRefused inRange
+  pub in-log : refusedWrite x w ≡ 0 → useInRange (w .state .core .used) (length (w .log)) ≡ true
+  unfolding writeRefused lentRefused inRange
   in-log e = both-true (stateInRange (w .state)) _ (state-passes (w .state) (length (w .log)) (both-pass _ _ e .0)) .1
 
   pub step-storable : (c : Call) → storable (step x w c .after .state) ≡ true
@@ -138,13 +132,13 @@ mapper-after c m k v =
     by-cond (λ (w : WriteByte). w .number ≡ 0 → w .mapper ≡ mbc.after c m k v) (not (mbc.mapped k)) (mbc.wroteAs 7 m NotStored) _
     (λ s e. let z : _≡_ {A = ℕ} 7 0 = e in absurd (omega arith)) (λ s e. refl))
 
-pub mapper-storable : (m : Memory) (k v : ℕ) {b : WriteByte} {n : Memory} → b ≡ mbc.writeByte (m .cartridge) (m .mapper) k v → b .number ≡ 0
+pub mapper-storable : (m : Memory) (k v : ℕ) {b : WriteByte} {n : Memory} → b ≡ mbc.writeByte (m .core .cartridge) (m .core .mapper) k v → b .number ≡ 0
     → n ≡ withMapper m (b .mapper) → storable m ≡ true → storable n ≡ true
 mapper-storable m k v {b} {n} e z f h =
     let p = parts m h in
-    let a = mapper-after (m .cartridge) (m .mapper) k v (sym (ap (λ (w : WriteByte). w .number) e) ∙ z) in
-    let q : b .mapper ≡ mbc.after (m .cartridge) (m .mapper) k v = ap (λ (w : WriteByte). w .mapper) e ∙ a in
-    rw (f, q) (joins (withMapper m (mbc.after (m .cartridge) (m .mapper) k v)) (mapper-kept m (p .0) k v) (p .1))
+    let a = mapper-after (m .core .cartridge) (m .core .mapper) k v (sym (ap (λ (w : WriteByte). w .number) e) ∙ z) in
+    let q : b .mapper ≡ mbc.after (m .core .cartridge) (m .core .mapper) k v = ap (λ (w : WriteByte). w .mapper) e ∙ a in
+    rw (f, q) (joins (withMapper m (mbc.after (m .core .cartridge) (m .core .mapper) k v)) (mapper-kept m (p .0) k v) (p .1))
 
 -- a fresh bus that was begun
 pub fresh-storable : (kind banks code : ℕ) (colour : Bool) (rom v w save log sound : List ℕ) {b : Begun}
@@ -155,4 +149,4 @@ fresh-storable kind banks code colour rom v w save log sound e z =
     let s = started l (sym (ap (λ (a : Begun). a .number) e) ∙ z) in
     let u = start l .state in
     ap (λ (a : Begun). storable (a .state)) e
-    ∙ joins u (s .good .holds .state) (wider (u .used) (length log) (s .good .holds .log) (s .good .used))
+    ∙ joins u (s .good .holds .state) (use-wider (u .used) (length log) logLimit (s .good .holds .log) (s .good .used))

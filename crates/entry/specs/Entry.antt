@@ -1,12 +1,13 @@
 -- What an entry of the C boundary does: decode the image, make the call, encode the state (document 01, "are exported to our C host on numbers and
 -- byte slices": the state as an image, the memories lent, a number answered). A refusal leaves image and memories as they are and gives 0.
-use mathlib.Core.Bool.{Bool, cond}
+use mathlib.Core.Bool.{cond}
 use mathlib.Core.List.{List, []}
-use Prim.Native.Nat.{ℕ, _+_, _*_, _%_}
-use lib.Dec.{eqb, ltb}
+use Prim.Native.Nat.{ℕ, _%_}
+use lib.Dec.{eqb}
 use lib.ListN.{length}
 use Rattle.bus.specs.Calls.{Outcome}
 use Rattle.bus.specs.Fresh.{Begun}
+use Rattle.dispatch.specs.Kinds.{refused}
 use Rattle.dispatch.specs.Step.{step, stateStep}
 use Rattle.dispatch.specs.declared.Call.{Call}
 use Rattle.dispatch.specs.declared.Performed.{Performed}
@@ -19,11 +20,8 @@ use Rattle.mbc.specs.declared.mbc.Answer.the-variants.{Stored, NotStored}
 use Rattle.mbc.specs.declared.mbc.WriteByte.{WriteByte}
 use Rattle.memory.specs.World.{World, world, Fixed, withMapper}
 use Rattle.memory.specs.declared.Memory.{Memory}
-use Rattle.numbers.specs.Numbers.{done, owed, wrongLength}
-
--- 0 and 1 are done, any other number refuses
-abbrev pub refuses : ℕ → Bool
-refuses n = ltb owed n
+use Rattle.numbers.specs.Numbers.{done, wrongLength}
+use Rattle.savelog.specs.Log.{addressEnd, recordNumber}
 
 -- An entry that changes the state alone: the number, and the image as it is then
 
@@ -35,7 +33,7 @@ abbrev pub changed : ℕ → List ℕ → Changed
 changed n i = record { number = n; image = i }
 
 unfoldable pub encoded : List ℕ → Performed → Changed
-encoded i p = cond (refuses (p .number)) (changed (p .number) i) (changed (p .number) (imageOf (p .memory)))
+encoded i p = cond (refused (p .number)) (changed (p .number) i) (changed (p .number) (imageOf (p .memory)))
 
 unfoldable pub stateEntry : List ℕ → StateCall → Changed
 stateEntry i c =
@@ -58,7 +56,7 @@ askEntry i c =
 
 -- how many bytes of the log are used; the all-zero state of a refused image uses none
 abbrev pub usedEntry : List ℕ → Given
-usedEntry i = given (loadCall i .number) (loadCall i .state .used)
+usedEntry i = given (loadCall i .number) (loadCall i .state .core .used)
 
 -- a call that reads what is lent; no log is
 unfoldable pub readEntry : Fixed → List ℕ → List ℕ → List ℕ → List ℕ → Call → Given
@@ -86,7 +84,7 @@ leftIn n v i w = left n v i (w .vram) (w .wram) (w .save) (w .log)
 
 unfoldable pub encodedIn : List ℕ → World → Outcome → Left
 encodedIn i w o =
-    cond (refuses (o .number)) (leftIn (o .number) 0 i w)
+    cond (refused (o .number)) (leftIn (o .number) 0 i w)
     (leftIn (o .number) (o .value) (imageOf (o .after .state)) (o .after))
 
 unfoldable pub worldEntry : Fixed → List ℕ → List ℕ → List ℕ → List ℕ → List ℕ → Call → Left
@@ -117,13 +115,13 @@ freshEntry i v w b =
 unfoldable pub mapperReadEntry : List ℕ → List ℕ → List ℕ → ℕ → Given
 mapperReadEntry i rom save k =
     cond (eqb (loadCall i .number) done)
-    (given (readByte (loadCall i .state .cartridge) (loadCall i .state .mapper) rom save k .number)
-    (readByte (loadCall i .state .cartridge) (loadCall i .state .mapper) rom save k .value))
+    (given (readByte (loadCall i .state .core .cartridge) (loadCall i .state .core .mapper) rom save k .number)
+    (readByte (loadCall i .state .core .cartridge) (loadCall i .state .core .mapper) rom save k .value))
     (given (loadCall i .number) 0)
 
--- a mapper's answer as the record that the bus would log: bit 1, address 15 bits, value 8 bits; 0 for "not stored"
+-- a mapper's answer as the record that the bus would log; 0 for "not stored"
 abbrev pub answerNumber : Answer → ℕ
-answerNumber (Stored at v) = 0x800000 + at % 32768 * 256 + v
+answerNumber (Stored at v) = recordNumber (at % addressEnd) v
 answerNumber NotStored = 0
 
 pub record Mapped : Type 0 where
@@ -141,5 +139,5 @@ encodedMapper i m w =
 unfoldable pub mapperWriteEntry : List ℕ → ℕ → ℕ → Mapped
 mapperWriteEntry i k v =
     cond (eqb (loadCall i .number) done)
-    (encodedMapper i (loadCall i .state) (writeByte (loadCall i .state .cartridge) (loadCall i .state .mapper) k v))
+    (encodedMapper i (loadCall i .state) (writeByte (loadCall i .state .core .cartridge) (loadCall i .state .core .mapper) k v))
     (mapped (loadCall i .number) 0 i)

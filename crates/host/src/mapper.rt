@@ -20,8 +20,8 @@ pub extern "C" fn pouch_mapper_read(
         return loaded.number;
     }
     let memory = loaded.state;
-    let mapper = memory.mapper;
-    let cartridge = memory.cartridge;
+    let mapper = memory.core.mapper;
+    let cartridge = memory.core.cartridge;
     let read = mapper.read_byte(cartridge, rom, save, index);
     *value = read.value;
     read.number
@@ -34,7 +34,7 @@ fn answer_number(answer: Answer) -> u32
     let Answer::Stored { at, value } = answer else {
         return 0;
     };
-    0x800000 + (at % 32768) as u32 * 256 + value as u32
+    savelog::record_number(at % savelog::ADDRESS_END, value)
 }
 
 // What the mapper answers, and its registers in the image.
@@ -48,8 +48,8 @@ pub extern "C" fn pouch_mapper_write(image: &mut [u8], index: u16, byte: u8, val
         return loaded.number;
     }
     let memory = loaded.state;
-    let mapper = memory.mapper;
-    let cartridge = memory.cartridge;
+    let mapper = memory.core.mapper;
+    let cartridge = memory.core.cartridge;
     let written = mapper.write_byte(cartridge, index, byte);
     if written.number != 0 {
         *value = 0;

@@ -9,7 +9,7 @@ use lib.Dec.{eqb}
 use lib.ListN.{length, take}
 use mir.Syntax.{w32}
 use mir.Facts.{fits-ofZ}
-use borrow.Author.Tests.{eqb-true, leb-true}
+use borrow.Author.Tests.{eqb-true}
 use Rattle.rules.proofs.Tests.{both-true}
 use Rattle.packing.specs.Packing.{Below, Fit, repacked, eights, fives}
 use Rattle.packing.proofs.Laws.{below-fit, fit-append}
@@ -23,6 +23,7 @@ use Rattle.mbc.proofs.Ranges.{in-described, in-held}
 use Rattle.mbc.specs.declared.cartridge.Cartridge.{Cartridge}
 use Rattle.mbc.specs.declared.mbc.Mapper.{Mapper}
 use Rattle.mbc.specs.declared.mbc.Mapper.the-variants.{RomOnly, Mbc1, Mbc2}
+use Rattle.savelog.proofs.Use.{use-parts}
 use Rattle.savelog.specs.Log.{logLimit, useInRange}
 use Rattle.memory.specs.declared.Banks.{Banks}
 use Rattle.memory.specs.declared.Core.{Core}
@@ -41,11 +42,9 @@ pub storable-state : (m : Memory) → storable m ≡ true → stateInRange m ≡
 unfolding storable inRange
 storable-state m h = both-true (stateInRange m) (useInRange (m .core .used) logLimit) h .0
 
-pub storable-use : (m : Memory) → storable m ≡ true → m .core .used ≤ 65535
-unfolding storable inRange useInRange
-storable-use m h =
-    let u = both-true (stateInRange m) (useInRange (m .core .used) logLimit) h .1 in
-    leb-true (m .core .used) logLimit (both-true (eqb (m .core .used % 3) 0) _ u .1)
+pub storable-use : (m : Memory) → storable m ≡ true → m .core .used ≤ logLimit
+unfolding storable inRange
+storable-use m h = use-parts (m .core .used) logLimit (both-true (stateInRange m) (useInRange (m .core .used) logLimit) h .1) .1
 
 -- Each field within its width
 

@@ -32,8 +32,6 @@ pub use layout::LENGTH;
 use memory::Core;
 use memory::Memory;
 
-const NO_LOG: usize = 65535;
-
 // The number, and the state that an image gave.
 pub struct Loaded {
     pub number: u8,
@@ -87,7 +85,7 @@ pub fn encode(memory: Memory, image: &mut [u8]) -> u8
     if image.len() != LENGTH {
         return numbers::WRONG_LENGTH;
     }
-    if !memory::in_range(memory, NO_LOG) {
+    if !memory::in_range(memory, savelog::LOG_LIMIT) {
         return numbers::OUT_OF_RANGE;
     }
     store(memory, image);
@@ -118,7 +116,7 @@ pub fn open(image: &[u8]) -> Opened
         return closed(numbers::OUT_OF_RANGE);
     }
     let core = fields::core_at(image);
-    if !memory::core_in_range(core, NO_LOG) {
+    if !memory::core_in_range(core, savelog::LOG_LIMIT) {
         return closed(numbers::OUT_OF_RANGE);
     }
     Opened {

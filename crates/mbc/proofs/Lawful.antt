@@ -3,18 +3,18 @@ use mathlib.Core.Path.{_≡_}
 use mathlib.Core.Bool.{true}
 use mathlib.Core.Logic.{_⊎_}
 use Prim.Native.Nat.{ℕ, _<_, _≤_}
-use Rattle.mbc.specs.Mbc.{oneOf, powers, romLen, ramLen, described, inRange, behaviour, registersOf, mapperOf, ramSource, after}
+use Rattle.mbc.specs.Mbc.{oneOf, powers, romLen, ramLen, described, inRange, behaviour, known, registersOf, mapperOf, ramSource, after}
 use Rattle.mbc.specs.declared.cartridge.Cartridge.{Cartridge}
 use Rattle.mbc.specs.declared.mbc.Mapper.{Mapper}
 use Rattle.mbc.specs.declared.mbc.Source.{Source}
 use Rattle.mbc.specs.declared.mbc.Source.the-variants.{Rom, Save, Half, Fixed}
 
--- an address lies in the memory that it is of
-abbrev pub Within : Cartridge → Mapper → Source → Type 0
-Within c m (Rom at) = at < romLen c
-Within c m (Save at) = at < ramLen c m
-Within c m (Half at) = at < ramLen c m
-Within c m (Fixed byte) = byte < 256
+-- an address lies in the memory that it is of: a ROM and a save of these lengths
+abbrev pub Within : ℕ → ℕ → Source → Type 0
+Within rom save (Rom at) = at < rom
+Within rom save (Save at) = at < save
+Within rom save (Half at) = at < save
+Within rom save (Fixed byte) = byte < 256
 
 -- a source that has its byte in itself has a byte
 abbrev pub Whole : Source → Type 0
@@ -39,13 +39,14 @@ pub record Lawful (m : Mapper) : Type 0 where
   pub describes : (c : Cartridge) → described c m ≡ true → Described c
   pub holds : (c : Cartridge) → inRange c m ≡ true → Held c m
   -- registers and back
+  pub kind : known (registersOf m .kind) ≡ true
   pub back : mapperOf (registersOf m) ≡ m
   pub bits : (registersOf m .mode < 2) × (registersOf m .enabled < 2)
   -- a save is as long as the RAM code says, or 512 bytes
   pub owns : (behaviour m .ownRam ≡ 0) ⊎ (behaviour m .ownRam ≡ 512)
   -- reads
   pub whole : (c : Cartridge) (index : ℕ) → Whole (ramSource c m index)
-  pub within : (c : Cartridge) (index : ℕ) → inRange c m ≡ true → 0xA000 ≤ index → index < 0xC000 → Within c m (ramSource c m index)
+  pub within : (c : Cartridge) (index : ℕ) → inRange c m ≡ true → 0xA000 ≤ index → index < 0xC000 → Within (romLen c) (ramLen c m) (ramSource c m index)
   -- writes
   pub kept : (c : Cartridge) (index value : ℕ) → 0x8000 ≤ index → after c m index value ≡ m
   pub own : (c : Cartridge) (index value : ℕ) → behaviour (after c m index value) .ownRam ≡ behaviour m .ownRam

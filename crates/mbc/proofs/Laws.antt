@@ -2,15 +2,15 @@
 -- change no register; a read gives a byte. At the end, document 01's corners 10 and 11.
 use mathlib.Core.Path.{_≡_, refl}
 use mathlib.Core.Bool.{true, false, cond}
-use Prim.Native.Nat.{ℕ, _*_, _%_, _<_, _≤_}
+use Prim.Native.Nat.{ℕ, _%_, _<_, _≤_}
 use native.Mathlib.Omega.{arith}
-use lib.Dec.{eqb, ltb, lit≤}
+use lib.Dec.{ltb, lit≤}
 use lib.ListN.{getD}
 use mathlib.Core.List.{List}
 use mathlib.Core.Logic.{⊎-elim}
 use borrow.Author.Tests.{ltb-true, lt-ltb}
 use Rattle.mbc.specs.PanDocs.{zeroAsOne, romAddress, halfByte}
-use Rattle.mbc.specs.Mbc.{ramBanks, ramLen, hasBanks, described, inRange, behaviour, start, romBank, ramSource, source, byteOf, readAt, storedAt, answer, low1, high1, after1, enable2, after2, after, cartridgeOf}
+use Rattle.mbc.specs.Mbc.{ramLen, hasBanks, described, inRange, behaviour, start, romBank, ramSource, source, byteOf, readAt, storedAt, answer, low1, high1, after1, enable2, after2, after, cartridgeOf}
 use Rattle.mbc.specs.declared.cartridge.Cartridge.{Cartridge}
 use Rattle.mbc.specs.declared.mbc.Mapper.{Mapper}
 use Rattle.mbc.specs.declared.mbc.Mapper.the-variants.{RomOnly}

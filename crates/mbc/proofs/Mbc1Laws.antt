@@ -1,6 +1,6 @@
 -- Mbc1's laws: what its ranges say, as a record of facts, and that each of its writes keeps them.
 use mathlib.Core.Path.{_≡_, refl}
-use mathlib.Core.Bool.{Bool, true, false, cond, _&&_, _||_, or-true}
+use mathlib.Core.Bool.{true, false, cond, _&&_, _||_, or-true}
 use mathlib.Core.List.{[], _∷_}
 use mathlib.Core.Logic.{inl}
 use Prim.Native.Nat.{ℕ, _<_, _≤_, _%_}
@@ -9,7 +9,7 @@ use native.Mathlib.Nat.{mod-lt, mod-le}
 use lib.Dec.{eqb, ltb, leb, lit<}
 use borrow.Author.Tests.{ltb-true, leb-true, eqb-true, lt-ltb, le-ltb, le-leb, eq-eqb}
 use Rattle.mbc.specs.PanDocs.{enables, mbc1Bank, twoBits, modeBit, masked, ramAddress}
-use Rattle.mbc.specs.Mbc.{oneOf, implies, hasBanks, hasCode, ramBanks, ramLen, described, held, held1, inRange, suits, ramBank1, ramSource, starting, from1, kindMbc1, withRom, withRam, withMode, withEnabled, withHigh, enable1, low1, high1, mode1, after1}
+use Rattle.mbc.specs.Mbc.{oneOf, implies, hasBanks, hasCode, ramBanks, romLen, ramLen, described, held, held1, inRange, suits, ramBank1, ramSource, starting, from1, kindMbc1, withRom, withRam, withMode, withEnabled, withHigh, enable1, low1, high1, mode1, after1}
 use Rattle.mbc.specs.declared.cartridge.Cartridge.{Cartridge}
 use Rattle.mbc.specs.declared.mbc1.Mbc1.{Mbc1 as Registers1}
 use Rattle.mbc.specs.declared.mbc.Mapper.the-variants.{Mbc1}
@@ -224,12 +224,13 @@ mbc1-lawful m =
           let b = and-left (hasBanks 128 c) (hasCode c) e in
           record { power = banks-power 128 c b; most = banks-most 128 c b; code = code-most c (and-right (hasBanks 128 c) (hasCode c) e) };
       holds = λ c e. let f = mbc1-facts c m e in record { rom = f .rom; ram = f .ram; high = f .high };
+      kind = refl;
       back = rw (bit-back (m .mode), bit-back (m .enabled));
       bits = (bit-small (m .mode), bit-small (m .enabled));
       owns = inl refl;
       whole = λ c index. by-cond Whole (m .enabled) (Save (ramAddress (ramBank1 m) index)) (Fixed 0xFF) (λ on. tt) (λ off. lit< tt);
       within = λ c index e l h.
-          by-cond (Within c (Mbc1 m)) (m .enabled) (Save (ramAddress (ramBank1 m) index)) (Fixed 0xFF)
+          by-cond (Within (romLen c) (ramLen c (Mbc1 m))) (m .enabled) (Save (ramAddress (ramBank1 m) index)) (Fixed 0xFF)
           (λ on. omega (arith, ram-below c m e on)) (λ off. lit< tt);
       kept = λ c index value h. rw (keeps c m index value h);
       own = λ c index value. refl;

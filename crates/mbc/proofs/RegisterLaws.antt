@@ -1,10 +1,10 @@
 -- Registers and mappers, both ways.
-use mathlib.Core.Path.{_≡_, refl, sym, _∙_, ap}
+use mathlib.Core.Path.{_≡_, refl, sym, ap, _∙_}
 use mathlib.Core.Bool.{true}
-use Prim.Native.Nat.{ℕ}
+use Prim.Native.Nat.{ℕ, _<_}
 use lib.Dec.{eqb}
 use borrow.Author.Tests.{eqb-true, eq-eqb}
-use Rattle.mbc.specs.Mbc.{registersOf, mapperOf, same, sound}
+use Rattle.mbc.specs.Mbc.{known, registersOf, mapperOf, same, sound}
 use Rattle.mbc.specs.declared.mbc.Mapper.{Mapper}
 use Rattle.mbc.specs.declared.registers.Registers.{Registers}
 use Rattle.rules.proofs.Tests.{both-true}
@@ -49,6 +49,15 @@ pub registers-sound : (m : Mapper) → sound (registersOf m) ≡ true
 unfolding sound
 registers-sound m = ap (λ (n : Mapper). same (registersOf m) (registersOf n)) (lawful m .back) ∙ same-self (registersOf m)
 
+pub registers-known : (m : Mapper) → known (registersOf m .kind) ≡ true
+registers-known m = lawful m .kind
+
+pub registers-bits : (m : Mapper) → (registersOf m .mode < 2) × (registersOf m .enabled < 2)
+registers-bits m = lawful m .bits
+
 pub registers-of-mapper : (r : Registers) → sound r ≡ true → registersOf (mapperOf r) ≡ r
 unfolding sound
 registers-of-mapper r e = same-is r (registersOf (mapperOf r)) e
+
+pub sound-known : (r : Registers) → sound r ≡ true → known (r .kind) ≡ true
+sound-known r e = ap (λ (s : Registers). known (s .kind)) (sym (registers-of-mapper r e)) ∙ lawful (mapperOf r) .kind

@@ -2,11 +2,10 @@
 use mathlib.Core.Path.{_≡_, refl}
 use mathlib.Core.Bool.{true, _&&_, and-true}
 use mathlib.Core.Logic.{inl}
-use Prim.Native.Nat.{ℕ}
 use native.Mathlib.Omega.{arith}
 use lib.Dec.{eqb, lit<}
 use Rattle.mbc.specs.PanDocs.{ramAddress}
-use Rattle.mbc.specs.Mbc.{hasBanks, hasCode, described, held, inRange, ramLen, ramSource}
+use Rattle.mbc.specs.Mbc.{hasBanks, hasCode, described, held, inRange, romLen, ramLen, ramSource}
 use Rattle.mbc.specs.declared.cartridge.Cartridge.{Cartridge}
 use Rattle.mbc.specs.declared.mbc.Mapper.the-variants.{RomOnly}
 use Rattle.mbc.specs.declared.mbc.Source.the-variants.{Save, Fixed}
@@ -34,12 +33,13 @@ rom-only-lawful =
           let b = and-left (hasBanks 2 c) (hasCode c) e in
           record { power = banks-power 2 c b; most = omega (arith, banks-most 2 c b); code = code-most c (and-right (hasBanks 2 c) (hasCode c) e) };
       holds = λ c e. record { rom = omega (arith, banks-least 2 c (in-banks c e)); ram = omega arith; high = omega arith };
+      kind = refl;
       back = refl;
       bits = (omega arith, omega arith);
       owns = inl refl;
       whole = λ c index. by-cond Whole (eqb (c .code) 0) (Fixed 0xFF) (Save (ramAddress 0 index)) (λ z. lit< tt) (λ z. tt);
       within = λ c index e l h.
-          by-cond (Within c RomOnly) (eqb (c .code) 0) (Fixed 0xFF) (Save (ramAddress 0 index)) (λ z. lit< tt)
+          by-cond (Within (romLen c) (ramLen c RomOnly)) (eqb (c .code) 0) (Fixed 0xFF) (Save (ramAddress 0 index)) (λ z. lit< tt)
           (λ z. omega (arith, some-ram (c .code) (has-ram c (in-code c e) z)));
       kept = λ c index value h. refl;
       own = λ c index value. refl;

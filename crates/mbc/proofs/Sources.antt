@@ -6,10 +6,9 @@ use native.Mathlib.Omega.{arith}
 use lib.Dec.{ltb}
 use borrow.Author.Tests.{ltb-true, ltb-false, lt-ltb, le-ltb}
 use Rattle.mbc.specs.PanDocs.{romAddress}
-use Rattle.mbc.specs.Mbc.{inRange, mapped, romBank, ramSource, source}
+use Rattle.mbc.specs.Mbc.{romLen, ramLen, inRange, mapped, romBank, ramSource, source}
 use Rattle.mbc.specs.declared.cartridge.Cartridge.{Cartridge}
 use Rattle.mbc.specs.declared.mbc.Mapper.{Mapper}
-use Rattle.mbc.specs.declared.mbc.Source.{Source}
 use Rattle.mbc.specs.declared.mbc.Source.the-variants.{Rom}
 use Rattle.mbc.proofs.Bools.{by-cond}
 use Rattle.mbc.proofs.Lawful.{Within, Whole}
@@ -29,14 +28,14 @@ pub past-rom : (c : Cartridge) (m : Mapper) (index : ℕ) → 0x8000 ≤ index �
 unfolding source
 past-rom c m index h = rw (le-ltb index 0x4000 (omega arith), le-ltb index 0x8000 h)
 
-pub within : (c : Cartridge) (m : Mapper) (index : ℕ) → inRange c m ≡ true → mapped index ≡ true → Within c m (source c m index)
+pub within : (c : Cartridge) (m : Mapper) (index : ℕ) → inRange c m ≡ true → mapped index ≡ true → Within (romLen c) (ramLen c m) (source c m index)
 unfolding source
 within c m index e mp =
-    by-cond (Within c m) (ltb index 0x4000) (Rom index)
+    by-cond (Within (romLen c) (ramLen c m)) (ltb index 0x4000) (Rom index)
     (cond (ltb index 0x8000) (Rom (romAddress (romBank m) index)) (ramSource c m index))
     (λ t. omega (arith, some-banks c m e, ltb-true index 0x4000 t))
     (λ f.
-    by-cond (Within c m) (ltb index 0x8000) (Rom (romAddress (romBank m) index)) (ramSource c m index)
+    by-cond (Within (romLen c) (ramLen c m)) (ltb index 0x8000) (Rom (romAddress (romBank m) index)) (ramSource c m index)
     (λ t. omega (arith, rom-below c m e, ltb-true index 0x8000 t, ltb-false index 0x4000 f))
     (λ g.
     let r = in-ram index mp (ltb-false index 0x8000 g) in

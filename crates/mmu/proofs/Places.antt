@@ -21,7 +21,7 @@ use Rattle.memory.specs.declared.Banks.{Banks}
 use Rattle.memory.specs.declared.Memory.{Memory}
 use Rattle.registers.proofs.Kept.{cond-both}
 use Rattle.registers.specs.Page.{readRegister, writeRegister}
-use Rattle.savelog.specs.Log.{width, appended}
+use Rattle.savelog.specs.Log.{width, appended, full}
 use Rattle.mmu.specs.PanDocs.{echo, vramAt, wramAt}
 use Rattle.mmu.specs.Access.{Holds, Ready, Reaches, lentAt, byteAt, readByte, mapperPut, saved, savePut, inState, inVram, inWram, putAt, put}
 
@@ -101,25 +101,25 @@ module _ (x : Fixed) (m : Memory) (v w s : List ℕ) (index i : ℕ) (e : i ≡ 
 
 module _ (m : Memory) {c : Cartridge} {t : Mapper} {used : ℕ} (p : m .core .cartridge ≡ c) (q : m .core .mapper ≡ t) (e : m .core .used ≡ used) (s l : List ℕ)
     (i v : ℕ) where
-  pub save-full : ltb (length l) (used + width) ≡ true → world (withUsed m used) [] [] s l ≡ savePut (world m [] [] s l) i v
+  pub save-full : full (length l) used 1 ≡ true → world (withUsed m used) [] [] s l ≡ savePut (world m [] [] s l) i v
   unfolding savePut
   save-full a =
-      let b : ltb (length l) (m .core .used + width) ≡ true = rw e a in
+      let b : full (length l) (m .core .used) 1 ≡ true = rw e a in
       rw (← e) (sym (cond-true _ _ _ b))
 
-  save-answered : (k : Answer) → ltb (length l) (used + width) ≡ false → answer c t i v ≡ k
+  save-answered : (k : Answer) → full (length l) used 1 ≡ false → answer c t i v ≡ k
       → saved k (world m [] [] s l) ≡ savePut (world m [] [] s l) i v
   unfolding savePut
   save-answered k a n =
-      let b : ltb (length l) (m .core .used + width) ≡ false = rw e a in
+      let b : full (length l) (m .core .used) 1 ≡ false = rw e a in
       let r : answer (m .core .cartridge) (m .core .mapper) i v ≡ k = rw (p, q) n in
       sym (cond-false _ _ _ b ∙ ap (λ (k : Answer). saved k (world m [] [] s l)) r)
 
-  pub save-none : ltb (length l) (used + width) ≡ false → answer c t i v ≡ NotStored
+  pub save-none : full (length l) used 1 ≡ false → answer c t i v ≡ NotStored
       → world (withUsed m used) [] [] s l ≡ savePut (world m [] [] s l) i v
   save-none a n = rw (← e) (save-answered NotStored a n)
 
-  pub save-stored : (at b : ℕ) {r : ℕ} {y z : List ℕ} → ltb (length l) (used + width) ≡ false → answer c t i v ≡ Stored at b
+  pub save-stored : (at b : ℕ) {r : ℕ} {y z : List ℕ} → full (length l) used 1 ≡ false → answer c t i v ≡ Stored at b
       → r ≡ used + width → y ≡ set s at b → z ≡ appended l used at b → world (withUsed m r) [] [] y z ≡ savePut (world m [] [] s l) i v
   save-stored at b a n x y z = rw (x, y, z, ← e) (save-answered (Stored at b) a n)
 
@@ -137,7 +137,7 @@ beside-cond false a w = refl
 save-apart : (w : World) (i v : ℕ) → beside w (savePut (alone w) i v) ≡ savePut w i v
 unfolding savePut
 save-apart w i v =
-    beside-cond (ltb (length (w .log)) (w .state .core .used + width)) (answer (w .state .core .cartridge) (w .state .core .mapper) i v) w
+    beside-cond (full (length (w .log)) (w .state .core .used) 1) (answer (w .state .core .cartridge) (w .state .core .mapper) i v) w
 
 -- writes
 

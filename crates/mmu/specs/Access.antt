@@ -16,7 +16,7 @@ use Rattle.memory.specs.World.{World, world, Fixed, withOam, withMapper, withUs
 use Rattle.memory.specs.declared.Banks.{Banks}
 use Rattle.memory.specs.declared.Memory.{Memory}
 use Rattle.registers.specs.Page.{readRegister, writeRegister}
-use Rattle.savelog.specs.Log.{width, logLimit, appended}
+use Rattle.savelog.specs.Log.{width, logLimit, appended, full}
 use Rattle.mmu.specs.PanDocs.{echo, vramAt, wramAt}
 
 -- a state in range, with memories of the lengths that it needs
@@ -89,7 +89,7 @@ saved a w =
 -- a write in A000..BFFF: without room in the log nothing is stored (a public call is then refused by 2)
 unfoldable pub savePut : World → ℕ → ℕ → World
 savePut w i v =
-    cond (ltb (length (w .log)) (w .state .core .used + width)) w (saved (answer (w .state .core .cartridge) (w .state .core .mapper) i v) w)
+    cond (full (length (w .log)) (w .state .core .used) 1) w (saved (answer (w .state .core .cartridge) (w .state .core .mapper) i v) w)
 
 -- the world with its state, its video memory or its work memory changed
 abbrev pub inState : World → Memory → World

@@ -3,12 +3,11 @@ ghost use mathlib.Core.Bool.{true};
 ghost use mathlib.Core.List.{[]};
 ghost use mathlib.Core.Path.{_≡_};
 ghost use Prim.Native.Nat.{_+_, _*_, _<_, _≤_};
-ghost use lib.Dec.{ltb};
 ghost use lib.ListN.{length, getD, set};
 ghost use Rattle.mbc.specs.Mbc.{inRange, ramLen};
 ghost use Rattle.memory.specs.World.{world, withUsed};
 ghost use Rattle.memory.specs.declared.Memory.{Memory};
-ghost use Rattle.savelog.specs.Log.{width, logLimit};
+ghost use Rattle.savelog.specs.Log.{logLimit};
 ghost use Rattle.mmu.specs.PanDocs.{echo, vramAt, wramAt};
 ghost use Rattle.mmu.specs.Access.{Reaches, lentAt, mapperPut, savePut};
 use mbc::Answer;
@@ -127,13 +126,6 @@ pub fn put_mapper(memory: Memory, index: u16, value: u8) -> Memory
     memory::with_mapper(memory, after)
 }
 
-// Whether a log of `len` bytes has no room for one more record.
-pub fn full(len: usize, used: u16) -> bool
-    ensures { λ r. ⌜ r ≡ ltb len (used + width) ⌝ }
-{
-    len < used as usize + 3
-}
-
 // A write in A000..BFFF: the mapper answers, the bus stores the byte and records it. A log without room records nothing, and nothing is stored.
 // It takes of the bus the cartridge, the mapper and the bytes of the log that are used, and gives how many are used after it.
 pub fn store_save(
@@ -148,7 +140,7 @@ pub fn store_save(
     requires { ⌜ ((0xA000 ≤ index) × (index < 0xC000)) × ((inRange cartridge mapper ≡ true) × ((length (now save) ≡ ramLen cartridge mapper) × (length (now log) ≤ logLimit))) ⌝ }
     ensures { λ r. ⌜ ((m : Memory) → m .core .cartridge ≡ cartridge → m .core .mapper ≡ mapper → m .core .used ≡ used → world (withUsed m r) [] [] (now (save .exit)) (now (log .exit)) ≡ savePut (world m [] [] (now (save .entry)) (now (log .entry))) index value) ⌝ }
 {
-    if full(log.len(), used) {
+    if savelog::full(log.len(), used, 1) {
         return used;
     }
     let written = mapper.write(cartridge, index, value);

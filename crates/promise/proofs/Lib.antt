@@ -1,13 +1,10 @@
 pub mod Bus
-pub mod Open
 pub mod Mappers
 pub mod Writes
 pub mod Lists
-pub mod Numbered
-pub mod States
 pub mod Steps
 pub mod Runs
-pub mod Starts
+pub mod Begins
 pub mod Cuts
 pub mod Each
 pub mod Promise

@@ -7,6 +7,9 @@ use native.Mathlib.Omega.{arith}
 use lib.Dec.{eqb}
 use lib.ListN.{length}
 use borrow.Author.Tests.{le-leb, eqb-false}
+use Rattle.dispatch.proofs.Numbered.{by-unless, state-refusal, byte-refusal, word-refusal, byte-fits, low-fits, high-fits, byte-done, word-done}
+use Rattle.dispatch.proofs.Open.{Good, stays-good}
+use Rattle.dispatch.proofs.States.{Answers, reads, changes, clears, state-answers}
 use Rattle.mbc.proofs.Bools.{by-cond}
 use Rattle.memory.proofs.Laws.{used-range}
 use Rattle.memory.specs.World.{World, Fixed, withUsed}
@@ -14,40 +17,27 @@ use Rattle.mmu.proofs.Laws.{kept-stays, write-stays, transfer-stays}
 use Rattle.mmu.proofs.Saves.{Clear, transfer-spares, oam-clear, block-clear}
 use Rattle.mmu.specs.Access.{Holds, inState}
 use Rattle.mmu.specs.Write.{transferred, writeAt, wordAt}
+use Rattle.refusals.proofs.Answers.{both-pass}
 use Rattle.registers.specs.Transfers.{oamCopy, blockCopy}
 use Rattle.registers.specs.declared.transfers.Copy.{Copy}
 use Rattle.savelog.specs.Log.{width, logLimit, joined, applyAll, useInRange}
-use Rattle.promise.specs.Bus.{Outcome, outcome, step, Performed, Call, inSave, nextIndex, Done}
+use Rattle.promise.specs.Bus.{Outcome, outcome, step, Performed, Call, inSave, nextIndex, Done, refused, Kind, Reading, Clearing, Other, kindOf}
 use Rattle.promise.specs.Bus.call as call
-use Rattle.promise.specs.Calls.{ByteWrite, byte, refused, writesOf, Kind, Reading, Clearing, Other, kindOf}
+use Rattle.promise.specs.Calls.{ByteWrite, byte, writesOf}
 use Rattle.promise.specs.Admitted.{granted, letInAll, recordsOf}
 use Rattle.promise.specs.Runs.{usedBytes, copiedBefore}
 use Rattle.promise.proofs.Bus.{orElse, refusedWrite, byteRoom, wordRoom, changed, refusedState, unless, inWorld}
 use Rattle.promise.proofs.Mappers.{High, transfer-mapper, oam-high, block-high}
 use Rattle.promise.proofs.Writes.{write-stores, write-after}
 use Rattle.promise.proofs.Lists.{mappersAfter, Quiet, quiet-refl, Made, Left, left-none, left-more}
-use Rattle.promise.proofs.Open.{Good, stays-good}
-use Rattle.promise.proofs.Numbered.{
-  by-unless,
-  state-refusal,
-  byte-refusal,
-  word-refusal,
-  or-second,
-  byte-fits,
-  low-fits,
-  high-fits,
-  byte-done,
-  word-done,
-}
-use Rattle.promise.proofs.States.{Answers, reads, changes, clears, state-answers}
 
 pub record Moved (w : World) (c : Call) (o : Outcome) : Type 0 where
   pub good : Good (o .after)
-  pub cartridge : o .after .state .cartridge ≡ w .state .cartridge
-  pub mapper : o .after .state .mapper ≡ mappersAfter (w .state .cartridge) (w .state .mapper) (granted (o .number) c)
-  pub save : o .after .save ≡ applyAll (w .save) (letInAll (w .state .cartridge) (w .state .mapper) (granted (o .number) c))
+  pub cartridge : o .after .state .core .cartridge ≡ w .state .core .cartridge
+  pub mapper : o .after .state .core .mapper ≡ mappersAfter (w .state .core .cartridge) (w .state .core .mapper) (granted (o .number) c)
+  pub save : o .after .save ≡ applyAll (w .save) (letInAll (w .state .core .cartridge) (w .state .core .mapper) (granted (o .number) c))
   pub log : joined (copiedBefore (kindOf c) (o .number) w) ++ usedBytes (o .after)
-      ≡ usedBytes w ++ recordsOf (letInAll (w .state .cartridge) (w .state .mapper) (granted (o .number) c))
+      ≡ usedBytes w ++ recordsOf (letInAll (w .state .core .cartridge) (w .state .core .mapper) (granted (o .number) c))
 
 -- a kind of call that clears nothing
 data NoClear : Kind → Type 0 where
@@ -154,20 +144,20 @@ module _ (w : World) (g : Good w) where
         moved-refused c n (rw (k, r)) r)
 
   -- a byte write
-  made-byte : (x : Fixed) (i v : ℕ) → (inSave i ≡ true → w .state .used + width ≤ length (w .log)) → Made (byte i v) w (writeAt x 2 w i v)
+  made-byte : (x : Fixed) (i v : ℕ) → (inSave i ≡ true → w .state .core .used + width ≤ length (w .log)) → Made (byte i v) w (writeAt x 2 w i v)
   made-byte x i v room =
       record { stays = write-stays x w holds 2 i v; mapper = write-after x w i v; stores = write-stores x w i v room }
 
 -- a word write: two byte writes
-left-word : (x : Fixed) (w : World) → Good w → (i v : ℕ) → wordRoom (w .state .used) (length (w .log)) i ≡ 0
+left-word : (x : Fixed) (w : World) → Good w → (i v : ℕ) → wordRoom (w .state .core .used) (length (w .log)) i ≡ 0
     → Left (byte i (v % 256) ∷ byte (nextIndex i) (v / 256) ∷ []) w (wordAt x w i v)
 unfolding wordAt
 left-word x w g i v room =
     let u = writeAt x 2 w i (v % 256) in
-    let a = made-byte w g x i (v % 256) (λ t. omega (arith, low-fits (w .state .used) (length (w .log)) i room t)) in
+    let a = made-byte w g x i (v % 256) (λ t. omega (arith, low-fits (w .state .core .used) (length (w .log)) i room t)) in
     let h = stays-good w u g (a .stays) in
     let b = made-byte u h x (nextIndex i) (v / 256)
-    (λ t. omega (arith, high-fits (w .state .used) (length (w .log)) i room t, a .stores .grown, a .stores .same)) in
+    (λ t. omega (arith, high-fits (w .state .core .used) (length (w .log)) i room t, a .stores .grown, a .stores .same)) in
     left-more a (left-more b (left-none _ _ (quiet-refl _ (b .stays .holds))))
 
 pub moved : (x : Fixed) (w : World) → Good w → (c : Call) → Moved w c (step x w c)
@@ -176,16 +166,16 @@ moved x w g (call.ReadByte i) = moved-read w g (call.ReadByte i) reading refl _ 
 moved x w g (call.ReadWord i) = moved-read w g (call.ReadWord i) reading refl _ _
 moved x w g (call.ReadCgbLcdRam i bank) = moved-read w g (call.ReadCgbLcdRam i bank) reading refl _ _
 moved x w g (call.WriteByte i v) =
-    let n = orElse (refusedWrite x w) (byteRoom (w .state .used) (length (w .log)) i) in
+    let n = orElse (refusedWrite x w) (byteRoom (w .state .core .used) (length (w .log)) i) in
     by-unless (Moved w (call.WriteByte i v)) n w _
     (λ z.
-    let a = made-byte w g x i v (byte-fits (w .state .used) (length (w .log)) i (or-second _ _ z)) in
+    let a = made-byte w g x i v (byte-fits (w .state .core .used) (length (w .log)) i (both-pass (refusedWrite x w) _ z .1)) in
     moved-left w g (call.WriteByte i v) _ refl (rw (byte-done i)) (left-more a (left-none _ _ (quiet-refl _ (a .stays .holds)))))
     (λ h. moved-refused w g (call.WriteByte i v) n refl (byte-refusal x w i h))
 moved x w g (call.WriteWord i v) =
-    let n = orElse (refusedWrite x w) (wordRoom (w .state .used) (length (w .log)) i) in
+    let n = orElse (refusedWrite x w) (wordRoom (w .state .core .used) (length (w .log)) i) in
     by-unless (Moved w (call.WriteWord i v)) n w _
-    (λ z. moved-left w g (call.WriteWord i v) _ refl (rw (word-done i)) (left-word x w g i v (or-second _ _ z)))
+    (λ z. moved-left w g (call.WriteWord i v) _ refl (rw (word-done i)) (left-word x w g i v (both-pass (refusedWrite x w) _ z .1)))
     (λ h. moved-refused w g (call.WriteWord i v) n refl (word-refusal x w i h))
 moved x w g (call.DoDmaTransfer page) =
     moved-transfer w g (call.DoDmaTransfer page) other refl x 0 (oamCopy page) (oam-clear page) (oam-high page)

@@ -8,9 +8,10 @@ use Rattle.mbc.specs.declared.cartridge.Cartridge.{Cartridge}
 use Rattle.mbc.specs.declared.mbc.Mapper.{Mapper}
 use Rattle.mbc.specs.declared.mbc.Answer.{Answer}
 use Rattle.mbc.specs.declared.mbc.Answer.the-variants.{Stored, NotStored}
-use Rattle.savelog.specs.Log.{Rec, stored, recordBytes}
-use Rattle.promise.specs.Bus.{Call, inSave}
-use Rattle.promise.specs.Calls.{ByteWrite, refused, writesOf}
+use Rattle.savelog.specs.Log.{stored, recordBytes}
+use Rattle.savelog.specs.declared.Rec.{Rec}
+use Rattle.promise.specs.Bus.{Call, inSave, refused}
+use Rattle.promise.specs.Calls.{ByteWrite, writesOf}
 
 -- "that were not refused": the byte writes of the calls that were done, by the number that each call gave
 unfoldable pub granted : ℕ → Call → List ByteWrite

@@ -1,41 +1,20 @@
--- What holds of each call, on every state and every buffer, in range or not: `each_call_holds` has these as its contract.
-use mathlib.Core.Bool.{Bool, true, false, _||_}
+-- What holds of each call, on every state and every buffer, in range or not: `each_call_holds` has these as its contract, with those of crate dispatch.
+use mathlib.Core.Bool.{Bool, false, _||_}
 use mathlib.Core.List.{List, [], _∷_}
 use mathlib.Core.Path.{_≡_}
 use Prim.Native.Nat.{ℕ}
-use Rattle.memory.specs.Start.{zeroed}
 use Rattle.memory.specs.World.{World, Fixed}
 use Rattle.mmu.specs.Access.{put}
 use Rattle.mmu.specs.Write.{writeAt}
-use Rattle.numbers.specs.Numbers.{done}
-use Rattle.promise.specs.Bus.{inSave, step, Call}
+use Rattle.promise.specs.Bus.{inSave, step, Call, Clearing, kindOf}
 use Rattle.promise.specs.Bus.call as call
-use Rattle.promise.specs.Calls.{ByteWrite, refused, writesOf, Reading, Clearing, kindOf}
-use Rattle.promise.specs.Runs.{Lent, start}
-
--- Demand 1: "A refused read gives 0; a refused call alters no state and no lent byte"
-abbrev pub RefusedPromise : Type 0
-RefusedPromise =
-    (x : Fixed) (w : World) (c : Call)
-    → refused (step x w c .number) ≡ true
-    → (step x w c .after ≡ w) × (step x w c .value ≡ 0)
-
--- a fresh bus that is refused: "gives the all-zero state", and both memories stay
-abbrev pub RefusedFresh : Type 0
-RefusedFresh =
-    (l : Lent)
-    → (start l .number ≡ done → ⊥)
-    → (start l .state ≡ zeroed) × (start l .vram ≡ l .vram) × (start l .wram ≡ l .wram)
-
--- Document 01, "The bus": "Reads change nothing"
-abbrev pub ReadPromise : Type 0
-ReadPromise = (x : Fixed) (w : World) (c : Call) → kindOf c ≡ Reading → step x w c .after ≡ w
+use Rattle.promise.specs.Calls.{ByteWrite, writesOf}
 
 -- save, log and use as they were
 pub record Untouched (w u : World) : Type 0 where
   pub save : u .save ≡ w .save
   pub log : u .log ≡ w .log
-  pub used : u .state .used ≡ w .state .used
+  pub used : u .state .core .used ≡ w .state .core .used
 
 -- No transfer writes a save byte or a log byte: not the two calls, and not what a byte write starts, wherever it is (`put` is the byte alone)
 abbrev pub TransferPromise : Type 0
@@ -56,4 +35,4 @@ OutsidePromise =
     → reaches (writesOf c) ≡ false
     → (step x w c .after .save ≡ w .save)
     × (step x w c .after .log ≡ w .log)
-    × ((kindOf c ≡ Clearing → ⊥) → step x w c .after .state .used ≡ w .state .used)
+    × ((kindOf c ≡ Clearing → ⊥) → step x w c .after .state .core .used ≡ w .state .core .used)

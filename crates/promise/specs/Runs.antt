@@ -1,41 +1,17 @@
 -- A fresh bus over a save image, and a list of calls on it (demand 3): who is refused, what is admitted, what is copied off.
 -- They speak of `freshCall`, which `fresh::fresh` is, and of `step`, which `dispatch::perform` is for every call.
-use mathlib.Core.Bool.{Bool, true, cond, _&&_}
+use mathlib.Core.Bool.{true, cond}
 use mathlib.Core.List.{List, [], _∷_, _++_}
 use mathlib.Core.Path.{_≡_}
 use Prim.Native.Nat.{ℕ, _≤_}
-use lib.Dec.{eqb}
 use lib.ListN.{length, take}
 use Rattle.mbc.specs.Mbc.{romLen, ramLen, described, cartridgeOf, start as mapperOf}
-use Rattle.mbc.specs.declared.cartridge.Cartridge.{Cartridge}
-use Rattle.memory.specs.Ranges.{vramLen, wramLen, soundLen}
-use Rattle.memory.specs.World.{World, world, Fixed}
-use Rattle.savelog.specs.Log.{Rec}
-use Rattle.promise.specs.Bus.{Begun, freshCall, Outcome, step, Call}
-use Rattle.promise.specs.Calls.{refused, Kind, Reading, Clearing, Other, kindOf}
+use Rattle.memory.specs.Ranges.{vramLen, wramLen}
+use Rattle.memory.specs.World.{World, Fixed}
+use Rattle.savelog.specs.Log.{logLimit}
+use Rattle.savelog.specs.declared.Rec.{Rec}
+use Rattle.promise.specs.Bus.{Outcome, step, Call, refused, Kind, Reading, Clearing, Other, kindOf, Lent, begin}
 use Rattle.promise.specs.Admitted.{admittedBy}
-
--- "A fresh bus over a save image": what the host lends it
-
-pub record Lent : Type 0 where
-  pub kind : ℕ
-  pub banks : ℕ
-  pub code : ℕ
-  pub colour : Bool
-  pub rom : List ℕ
-  pub vram : List ℕ
-  pub wram : List ℕ
-  pub image : List ℕ
-  pub log : List ℕ
-  pub sound : List ℕ
-
-abbrev pub start : Lent → Begun
-start l =
-    freshCall (l .kind) (l .banks) (l .code) (l .colour) (length (l .rom)) (l .vram) (l .wram) (length (l .image))
-    (length (l .log)) (length (l .sound))
-
-abbrev pub begin : Lent → World
-begin l = world (start l .state) (start l .vram) (start l .wram) (l .image) (l .log)
 
 -- a description and lengths as document 01 has them ("Cartridge and buffers"): such a fresh bus is not refused
 pub record Fitting (l : Lent) : Type 0 where
@@ -45,7 +21,7 @@ pub record Fitting (l : Lent) : Type 0 where
   pub vram : length (l .vram) ≡ vramLen (l .colour)
   pub wram : length (l .wram) ≡ wramLen (l .colour)
   pub image : length (l .image) ≡ ramLen (cartridgeOf (l .banks) (l .code)) (mapperOf (l .kind))
-  pub log : length (l .log) ≤ 65535
+  pub log : length (l .log) ≤ logLimit
   pub sound : length (l .sound) ≡ 48
 
 -- "any list of bus calls, refused ones too, each on the state and buffers the last one left". Each call is lent its own ROM and sound window for reading,
@@ -68,10 +44,6 @@ run w (t ∷ ts) = run (made w t .after) ts
 abbrev pub after : Lent → List Turn → World
 after l ts = run (begin l) ts
 
--- the lengths that a cartridge asks of them: 4 is due where they are others
-abbrev pub fits : Cartridge → Fixed → Bool
-fits c x = eqb (length (x .rom)) (romLen c) && eqb (length (x .sound)) soundLen
-
 -- the number of each call, which tells the refused ones
 unfoldable pub numbers : World → List Turn → List ℕ
 numbers w [] = []
@@ -84,7 +56,7 @@ admitted l ts = admittedBy (cartridgeOf (l .banks) (l .code)) (mapperOf (l .kind
 -- "The log's used bytes are copied off before each clearing and at the end": a clearing that is refused clears nothing, and nothing is copied
 
 abbrev pub usedBytes : World → List ℕ
-usedBytes w = take (w .state .used) (w .log)
+usedBytes w = take (w .state .core .used) (w .log)
 
 abbrev pub copiedBefore : Kind → ℕ → World → List (List ℕ)
 copiedBefore Reading n w = []

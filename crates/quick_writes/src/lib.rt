@@ -9,7 +9,6 @@ ghost use Rattle.dispatch.specs.declared.Call.the-variants.{WriteByte, WriteWor
 ghost use Rattle.image.specs.Load.{loadCall};
 ghost use Rattle.image.specs.Patches.{Slim, mappingPut};
 ghost use Rattle.mbc.specs.Mbc.{inRange, ramLen, after};
-ghost use Rattle.memory.specs.Ranges.{coreOf};
 ghost use Rattle.memory.specs.World.{world, fixed, withUsed};
 ghost use Rattle.memory.specs.declared.Memory.{Memory};
 ghost use Rattle.mmu.specs.Access.{savePut, put};
@@ -62,7 +61,7 @@ fn put_save(
     value: u8,
 ) -> u16
     requires { ⌜ ((length (now image) ≡ 665) × Slim (core .mapper)) × (((0xA000 ≤ at) × (at < 0xC000)) × ((inRange (core .cartridge) (core .mapper) ≡ true) × ((length (now save) ≡ ramLen (core .cartridge) (core .mapper)) × (length (now log) ≤ logLimit)))) ⌝ }
-    ensures { λ r. ⌜ (now (image .exit) ≡ mappingPut (now (image .entry)) (core .mapper) r) × ((m : Memory) → m .cartridge ≡ core .cartridge → m .mapper ≡ core .mapper → m .used ≡ core .used → world (withUsed m r) [] [] (now (save .exit)) (now (log .exit)) ≡ savePut (world m [] [] (now (save .entry)) (now (log .entry))) at value) ⌝ }
+    ensures { λ r. ⌜ (now (image .exit) ≡ mappingPut (now (image .entry)) (core .mapper) r) × ((m : Memory) → m .core .cartridge ≡ core .cartridge → m .core .mapper ≡ core .mapper → m .core .used ≡ core .used → world (withUsed m r) [] [] (now (save .exit)) (now (log .exit)) ≡ savePut (world m [] [] (now (save .entry)) (now (log .entry))) at value) ⌝ }
 {
     let cartridge = core.cartridge;
     let mapper = core.mapper;
@@ -98,7 +97,7 @@ fn put_quick(
     index: u16,
     value: u8,
 )
-    requires { ⌜ Taken (now image) (now vram) (now wram) (now save) (now log) × ((core ≡ coreOf (loadCall (now image) .state)) × (quick (echo index) ≡ true)) ⌝ }
+    requires { ⌜ Taken (now image) (now vram) (now wram) (now save) (now log) × ((core ≡ loadCall (now image) .state .core) × (quick (echo index) ≡ true)) ⌝ }
     ensures { λ _. ⌜ left 0 0 (now (image .exit)) (now (vram .exit)) (now (wram .exit)) (now (save .exit)) (now (log .exit)) ≡ leftBy (put (worldOf (now (image .entry)) (now (vram .entry)) (now (wram .entry)) (now (save .entry)) (now (log .entry))) index value) ⌝ }
 {
     let at = mmu::regions::lowered(index);
@@ -132,14 +131,16 @@ fn open_lent(
     sound: usize,
     log: usize,
 ) -> Opened
-    ensures { λ r. ⌜ (r .number ≡ orElse (loadCall (now (image .entry)) .number) (writeRefused (loadCall (now (image .entry)) .state) rom vram wram save sound log)) × (r .core ≡ coreOf (loadCall (now (image .entry)) .state)) ⌝ }
+    ensures { λ r. ⌜ (r .number ≡ orElse (loadCall (now (image .entry)) .number) (writeRefused (loadCall (now (image .entry)) .state) rom vram wram save sound log)) × (r .core ≡ loadCall (now (image .entry)) .state .core) ⌝ }
 {
     let opened = image::open(image);
     if opened.number != 0 {
         return opened;
     }
     let core = opened.core;
-    let number = refusals::core_write_refused(core, rom, vram, wram, save, sound, log);
+    let used = refusals::use_refused(core.used, log);
+    let lent = refusals::lent_refused(core, rom, vram, wram, save, sound, log);
+    let number = refusals::or_else(used, lent);
     Opened {
         number: number,
         core: core,
@@ -238,7 +239,7 @@ fn put_both(
     index: u16,
     value: u16,
 )
-    requires { ⌜ Taken (now image) (now vram) (now wram) (now save) (now log) × ((core ≡ coreOf (loadCall (now image) .state)) × ((quick (echo index) ≡ true) × (quick (echo (nextIndex index)) ≡ true))) ⌝ }
+    requires { ⌜ Taken (now image) (now vram) (now wram) (now save) (now log) × ((core ≡ loadCall (now image) .state .core) × ((quick (echo index) ≡ true) × (quick (echo (nextIndex index)) ≡ true))) ⌝ }
     ensures { λ _. ⌜ left 0 0 (now (image .exit)) (now (vram .exit)) (now (wram .exit)) (now (save .exit)) (now (log .exit)) ≡ leftBy (put (put (worldOf (now (image .entry)) (now (vram .entry)) (now (wram .entry)) (now (save .entry)) (now (log .entry))) index (value % 256)) (nextIndex index) (value / 256)) ⌝ }
 {
     let low = (value % 256) as u8;

@@ -10,9 +10,10 @@ use lib.Bits.{bitOr}
 use lib.Dec.{eqb, ltb}
 use lib.ListN.{set}
 use borrow.Author.Tests.{eqb-false}
-use Rattle.hdma.specs.Hdma.{sourceHigh, sourceLow, destinationHigh, destinationLow, started, risen, stepped, fallen, stillOn, blockEnded, generalEnded}
+use Rattle.hdma.specs.Hdma.{sourceHigh, sourceLow, destinationHigh, destinationLow, risen, stepped, fallen, stillOn, blockEnded, generalEnded}
 use Rattle.hdma.specs.declared.Hdma.{Hdma}
-use Rattle.hdma.proofs.Laws.{risen-address}
+use Rattle.hdma.specs.declared.Start.{Start}
+use Rattle.hdma.proofs.Laws.{risen-address, by-start}
 use Rattle.interrupt.specs.Flags.{requested, removed}
 use Rattle.interrupt.specs.declared.Interrupt.{Interrupt}
 use Rattle.joypad.specs.declared.Controller.{Controller}
@@ -67,9 +68,10 @@ use Rattle.registers.specs.Colour.{
   spriteIndexPut,
   spriteDataPut,
 }
-use Rattle.registers.specs.Transfers.{sourceHighPut, sourceLowPut, destinationHighPut, destinationLowPut, startPut, withEnded, finished}
+use Rattle.registers.specs.Transfers.{sourceHighPut, sourceLowPut, destinationHighPut, destinationLowPut, startedBy, started, startPut, withEnded, finished}
 use Rattle.registers.specs.Page.{plainWrite, writeRegister}
 use Rattle.registers.specs.declared.transfers.Finish.{Finish}
+use Rattle.registers.specs.declared.transfers.Started.{Started}
 use Rattle.registers.specs.declared.transfers.Finish.the-variants.{Nothing, Block, General}
 
 pub record Kept (m n : Memory) : Type 0 where
@@ -287,12 +289,19 @@ destination-low-kept m v =
     in-colour-kept m 0x54 v _
     (λ e. hdma-kept m _ _ (λ f. record { source = f .source; destination = omega arith; allowed = f .allowed }))
 
--- HDMA may be switched on here, in colour
+-- HDMA may be switched on, in colour
+switched-kept : (m : Memory) (on : Bool) (p : List ℕ) → m .core .banks .colour ≡ true
+    → Kept m (withHdma m (record { on = on; source = m .core .hdma .source; destination = m .core .hdma .destination }) p)
+switched-kept m on p e = hdma-kept m _ p (λ f. record { source = f .source; destination = f .destination; allowed = rw e })
+
 start-kept : (m : Memory) (v : ℕ) → Kept m (startPut m v)
-unfolding startPut started
+unfolding started
 start-kept m v =
-    in-colour-kept m 0x55 v _
-    (λ e. hdma-kept m _ _ (λ f. record { source = f .source; destination = f .destination; allowed = rw e }))
+    by-cond (λ (s : Started). Kept m (s .memory)) (m .core .banks .colour) _ _
+    (λ e.
+    by-start (λ (s : Start). Kept m (startedBy m v s .memory)) (m .core .hdma) (m .core .lcd .mode) v (switched-kept m true _ e)
+    (switched-kept m true _ e) (switched-kept m false _ e) (kept-refl m))
+    (λ e. stored-kept m 0x55 v)
 
 stepped-range : (edge past a : ℕ) → past % 16 ≡ 0 → a % 16 ≡ 0 → stepped edge past a % 16 ≡ 0
 unfolding stepped

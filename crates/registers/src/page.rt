@@ -93,7 +93,7 @@ pub fn write(memory: Memory, at: u8, value: u8) -> Memory
         0x52 => transfers::write_source_low(memory, value),
         0x53 => transfers::write_destination_high(memory, value),
         0x54 => transfers::write_destination_low(memory, value),
-        0x55 => transfers::do_cgb_dma(memory, value),
+        0x55 => transfers::write_start(memory, value),
         0x68 => colour::write_background_index(memory, value),
         0x69 => colour::write_background_data(memory, value),
         0x6A => colour::write_sprite_index(memory, value),

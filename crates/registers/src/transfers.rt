@@ -1,10 +1,12 @@
 // FF46 and FF51..FF55: the registers of the transfers, which transfer a write starts, and how the registers end. The bytes are copied by the crate mmu.
 ghost use mathlib.Core.Path.{_≡_};
 ghost use Prim.Native.Nat.{_≤_, _+_, _-_, min};
-ghost use Rattle.registers.specs.Transfers.{sourceHighPut, sourceLowPut, destinationHighPut, destinationLowPut, startPut, withEnded, oamCopy, blockCopy, generalCopy, startCopy, copyOf, nothing, finished, Bounded};
+ghost use Rattle.registers.specs.Page.{writeRegister};
+ghost use Rattle.registers.specs.Transfers.{transferPut, sourceHighPut, sourceLowPut, destinationHighPut, destinationLowPut, startPut, withEnded, oamCopy, blockCopy, generalCopy, startedBy, started, copyOf, nothing, finished, Bounded};
 use crate::store;
 use hdma::Ended;
 use hdma::Start;
+use hdma::Written;
 use memory::Memory;
 
 // Which registers a copy sets at its end.
@@ -22,6 +24,24 @@ pub struct Copy {
     pub finish: Finish,
 }
 
+// A write that starts a transfer: the state before any byte is copied, and what is copied.
+pub struct Started {
+    pub memory: Memory,
+    pub copy: Copy,
+}
+
+// The hidden addresses, and a byte of the page.
+fn put_written(memory: Memory, at: u8, written: Written) -> Memory
+    ensures { λ r. ⌜ r ≡ transferPut memory at written ⌝ }
+{
+    let after = written.hdma;
+    let mut core = memory.core;
+    core.hdma = after;
+    let mut next = store(memory, at, written.byte);
+    next.core = core;
+    next
+}
+
 // FF51.
 pub fn write_source_high(memory: Memory, value: u8) -> Memory
     ensures { λ r. ⌜ r ≡ sourceHighPut memory value ⌝ }
@@ -29,14 +49,7 @@ pub fn write_source_high(memory: Memory, value: u8) -> Memory
     let banks = memory.core.banks;
     if banks.colour {
         let hdma = memory.core.hdma;
-        let written = hdma::write_source_high(hdma, value);
-        let after = written.hdma;
-        let mut core = memory.core;
-        core.hdma = after;
-        let mut next = memory;
-        next.page[0x51] = written.byte;
-        next.core = core;
-        return next;
+        return put_written(memory, 0x51, hdma::write_source_high(hdma, value));
     }
     store(memory, 0x51, value)
 }
@@ -48,14 +61,7 @@ pub fn write_source_low(memory: Memory, value: u8) -> Memory
     let banks = memory.core.banks;
     if banks.colour {
         let hdma = memory.core.hdma;
-        let written = hdma::write_source_low(hdma, value);
-        let after = written.hdma;
-        let mut core = memory.core;
-        core.hdma = after;
-        let mut next = memory;
-        next.page[0x52] = written.byte;
-        next.core = core;
-        return next;
+        return put_written(memory, 0x52, hdma::write_source_low(hdma, value));
     }
     store(memory, 0x52, value)
 }
@@ -67,14 +73,7 @@ pub fn write_destination_high(memory: Memory, value: u8) -> Memory
     let banks = memory.core.banks;
     if banks.colour {
         let hdma = memory.core.hdma;
-        let written = hdma::write_destination_high(hdma, value);
-        let after = written.hdma;
-        let mut core = memory.core;
-        core.hdma = after;
-        let mut next = memory;
-        next.page[0x53] = written.byte;
-        next.core = core;
-        return next;
+        return put_written(memory, 0x53, hdma::write_destination_high(hdma, value));
     }
     store(memory, 0x53, value)
 }
@@ -86,36 +85,9 @@ pub fn write_destination_low(memory: Memory, value: u8) -> Memory
     let banks = memory.core.banks;
     if banks.colour {
         let hdma = memory.core.hdma;
-        let written = hdma::write_destination_low(hdma, value);
-        let after = written.hdma;
-        let mut core = memory.core;
-        core.hdma = after;
-        let mut next = memory;
-        next.page[0x54] = written.byte;
-        next.core = core;
-        return next;
+        return put_written(memory, 0x54, hdma::write_destination_low(hdma, value));
     }
     store(memory, 0x54, value)
-}
-
-// FF55 before any byte is copied: the Rust's `do_cgb_dma`.
-pub fn do_cgb_dma(memory: Memory, value: u8) -> Memory
-    ensures { λ r. ⌜ r ≡ startPut memory value ⌝ }
-{
-    let banks = memory.core.banks;
-    if banks.colour {
-        let hdma = memory.core.hdma;
-        let lcd = memory.core.lcd;
-        let started = hdma::do_cgb_dma(hdma, lcd.mode, value, memory.page[0x55]);
-        let after = started.hdma;
-        let mut core = memory.core;
-        core.hdma = after;
-        let mut next = memory;
-        next.page[0x55] = started.byte;
-        next.core = core;
-        return next;
-    }
-    store(memory, 0x55, value)
 }
 
 fn with_ended(memory: Memory, ended: Ended) -> Memory
@@ -203,36 +175,62 @@ fn general_copy(memory: Memory, value: u8) -> Copy
     }
 }
 
-// What a write of FF55 copies.
-fn start_copy(memory: Memory, value: u8) -> Copy
-    ensures { λ r. ⌜ (r ≡ startCopy memory value) × Bounded r ⌝ }
+// What `hdma` decided of FF55. A general transfer sets the registers at its end.
+fn started_by(memory: Memory, value: u8, start: Start) -> Started
+    ensures { λ r. ⌜ (r ≡ startedBy memory value start) × Bounded (r .copy) ⌝ }
+{
+    match start {
+        Start::Set(written) => Started {
+            memory: put_written(memory, 0x55, written),
+            copy: no_copy(),
+        },
+        Start::Block(written) => Started {
+            memory: put_written(memory, 0x55, written),
+            copy: block_copy(memory),
+        },
+        Start::General => Started {
+            memory: memory,
+            copy: general_copy(memory, value),
+        },
+    }
+}
+
+// FF55: the Rust's `do_cgb_dma`.
+pub fn do_cgb_dma(memory: Memory, value: u8) -> Started
+    ensures { λ r. ⌜ (r ≡ started memory value) × Bounded (r .copy) ⌝ }
 {
     let banks = memory.core.banks;
     if banks.colour {
         let hdma = memory.core.hdma;
         let lcd = memory.core.lcd;
-        let started = hdma::do_cgb_dma(hdma, lcd.mode, value, 0);
-        let start = started.start;
-        return match start {
-            Start::Nothing => no_copy(),
-            Start::Block => block_copy(memory),
-            Start::General => general_copy(memory, value),
-        };
+        return started_by(memory, value, hdma::do_cgb_dma(hdma, lcd.mode, value));
     }
-    no_copy()
+    Started {
+        memory: store(memory, 0x55, value),
+        copy: no_copy(),
+    }
 }
 
-// What a byte write copies, from the state before it.
-pub fn copy_of(memory: Memory, index: u16, value: u8) -> Copy
-    ensures { λ r. ⌜ (r ≡ copyOf memory index value) × Bounded r ⌝ }
+// FF55 before any byte is copied.
+pub fn write_start(memory: Memory, value: u8) -> Memory
+    ensures { λ r. ⌜ r ≡ startPut memory value ⌝ }
+{
+    let started = do_cgb_dma(memory, value);
+    started.memory
+}
+
+// FF46 and FF55, the writes that start a transfer.
+pub fn start_transfer(memory: Memory, index: u16, value: u8) -> Started
+    requires { ⌜ ((index ≡ 0xFF46 → ⊥) → index ≡ 0xFF55) ⌝ }
+    ensures { λ r. ⌜ ((r .memory ≡ writeRegister memory (index - 0xFF00) value) × (r .copy ≡ copyOf memory index value)) × Bounded (r .copy) ⌝ }
 {
     if index == 0xFF46 {
-        return oam_copy(value);
+        return Started {
+            memory: store(memory, 0x46, value),
+            copy: oam_copy(value),
+        };
     }
-    if index == 0xFF55 {
-        return start_copy(memory, value);
-    }
-    no_copy()
+    do_cgb_dma(memory, value)
 }
 
 // The registers after a copy's last byte.

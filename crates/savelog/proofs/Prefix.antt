@@ -3,29 +3,37 @@
 use mathlib.Core.Bool.{Bool, true, false, _&&_, cond}
 use mathlib.Core.Path.{_≡_, refl, ap, sym, _∙_}
 use mathlib.Core.List.{List, [], _∷_, _++_, append-assoc, append-nil}
-use Prim.Native.Nat.{ℕ, zero, suc, _+_, _-_, _*_, _/_, _%_, _≤_, _<_, min}
+use Prim.Native.Nat.{ℕ, zero, suc, _+_, _-_, _/_, _%_, _≤_, _<_, min}
 use native.Mathlib.Decide.{decLt}
 use native.Mathlib.Nat.{min-le-left, min-le-right}
 use native.Mathlib.Omega.{arith}
 use lib.Dec.{leb}
 use lib.ListN.{length, take, drop, set, length-append, length-set, length-take, length-drop}
-use lib.Seq.{take-nil, take-take, take-append-le, drop-append-le, take-at, take-all, length-take-le}
+use lib.Seq.{take-nil, take-take, take-append-le, drop-append-le, take-at, length-take-le}
 use borrow.Author.Tests.{leb-true, le-leb}
 use Rattle.numbers.specs.Numbers.{done, wrongLength, damaged}
-use Rattle.savelog.specs.Log.{Rec, width, addressEnd, bytesOf, recordBytes, recordOf, stored, firstRecords, records, soundRecord, allSound, applyAll, saveLengths, logLimit, oneOf, lengthsFit, outcome, recovery, appended, recoverAll, joined, cutCopies}
+use Rattle.savelog.specs.Log.{Rec, width, addressEnd, bytesOf, recordNumber, recordBytes, stored, firstRecords, records, soundRecord, allSound, applyAll, saveLengths, logLimit, oneOf, lengthsFit, outcome, recovery, appended, recoverAll, joined, cutCopies}
 use Rattle.savelog.specs.Laws.{Corner, AppendLaw, PrefixLaw, Copy, Copies, none, more, CopiesLaw}
-use Rattle.savelog.proofs.Laws.{both, bytes, round, records-cons, records-none}
+use Rattle.savelog.proofs.Laws.{both, records-cons, records-none}
+use Rattle.savelog.proofs.Use.{used-more, record-first}
 
 -- a log is less than a record, or a record and a log
 data Whole : List ℕ → Type 0 where
   short : {l : List ℕ} → length l < width → Whole l
   long : {l : List ℕ} → width ≤ length l → Whole (drop width l) → Whole l
 
+step-whole : (l : List ℕ) → Dec (length l < width) → (width ≤ length l → Whole (drop width l)) → Whole l
+step-whole l (yes s) f = short s
+step-whole l (no g) f = let h : width ≤ length l = omega (arith, g) in long h (f h)
+
+whole-within : (k : ℕ) (l : List ℕ) → length l ≤ k → Whole l
+whole-within zero l h = short {l = l} (omega arith)
+whole-within (suc k) l h =
+    step-whole l (decLt (length l) width)
+    (λ m. let g : length (drop width l) ≤ k = rw length-drop (omega arith) in whole-within k (drop width l) g)
+
 whole : (l : List ℕ) → Whole l
-whole [] = short {l = []} (omega arith)
-whole (a ∷ []) = short {l = a ∷ []} (omega arith)
-whole (a ∷ b ∷ []) = short {l = a ∷ b ∷ []} (omega arith)
-whole (a ∷ b ∷ c ∷ l) = long {l = a ∷ b ∷ c ∷ l} (omega arith) (whole l)
+whole l = whole-within (length l) l (omega arith)
 
 module _ {A : Type 0} where
   -- a cut of a joined list cuts the first, and the second by what is left
@@ -177,29 +185,18 @@ copies s cs n e h = (joined-cut n cs, recover-cut h s n refl e)
 -- the bytes of one record are one record
 one-record : (a v : ℕ) → v < 256 → a < addressEnd → records (recordBytes a v) ≡ stored a v ∷ []
 one-record a v h k =
-    let b : length (recordBytes a v) ≡ width = rw (bytes a v h k) in
-    let d : length (drop width (recordBytes a v)) < width = rw (length-drop, b) (omega arith) in
-    rw (
-      records-cons (recordBytes a v) (omega arith),
-      take-all width (recordBytes a v) (omega arith),
-      round a v h k,
-      records-none (drop width (recordBytes a v)) d,
-    )
+    ap records (sym (append-nil (recordBytes a v)))
+    ∙ record-first a v [] h k
+    ∙ ap (λ (rs : List Rec). stored a v ∷ rs) (records-none [] (omega arith))
 
 pub append-adds : AppendLaw
 unfolding appended
 append-adds l u a v e h k m =
-    let b : length (recordBytes a v) ≡ width = rw (bytes a v m k) in
-    let t : length (take u l) ≡ u = length-take-le u l (omega arith) in
-    let j : length (take u l ++ recordBytes a v) ≡ u + width = rw (length-append, t, b) in (
+    let t : length (take u l) ≡ u = length-take-le u l (omega arith) in (
       rw (append-assoc, take-at (take u l) (recordBytes a v ++ drop (u + width) l) u t),
-      rw (
-        take-at (take u l ++ recordBytes a v) (drop (u + width) l) (u + width) j,
-        records-append (take u l) (recordBytes a v) (rw t e),
-        one-record a v m k,
-      ),
+      rw (used-more l u a v h, records-append (take u l) (recordBytes a v) (rw t e), one-record a v m k),
     )
 
 pub corner : Corner
-unfolding recordBytes bytesOf
+unfolding recordBytes recordNumber bytesOf
 corner = refl

@@ -30,7 +30,7 @@ pub fn write_byte(
     );
     let room = refusals::byte_room(memory.core.used, log.len(), index);
     let number = refusals::or_else(refused, room);
-    if number != 0 {
+    if number != numbers::DONE {
         return Done {
             number: number,
             memory: memory,
@@ -69,7 +69,7 @@ pub fn write_word(
     );
     let room = refusals::word_room(memory.core.used, log.len(), index);
     let number = refusals::or_else(refused, room);
-    if number != 0 {
+    if number != numbers::DONE {
         return Done {
             number: number,
             memory: memory,

@@ -1,7 +1,8 @@
--- The laws are those of proofs/Each.antt and proofs/One.antt.
-use Rattle.promise.proofs.Each.{refused-promise, read-promise, transfer-promise, outside-promise}
+-- The laws are those of proofs/Each.antt, proofs/One.antt and crate dispatch.
+use Rattle.dispatch.proofs.Starts.{refused-fresh}
+use Rattle.dispatch.proofs.Unchanged.{refused-promise, read-promise}
+use Rattle.promise.proofs.Each.{transfer-promise, outside-promise}
 use Rattle.promise.proofs.One.{one-outcome}
-use Rattle.promise.proofs.Starts.{refused-fresh}
 use Rattle.promise.proofs.each_call_holds.Statement.{statement}
 use Rattle.promise.proofs.each_call_holds.Tie as tie
 

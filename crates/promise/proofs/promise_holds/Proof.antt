@@ -1,6 +1,6 @@
 -- The promise is that of proofs/Promise.antt.
 use Rattle.promise.proofs.Promise.{promise, example}
-use Rattle.promise.proofs.Starts.{begins}
+use Rattle.promise.proofs.Begins.{begins}
 use Rattle.promise.proofs.promise_holds.Statement.{statement}
 use Rattle.promise.proofs.promise_holds.Tie as tie
 

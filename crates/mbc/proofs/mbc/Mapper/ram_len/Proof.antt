@@ -1,6 +1,5 @@
 -- The branch decides whether it has RAM of its own.
 use borrow.Author.Tests.{eq-eqb, ne-eqb}
-use mathlib.Core.Path.{sym, _∙_}
 use Rattle.mbc.specs.Mbc.{ramLen}
 use borrow.Author.Needs.{needs}
 use Rattle.mbc.proofs.mbc.Mapper.ram_len.Statement.{statement}

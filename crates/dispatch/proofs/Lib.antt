@@ -1,0 +1,5 @@
+pub mod Open
+pub mod Numbered
+pub mod States
+pub mod Unchanged
+pub mod Starts
