@@ -20,8 +20,9 @@ pub extern "C" fn pouch_mapper_read(
         return loaded.number;
     }
     let memory = loaded.state;
-    let mapper = memory.core.mapper;
-    let cartridge = memory.core.cartridge;
+    let core = memory.core;
+    let mapper = core.mapper;
+    let cartridge = core.cartridge;
     let read = mapper.read_byte(cartridge, rom, save, index);
     *value = read.value;
     read.number
@@ -48,8 +49,9 @@ pub extern "C" fn pouch_mapper_write(image: &mut [u8], index: u16, byte: u8, val
         return loaded.number;
     }
     let memory = loaded.state;
-    let mapper = memory.core.mapper;
-    let cartridge = memory.core.cartridge;
+    let core = memory.core;
+    let mapper = core.mapper;
+    let cartridge = core.cartridge;
     let written = mapper.write_byte(cartridge, index, byte);
     if written.number != 0 {
         *value = 0;
