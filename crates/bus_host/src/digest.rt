@@ -116,8 +116,9 @@ fn of_cycles(h: u32, lcd: Lcd) -> u32 {
 }
 
 fn of_mapper(h: u32, memory: Memory) -> u32 {
-    let cartridge = memory.core.cartridge;
-    let mapper = memory.core.mapper;
+    let core = memory.core;
+    let cartridge = core.cartridge;
+    let mapper = core.mapper;
     let held = mapper.registers();
     let bytes = [
         held.kind,
