@@ -26,7 +26,7 @@ fn open_lent(
     ensures { λ r. ⌜ (r .number ≡ orElse (loadCall (now (image .entry)) .number) (readRefused (loadCall (now (image .entry)) .state) rom vram wram save sound)) × (r .core ≡ coreOf (loadCall (now (image .entry)) .state)) ⌝ }
 {
     let opened = image::open(image);
-    if opened.number != 0 {
+    if opened.number != numbers::DONE {
         return opened;
     }
     let core = opened.core;
@@ -94,7 +94,7 @@ pub fn read_byte(
         save.len(),
         sound.len(),
     );
-    if opened.number != 0 {
+    if opened.number != numbers::DONE {
         return Byte {
             number: opened.number,
             value: 0,
@@ -128,7 +128,7 @@ pub fn read_word(
         save.len(),
         sound.len(),
     );
-    if opened.number != 0 {
+    if opened.number != numbers::DONE {
         return Word {
             number: opened.number,
             value: 0,
