@@ -59,7 +59,7 @@ pub extern "C" fn pouch_read_cgb_lcd_ram(
     ensures { λ r. ⌜ given r (now (value .exit)) ≡ readEntry (fixed [] []) (now (image .entry)) (now (vram .entry)) [] [] (ReadCgbLcdRam index bank) ⌝ }
 {
     let loaded = image::decode(image);
-    if loaded.number != 0 {
+    if loaded.number != numbers::DONE {
         *value = 0;
         return loaded.number;
     }
@@ -170,7 +170,7 @@ pub extern "C" fn pouch_fresh(
         return numbers::WRONG_LENGTH;
     }
     let done = bus::fresh::fresh(kind, banks, code, colour, rom, vram, wram, save, log, sound);
-    if done.number != 0 {
+    if done.number != numbers::DONE {
         return done.number;
     }
     let memory = done.memory;

@@ -43,11 +43,11 @@ pub fn update_timer(image: &mut [u8], cycles: u32) -> u8
     ensures { λ r. ⌜ changed r (now (image .exit)) ≡ stateEntry (now (image .entry)) (UpdateTimer cycles) ⌝ }
 {
     let opened = image::open(image);
-    if opened.number != 0 {
+    if opened.number != numbers::DONE {
         return opened.number;
     }
     let number = refusals::cycles_refused(cycles);
-    if number != 0 {
+    if number != numbers::DONE {
         return number;
     }
     let core = opened.core;

@@ -134,7 +134,7 @@ fn open_lent(
     ensures { λ r. ⌜ (r .number ≡ orElse (loadCall (now (image .entry)) .number) (writeRefused (loadCall (now (image .entry)) .state) rom vram wram save sound log)) × (r .core ≡ loadCall (now (image .entry)) .state .core) ⌝ }
 {
     let opened = image::open(image);
-    if opened.number != 0 {
+    if opened.number != numbers::DONE {
         return opened;
     }
     let core = opened.core;
@@ -173,7 +173,7 @@ fn write_quick(
     let core = opened.core;
     let room = refusals::byte_room(core.used, log.len(), index);
     let number = refusals::or_else(opened.number, room);
-    if number != 0 {
+    if number != numbers::DONE {
         return number;
     }
     put_quick(core, image, vram, wram, save, log, index, value);
@@ -275,7 +275,7 @@ fn write_both(
     let core = opened.core;
     let room = refusals::word_room(core.used, log.len(), index);
     let number = refusals::or_else(opened.number, room);
-    if number != 0 {
+    if number != numbers::DONE {
         return number;
     }
     put_both(core, image, vram, wram, save, log, index, value);
