@@ -138,4 +138,4 @@ fresh-storable kind banks code colour rom v w save log sound e z =
     let s = started l (sym (ap (λ (a : Begun). a .number) e) ∙ z) in
     let u = start l .state in
     ap (λ (a : Begun). storable (a .state)) e
-    ∙ joins u (s .good .holds .state) (use-wider (u .used) (length log) logLimit (s .good .holds .log) (s .good .used))
+    ∙ joins u (s .good .holds .state) (use-wider (u .core .used) (length log) logLimit (s .good .holds .log) (s .good .used))
