@@ -166,7 +166,7 @@ pub extern "C" fn pouch_fresh(
 ) -> u8
     ensures { λ r. ⌜ fresh r (now (image .exit)) (now (vram .exit)) (now (wram .exit)) ≡ freshEntry (now (image .entry)) (now (vram .entry)) (now (wram .entry)) (freshCall kind banks code colour (length (now (rom .entry))) (now (vram .entry)) (now (wram .entry)) (length (now (save .entry))) (length (now (log .entry))) (length (now (sound .entry)))) ⌝ }
 {
-    if image.len() != 665 {
+    if image.len() != image::LENGTH {
         return numbers::WRONG_LENGTH;
     }
     let done = bus::fresh::fresh(kind, banks, code, colour, rom, vram, wram, save, log, sound);
