@@ -1,21 +1,21 @@
 -- Only a write below 8000 changes the mapper: any other, with the transfer that it may start, leaves it. Transfers write to video memory and OAM.
 use mathlib.Core.Path.{_≡_, refl, _∙_}
-use mathlib.Core.Bool.{cond}
 use Prim.Native.Nat.{ℕ, zero, suc, _+_, _-_, _<_, _≤_}
 use native.Mathlib.Omega.{arith}
 use lib.Dec.{ltb}
 use lib.ListN.{length, set}
-use borrow.Author.Tests.{ltb-true, ltb-false}
 use Rattle.hdma.specs.Hdma.{destinationUsed}
 use Rattle.hdma.specs.declared.Hdma.{Hdma}
-use Rattle.mbc.proofs.Bools.{by-cond}
 use Rattle.mbc.specs.Mbc.{answer}
 use Rattle.mbc.specs.declared.mbc.Answer.{Answer}
 use Rattle.mbc.specs.declared.mbc.Answer.the-variants.{Stored, NotStored}
+use Rattle.memory.proofs.Regions.{within}
+use Rattle.memory.specs.Region.{regionOf}
 use Rattle.memory.specs.World.{World, Fixed}
 use Rattle.memory.specs.declared.Memory.{Memory}
-use Rattle.mmu.specs.PanDocs.{echo}
-use Rattle.mmu.specs.Access.{saved, savePut, putAt, put}
+use Rattle.memory.specs.declared.region.Region.{Region}
+use Rattle.memory.specs.declared.region.Region.the-variants.{Rom, Vram, Save, Wram, Oam, Page}
+use Rattle.mmu.specs.Access.{saved, savePut, putIn, put}
 use Rattle.mmu.specs.Write.{copyBy, transferred, writeAt}
 use Rattle.registers.proofs.Kept.{cond-both, oam-kept, write-kept, finished-kept}
 use Rattle.registers.proofs.Starts.{by-copy}
@@ -28,13 +28,6 @@ SameMapper w u = u .state .core .mapper ≡ w .state .core .mapper
 
 -- one byte
 
-echo-high : (index : ℕ) → 0x8000 ≤ index → 0x8000 ≤ echo index
-unfolding echo
-echo-high index h =
-    by-cond (λ (i : ℕ). 0x8000 ≤ i) (ltb index 0xE000) index (cond (ltb index 0xFE00) (index - 0x2000) index) (λ t. h)
-    (λ f.
-    by-cond (λ (i : ℕ). 0x8000 ≤ i) (ltb index 0xFE00) (index - 0x2000) index (λ t. omega (arith, ltb-false index 0xE000 f)) (λ g. h))
-
 saved-mapper : (w : World) (a : Answer) → SameMapper w (saved a w)
 saved-mapper w (Stored at v) = refl
 saved-mapper w NotStored = refl
@@ -45,19 +38,16 @@ save-mapper w i v =
     cond-both (SameMapper w) (full (length (w .log)) (w .state .core .used) 1) refl
     (saved-mapper w (answer (w .state .core .cartridge) (w .state .core .mapper) i v))
 
-put-at-mapper : (w : World) (i v : ℕ) → 0x8000 ≤ i → SameMapper w (putAt w i v)
-unfolding putAt
-put-at-mapper w i v h =
-    by-cond (SameMapper w) (ltb i 0x8000) _ _ (λ t. absurd (omega (arith, ltb-true i 0x8000 t)))
-    (λ f.
-    cond-both (SameMapper w) (ltb i 0xA000) refl
-    (cond-both (SameMapper w) (ltb i 0xC000) (save-mapper w i v)
-    (cond-both (SameMapper w) (ltb i 0xE000) refl
-    (cond-both (SameMapper w) (ltb i 0xFF00) (oam-kept (w .state) (set (w .state .oam) (i - 0xFE00) v) .mapper)
-    (write-kept (w .state) (i - 0xFF00) v .mapper)))))
+put-in-mapper : (w : World) (r : Region) (i v : ℕ) → (r ≡ Rom → ⊥) → SameMapper w (putIn r w i v)
+put-in-mapper w Rom i v o = absurd (o refl)
+put-in-mapper w Vram i v o = refl
+put-in-mapper w Save i v o = save-mapper w i v
+put-in-mapper w Wram i v o = refl
+put-in-mapper w Oam i v o = oam-kept (w .state) (set (w .state .oam) (i - 0xFE00) v) .mapper
+put-in-mapper w Page i v o = write-kept (w .state) (i - 0xFF00) v .mapper
 
 pub put-mapper : (w : World) (index v : ℕ) → 0x8000 ≤ index → SameMapper w (put w index v)
-put-mapper w index v h = put-at-mapper w (echo index) v (echo-high index h)
+put-mapper w index v h = put-in-mapper w (regionOf index) index v (λ e. omega (arith, within index e))
 
 -- where transfers write
 

@@ -1,25 +1,25 @@
 -- What a byte write leaves: the save with what the mapper lets in, the log's used bytes with its record behind them, the mapper's registers after it.
-use mathlib.Core.Bool.{true, false, _&&_}
+use mathlib.Core.Bool.{true, false}
 use mathlib.Core.List.{List, [], _++_, append-nil}
-use mathlib.Core.Path.{_≡_, refl, ap, sym, _∙_}
+use mathlib.Core.Path.{_≡_, refl, _∙_}
 use Prim.Native.Nat.{ℕ, _+_, _<_, _≤_}
 use native.Mathlib.Omega.{arith}
-use lib.Dec.{ltb, leb}
+use lib.Dec.{ltb}
 use lib.ListN.{length}
-use borrow.Author.Tests.{ltb-true, ltb-false, leb-true, lt-ltb, le-ltb, le-leb}
+use borrow.Author.Tests.{ltb-true, ltb-false}
 use Rattle.mbc.proofs.Bools.{by-cond}
 use Rattle.mbc.specs.Mbc.{answer}
 use Rattle.mbc.specs.declared.mbc.Mapper.{Mapper}
 use Rattle.mbc.specs.declared.mbc.Answer.{Answer}
 use Rattle.mbc.specs.declared.mbc.Answer.the-variants.{Stored, NotStored}
+use Rattle.memory.proofs.Regions.{region-at}
 use Rattle.memory.specs.World.{World, Fixed}
-use Rattle.mmu.proofs.Places.{put-rom}
-use Rattle.mmu.proofs.Saves.{Spares, put-spares, transfer-spares, copy-clear}
-use Rattle.mmu.specs.Access.{saved, savePut, put, putAt}
-use Rattle.mmu.specs.PanDocs.{echo}
+use Rattle.memory.specs.declared.region.Region.the-variants.{Rom, Save}
+use Rattle.mmu.proofs.Saves.{Spares, Outside, put-spares, transfer-spares, copy-clear}
+use Rattle.mmu.specs.Access.{saved, savePut, put}
 use Rattle.mmu.specs.Write.{writeAt}
+use Rattle.refusals.proofs.Window.{in-save-true, in-save-false}
 use Rattle.registers.specs.Transfers.{copyOf}
-use Rattle.rules.proofs.Tests.{both-true}
 use Rattle.savelog.proofs.Use.{lacks-room, appended-length, used-more}
 use Rattle.savelog.specs.Log.{width, applyAll, full}
 use Rattle.savelog.specs.declared.Rec.{Rec}
@@ -69,27 +69,8 @@ stores-spared rs w u y s p =
 
 -- The window A000..BFFF
 
-in-save-true : (i : ℕ) → inSave i ≡ true → (0xA000 ≤ i) × (i < 0xC000)
-unfolding inSave
-in-save-true i t =
-    let b = both-true (leb 0xA000 i) (ltb i 0xC000) t in
-    (leb-true 0xA000 i (b .0), ltb-true i 0xC000 (b .1))
-
-pub in-save-false : (i : ℕ) → inSave i ≡ false → 0xA000 ≤ i → i < 0xC000 → ⊥
-unfolding inSave
-in-save-false i f a b =
-    let t : (leb 0xA000 i && ltb i 0xC000) ≡ true = rw (le-leb 0xA000 i a, lt-ltb i 0xC000 b) in
-    let z : _≡_ {A = ℕ} 0 1 = cc in
-    omega arith
-
-put-in-save : (w : World) (i v : ℕ) → 0xA000 ≤ i → i < 0xC000 → put w i v ≡ savePut w i v
-unfolding putAt echo
-put-in-save w i v a b =
-    rw (lt-ltb i 0xE000 (omega arith), le-ltb i 0x8000 (omega arith), le-ltb i 0xA000 a, lt-ltb i 0xC000 b)
-
-echo-low : (i : ℕ) → i < 0x8000 → i ≡ echo i
-unfolding echo
-echo-low i h = rw (lt-ltb i 0xE000 (omega arith))
+pub outside-save : (i : ℕ) → inSave i ≡ false → Outside i
+outside-save i f a b = in-save-false i f (region-at Save i (a, b))
 
 -- A byte, before the transfer that it may start
 
@@ -109,16 +90,14 @@ module _ (w : World) (i v : ℕ) where
   unfolding letIn
   put-stores room =
       by-cond (λ (rs : List Rec). Stores rs w (put w i v)) (inSave i) _ []
-      (λ t. let b = in-save-true i t in rw (put-in-save w i v (b .0) (b .1)) (save-stores (room t)))
-      (λ f. stores-none w (put w i v) (put-spares w i v (in-save-false i f)))
+      (λ t. rw (in-save-true i t) (save-stores (room t)))
+      (λ f. stores-none w (put w i v) (put-spares w i v (outside-save i f)))
 
   put-after : put w i v .state .core .mapper ≡ mapperAfter (w .state .core .cartridge) (w .state .core .mapper) (byte i v)
   unfolding mapperAfter
   put-after =
       by-cond (λ (m : Mapper). put w i v .state .core .mapper ≡ m) (ltb i 0x8000) _ _
-      (λ t.
-      let h = ltb-true i 0x8000 t in
-      ap (λ (u : World). u .state .core .mapper) (sym (put-rom w i i v (echo-low i h) h refl)))
+      (λ t. rw (region-at Rom i (ltb-true i 0x8000 t)))
       (λ f. put-mapper w i v (ltb-false i 0x8000 f))
 
 -- with it
