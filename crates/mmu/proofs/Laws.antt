@@ -127,22 +127,24 @@ module _ (w : World) (h : Holds w) where
       }
   saved-stays NotStored room = stays-refl w h
 
+module _ (w : World) (h : Holds w) where
   save-stays : (i v : ℕ) → Stays w (savePut w i v)
   unfolding savePut
   save-stays i v =
       let a = answer (w .state .core .cartridge) (w .state .core .mapper) i v in
-      by-cond (Stays w) (full (length (w .log)) (w .state .core .used) 1) w (saved a w) (λ t. stays-refl w h)
-      (λ f. saved-stays a (has-room (length (w .log)) (w .state .core .used) 1 f))
+      let m = mapper-stays w h i v in
+      by-cond (Stays w) (full (length (w .log)) (w .state .core .used) 1) w (saved a (inState w (mapperPut (w .state) i v))) (λ t. stays-refl w h)
+      (λ f. stays-trans m (saved-stays _ (m .holds) a (has-room (length (w .log)) (w .state .core .used) 1 f)))
 
   put-at-stays : (i v : ℕ) → Stays w (putAt w i v)
   unfolding putAt
   put-at-stays i v =
-      cond-both (Stays w) (ltb i 0x8000) (mapper-stays i v)
-      (cond-both (Stays w) (ltb i 0xA000) (vram-stays (vramAt (w .state .core .banks .vram) i) v)
+      cond-both (Stays w) (ltb i 0x8000) (mapper-stays w h i v)
+      (cond-both (Stays w) (ltb i 0xA000) (vram-stays w h (vramAt (w .state .core .banks .vram) i) v)
       (cond-both (Stays w) (ltb i 0xC000) (save-stays i v)
-      (cond-both (Stays w) (ltb i 0xE000) (wram-stays (wramAt (w .state .core .banks .wram) i) v)
-      (cond-both (Stays w) (ltb i 0xFF00) (kept-stays _ (oam-kept (w .state) (set (w .state .oam) (i - 0xFE00) v)))
-      (kept-stays _ (write-kept (w .state) (i - 0xFF00) v))))))
+      (cond-both (Stays w) (ltb i 0xE000) (wram-stays w h (wramAt (w .state .core .banks .wram) i) v)
+      (cond-both (Stays w) (ltb i 0xFF00) (kept-stays w h _ (oam-kept (w .state) (set (w .state .oam) (i - 0xFE00) v)))
+      (kept-stays w h _ (write-kept (w .state) (i - 0xFF00) v))))))
 
   pub put-stays : (index v : ℕ) → Stays w (put w index v)
   put-stays index v = put-at-stays (echo index) v

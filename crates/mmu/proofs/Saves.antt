@@ -35,7 +35,7 @@ Outside i = 0xA000 ≤ i → i < 0xC000 → ⊥
 
 -- one byte; an echo of the save's window there is none
 
-echo-outside : (index : ℕ) → Outside index → Outside (echo index)
+pub echo-outside : (index : ℕ) → Outside index → Outside (echo index)
 unfolding echo
 echo-outside index o =
     by-cond Outside (ltb index 0xE000) index (cond (ltb index 0xFE00) (index - 0x2000) index) (λ t. o)

@@ -1,27 +1,26 @@
--- Only a write below 8000 changes the mapper: any other, with the transfer that it may start, leaves it. Transfers write to video memory and OAM.
+-- Only a write where the bus asks the mapper changes it: any other, with the transfer that it may start, leaves it. Transfers write to video memory and OAM.
 use mathlib.Core.Path.{_≡_, refl, _∙_}
 use mathlib.Core.Bool.{cond}
 use Prim.Native.Nat.{ℕ, zero, suc, _+_, _-_, _<_, _≤_}
 use native.Mathlib.Omega.{arith}
 use lib.Dec.{ltb}
-use lib.ListN.{length, set}
+use lib.ListN.{set}
 use borrow.Author.Tests.{ltb-true, ltb-false}
 use Rattle.hdma.specs.Hdma.{destinationUsed}
 use Rattle.hdma.specs.declared.Hdma.{Hdma}
 use Rattle.mbc.proofs.Bools.{by-cond}
-use Rattle.mbc.specs.Mbc.{answer}
 use Rattle.mbc.specs.declared.mbc.Answer.{Answer}
 use Rattle.mbc.specs.declared.mbc.Answer.the-variants.{Stored, NotStored}
 use Rattle.memory.specs.World.{World, Fixed}
 use Rattle.memory.specs.declared.Memory.{Memory}
+use Rattle.mmu.proofs.Saves.{Outside, echo-outside, Clear, copy-clear}
 use Rattle.mmu.specs.PanDocs.{echo}
-use Rattle.mmu.specs.Access.{saved, savePut, putAt, put}
+use Rattle.mmu.specs.Access.{saved, putAt, put}
 use Rattle.mmu.specs.Write.{copyBy, transferred, writeAt}
 use Rattle.registers.proofs.Kept.{cond-both, oam-kept, write-kept, finished-kept}
 use Rattle.registers.proofs.Starts.{by-copy}
 use Rattle.registers.specs.Transfers.{oamCopy, blockCopy, generalCopy, copyOf, nothing}
 use Rattle.registers.specs.declared.transfers.Copy.{Copy}
-use Rattle.savelog.specs.Log.{full}
 
 abbrev pub SameMapper : World → World → Type 0
 SameMapper w u = u .state .core .mapper ≡ w .state .core .mapper
@@ -35,31 +34,28 @@ echo-high index h =
     (λ f.
     by-cond (λ (i : ℕ). 0x8000 ≤ i) (ltb index 0xFE00) (index - 0x2000) index (λ t. omega (arith, ltb-false index 0xE000 f)) (λ g. h))
 
-saved-mapper : (w : World) (a : Answer) → SameMapper w (saved a w)
+-- what the mapper answers is done on a mapper that was changed before
+pub saved-mapper : (w : World) (a : Answer) → SameMapper w (saved a w)
 saved-mapper w (Stored at v) = refl
 saved-mapper w NotStored = refl
 
-pub save-mapper : (w : World) (i v : ℕ) → SameMapper w (savePut w i v)
-unfolding savePut
-save-mapper w i v =
-    cond-both (SameMapper w) (full (length (w .log)) (w .state .core .used) 1) refl
-    (saved-mapper w (answer (w .state .core .cartridge) (w .state .core .mapper) i v))
-
-put-at-mapper : (w : World) (i v : ℕ) → 0x8000 ≤ i → SameMapper w (putAt w i v)
+put-at-mapper : (w : World) (i v : ℕ) → 0x8000 ≤ i → Outside i → SameMapper w (putAt w i v)
 unfolding putAt
-put-at-mapper w i v h =
+put-at-mapper w i v h o =
     by-cond (SameMapper w) (ltb i 0x8000) _ _ (λ t. absurd (omega (arith, ltb-true i 0x8000 t)))
     (λ f.
-    cond-both (SameMapper w) (ltb i 0xA000) refl
-    (cond-both (SameMapper w) (ltb i 0xC000) (save-mapper w i v)
-    (cond-both (SameMapper w) (ltb i 0xE000) refl
+    by-cond (SameMapper w) (ltb i 0xA000) _ _ (λ t. refl)
+    (λ g.
+    by-cond (SameMapper w) (ltb i 0xC000) _ _ (λ t. absurd (o (ltb-false i 0xA000 g) (ltb-true i 0xC000 t)))
+    (λ k.
+    cond-both (SameMapper w) (ltb i 0xE000) refl
     (cond-both (SameMapper w) (ltb i 0xFF00) (oam-kept (w .state) (set (w .state .oam) (i - 0xFE00) v) .mapper)
     (write-kept (w .state) (i - 0xFF00) v .mapper)))))
 
-pub put-mapper : (w : World) (index v : ℕ) → 0x8000 ≤ index → SameMapper w (put w index v)
-put-mapper w index v h = put-at-mapper w (echo index) v (echo-high index h)
+pub put-mapper : (w : World) (index v : ℕ) → 0x8000 ≤ index → Outside index → SameMapper w (put w index v)
+put-mapper w index v h o = put-at-mapper w (echo index) v (echo-high index h) (echo-outside index o)
 
--- where transfers write
+-- where transfers write: past 8000, and clear of the save's window
 
 abbrev pub High : Copy → Type 0
 High c = (k : ℕ) → k < c .count → 0x8000 ≤ c .destination + k
@@ -89,26 +85,27 @@ copy-high m index v = by-copy High m index v none-high (oam-high v) (block-high 
 
 module _ (x : Fixed) where
   abbrev HighWrites : (World → ℕ → ℕ → World) → Type 0
-  HighWrites f = (w : World) (index v : ℕ) → 0x8000 ≤ index → SameMapper w (f w index v)
+  HighWrites f = (w : World) (index v : ℕ) → 0x8000 ≤ index → Outside index → SameMapper w (f w index v)
 
   copy-mapper : (f : World → ℕ → ℕ → World) → HighWrites f → (source destination n : ℕ) (w : World)
-      → ((k : ℕ) → k < n → 0x8000 ≤ destination + k) → SameMapper w (copyBy x f source destination n w)
+      → ((k : ℕ) → k < n → 0x8000 ≤ destination + k) → ((k : ℕ) → k < n → Outside (destination + k)) → SameMapper w (copyBy x f source destination n w)
   unfolding copyBy
-  copy-mapper f s source destination zero w high = refl
-  copy-mapper f s source destination (suc n) w high =
-      s _ _ _ (high n (omega arith)) ∙ copy-mapper f s source destination n w (λ k h. high k (omega arith))
+  copy-mapper f s source destination zero w high clear = refl
+  copy-mapper f s source destination (suc n) w high clear =
+      s _ _ _ (high n (omega arith)) (clear n (omega arith))
+      ∙ copy-mapper f s source destination n w (λ k h. high k (omega arith)) (λ k h. clear k (omega arith))
 
-  after-mapper : (f : World → ℕ → ℕ → World) → HighWrites f → (c : Copy) → High c → (v : ℕ) (w : World) → SameMapper w (transferred x f c v w)
-  after-mapper f s c high v w =
+  after-mapper : (f : World → ℕ → ℕ → World) → HighWrites f → (c : Copy) → High c → Clear c → (v : ℕ) (w : World) → SameMapper w (transferred x f c v w)
+  after-mapper f s c high clear v w =
       let u = copyBy x f (c .source) (c .destination) (c .count) w in
-      finished-kept (u .state) (c .finish) v .mapper ∙ copy-mapper f s (c .source) (c .destination) (c .count) w high
+      finished-kept (u .state) (c .finish) v .mapper ∙ copy-mapper f s (c .source) (c .destination) (c .count) w high clear
 
   high-writes : (d : ℕ) → HighWrites (writeAt x d)
   unfolding writeAt
-  high-writes zero w index v h = put-mapper w index v h
-  high-writes (suc d) w index v h =
-      after-mapper (writeAt x d) (high-writes d) (copyOf (w .state) index v) (copy-high (w .state) index v) v (put w index v)
-      ∙ put-mapper w index v h
+  high-writes zero w index v h o = put-mapper w index v h o
+  high-writes (suc d) w index v h o =
+      after-mapper (writeAt x d) (high-writes d) (copyOf (w .state) index v) (copy-high (w .state) index v) (copy-clear (w .state) index v) v (put w index v)
+      ∙ put-mapper w index v h o
 
-  pub transfer-mapper : (d : ℕ) (c : Copy) → High c → (v : ℕ) (w : World) → SameMapper w (transferred x (writeAt x d) c v w)
-  transfer-mapper d c high v w = after-mapper (writeAt x d) (high-writes d) c high v w
+  pub transfer-mapper : (d : ℕ) (c : Copy) → High c → Clear c → (v : ℕ) (w : World) → SameMapper w (transferred x (writeAt x d) c v w)
+  transfer-mapper d c high clear v w = after-mapper (writeAt x d) (high-writes d) c high clear v w
