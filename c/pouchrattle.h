@@ -6,8 +6,8 @@
  *
  * What the host owns and lends for the time of a call:
  *
- *   image   the state of the bus, 665 bytes. Made by pouch_fresh, changed by the calls. It is plain data: the host may copy it, store it, put it back
- *           (with the memories as they were then; what that means for save and log is in README.md beside this file).
+ *   image   the state of the bus, POUCH_IMAGE_LEN bytes. Made by pouch_fresh, changed by the calls. It is plain data: the host may copy it, store it,
+ *           put it back (with the memories as they were then; what that means for save and log is in README.md beside this file).
  *   rom     the cartridge's ROM: N banks of 16,384 bytes.
  *   vram    video memory: 8,192 bytes, in colour 16,384 (bank 0, then bank 1).
  *   wram    work memory: 8,192 bytes, in colour 32,768 (banks 0 to 7).
@@ -27,7 +27,7 @@
  * Each call gives back a number (enum pouch_number). 0 and 1 say that it is done. Any other refuses: then no byte of what was lent is changed, and
  * a `value` is set to 0. Where several refusals are due, the first in this order is given, and the comments below name them in it:
  *
- *   4  the image's length is not 665
+ *   4  the image's length is not POUCH_IMAGE_LEN
  *   3  the image's contents are out of range (pouch_fresh: the cartridge's description is); or the log's use is beyond the lent log
  *   4  another lent length is not what it must be
  *   5  too many cycles

@@ -119,7 +119,7 @@ static void check_entry(const struct entry *entry)
 
     /* the image's length, before anything else is looked at */
     start_mbc1(false);
-    image.len = 664;
+    image.len = POUCH_IMAGE_LEN - 1;
     REFUSES(entry, POUCH_WRONG_LENGTH);
     image.len = 666;
     REFUSES(entry, POUCH_WRONG_LENGTH);
@@ -190,9 +190,9 @@ static void check_fresh(void)
     start(POUCH_MBC2, 16, 0, true, 0);
     /* the image's length, then the description, then the lengths */
     start_mbc1(false);
-    image.len = 664;
+    image.len = POUCH_IMAGE_LEN - 1;
     REFUSED(fresh(3, 3, 1, false), POUCH_WRONG_LENGTH);
-    image.len = 665;
+    image.len = POUCH_IMAGE_LEN;
     for (int i = 0; i < 6; i++) { /* 4, and 3 before it */
         size_t len = lent[i]->len;
         lent[i]->len = lent[i] == &log_ ? 65536 : len - 1;

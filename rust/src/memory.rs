@@ -1,6 +1,6 @@
 use crate::cartridge::Cartridge;
 use crate::entries::*;
-use crate::image::{self, CGBColor, HostNumbers, Image};
+use crate::image::{self, CGBColor, HostNumbers, Image, IMAGE_LEN};
 use crate::interrupt::Interrupt;
 use crate::joypad::Button;
 use crate::refusal::{done, outcome, Refusal, Written};
@@ -54,7 +54,7 @@ impl Memory {
     pub fn with_log(cartridge: Cartridge, is_cgb: bool, save: &[u8], log: usize) -> Result<Memory, Refusal> {
         let (vram, wram) = if is_cgb { (16384, 32768) } else { (8192, 8192) };
         let mut memory = Memory {
-            image: [0; 665],
+            image: [0; IMAGE_LEN],
             rom: cartridge.rom,
             vram: vec![0; vram],
             wram: vec![0; wram],

@@ -107,7 +107,7 @@ fn images() {
     let mut memory = with_save(false);
     write(&mut memory, &[(0xA000, 7)]);
     let before = memory.clone();
-    assert_eq!(memory.set_image(&[0; 665]), Err(Refusal::OutOfRange));
+    assert_eq!(memory.set_image(&[0; pouchrattle::IMAGE_LEN]), Err(Refusal::OutOfRange));
     let mut image = *memory.image();
     image[664] |= 1;
     assert_eq!(memory.set_image(&image), Err(Refusal::OutOfRange));

@@ -5,7 +5,6 @@ ghost use lib.ListN.{length};
 ghost use Rattle.memory.specs.World.{world};
 ghost use Rattle.bus_host.specs.Host.{lengthsIn, lentParts};
 ghost use Rattle.bus_host.specs.Digest.{mixed, digest, colorBytes, wordBytes, signedBytes, logBytes, memoryBytes};
-use crate::complement::unsigned;
 use crate::host::least;
 use crate::host::lengths_in;
 use lcd::Lcd;
@@ -13,6 +12,7 @@ use lines::number::flag;
 use lines::number::high;
 use lines::number::low;
 use memory::Memory;
+use packing::complement_of;
 use palette::Color;
 
 fn of_byte(h: u32, byte: u8) -> u32
@@ -59,7 +59,7 @@ fn of_word(h: u32, word: u16) -> u32
 
 // A signed number of four bytes, as its two's complement.
 fn of_signed(h: u32, number: i32) -> u32 {
-    let bits = unsigned(number);
+    let bits = complement_of(number);
     of_word(of_word(h, (bits / 65536) as u16), (bits % 65536) as u16)
 }
 
@@ -116,8 +116,9 @@ fn of_cycles(h: u32, lcd: Lcd) -> u32 {
 }
 
 fn of_mapper(h: u32, memory: Memory) -> u32 {
-    let cartridge = memory.core.cartridge;
-    let mapper = memory.core.mapper;
+    let core = memory.core;
+    let cartridge = core.cartridge;
+    let mapper = core.mapper;
     let held = mapper.registers();
     let bytes = [
         held.kind,

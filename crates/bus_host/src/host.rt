@@ -57,9 +57,10 @@ fn lent(needs: Lengths, rom: usize, vram: usize, wram: usize, save: usize) -> Le
 pub fn lengths_in(memory: Memory, rom: usize, vram: usize, wram: usize, save: usize) -> Lengths
     ensures { λ r. ⌜ (r ≡ lengthsIn memory rom vram wram save) × ((r .rom ≤ rom) × ((r .vram ≤ vram) × ((r .wram ≤ wram) × (r .save ≤ save)))) ⌝ }
 {
-    let cartridge = memory.core.cartridge;
-    let mapper = memory.core.mapper;
-    let kind = memory.core.banks;
+    let core = memory.core;
+    let cartridge = core.cartridge;
+    let mapper = core.mapper;
+    let kind = core.banks;
     lent(
         lengths_of(cartridge, mapper, kind.colour),
         rom,

@@ -15,7 +15,7 @@ use Rattle.dispatch.specs.declared.Call.{Call}
 use Rattle.dispatch.specs.declared.Call.the-variants as call
 use Rattle.dispatch.specs.declared.Performed.{Performed}
 use Rattle.dispatch.specs.declared.StateCall.{StateCall}
-use Rattle.image.specs.Layout.{imageOf}
+use Rattle.image.specs.Layout.{imageLen, imageOf}
 use Rattle.image.specs.Load.{loadCall}
 use Rattle.image.specs.declared.Loaded.{Loaded}
 use Rattle.mbc.proofs.Bools.{by-cond}
@@ -165,11 +165,11 @@ module _ (x : Fixed) (i v w s l : List ℕ) where
 -- a fresh bus
 
 module _ (i v w : List ℕ) where
-  pub fresh-length : (b : Begun) → (length i ≡ 665 → ⊥) → fresh 4 i v w ≡ freshEntry i v w b
+  pub fresh-length : (b : Begun) → (length i ≡ imageLen → ⊥) → fresh 4 i v w ≡ freshEntry i v w b
   unfolding freshEntry
-  fresh-length b h = rw (ne-eqb (length i) 665 h)
+  fresh-length b h = rw (ne-eqb (length i) imageLen h)
 
-  module _ (h : length i ≡ 665) (n : ℕ) (m : Memory) {b : Begun} (e : b ≡ beginning n m v w) where
+  module _ (h : length i ≡ imageLen) (n : ℕ) (m : Memory) {b : Begun} (e : b ≡ beginning n m v w) where
     pub fresh-refused : (b .number ≡ 0 → ⊥) → fresh (b .number) i (b .vram) (b .wram) ≡ freshEntry i v w (beginning n m v w)
     unfolding freshEntry
     fresh-refused z =

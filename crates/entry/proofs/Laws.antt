@@ -1,4 +1,4 @@
--- What an entry needs: an image that was loaded has 665 bytes and a state in range, and every call leaves a state in range.
+-- What an entry needs: an image that was loaded has its length and a state in range, and every call leaves a state in range.
 use mathlib.Core.Bool.{Bool, true, not, _&&_}
 use mathlib.Core.List.{List}
 use mathlib.Core.Path.{_≡_, refl, sym, ap, _∙_}
@@ -6,7 +6,6 @@ use Prim.Native.Nat.{ℕ}
 use native.Mathlib.Omega.{arith}
 use lib.Dec.{eqb}
 use lib.ListN.{length}
-use borrow.Author.Tests.{eqb-true}
 use Rattle.bus.proofs.Passes.{write-passes}
 use Rattle.bus.specs.Calls.{Outcome}
 use Rattle.bus.specs.Fresh.{Begun, freshCall}
@@ -20,7 +19,9 @@ use Rattle.dispatch.specs.declared.Call.{Call}
 use Rattle.dispatch.specs.declared.Call.the-variants as call
 use Rattle.dispatch.specs.declared.Performed.{Performed}
 use Rattle.dispatch.specs.declared.StateCall.{StateCall}
-use Rattle.image.specs.Load.{storable, sound, fieldsIn, valuesOf, stateOf, loaded, loadCall}
+use Rattle.image.proofs.OpenLaws.{load-length, load-storable}
+use Rattle.image.specs.Layout.{imageLen}
+use Rattle.image.specs.Load.{storable, loadCall}
 use Rattle.image.specs.declared.Loaded.{Loaded}
 use Rattle.mbc.proofs.Bools.{by-cond}
 use Rattle.mbc.specs.Mbc as mbc
@@ -29,7 +30,6 @@ use Rattle.mbc.specs.declared.mbc.Answer.the-variants.{NotStored}
 use Rattle.mbc.specs.declared.mbc.Mapper.{Mapper}
 use Rattle.mbc.specs.declared.mbc.WriteByte.{WriteByte}
 use Rattle.memory.proofs.Laws.{used-range, mapper-kept}
-use Rattle.memory.specs.Start.{zeroed}
 use Rattle.memory.specs.Ranges.{stateInRange, inRange}
 use Rattle.memory.specs.World.{World, Fixed, withUsed, withMapper}
 use Rattle.memory.specs.declared.Memory.{Memory}
@@ -46,21 +46,10 @@ use Rattle.savelog.proofs.Use.{use-wider}
 use Rattle.savelog.specs.Log.{logLimit, useInRange}
 
 -- an image that was loaded
-right : (l : List ℕ) → loadCall l .number ≡ 0 → (length l ≡ 665) × (storable (loadCall l .state) ≡ true)
-unfolding loadCall
-right l =
-    by-cond (λ (d : Loaded). d .number ≡ 0 → (length l ≡ 665) × (storable (d .state) ≡ true)) (eqb (length l) 665) _ _
-    (λ t.
-    by-cond (λ (d : Loaded). d .number ≡ 0 → (length l ≡ 665) × (storable (d .state) ≡ true))
-    (sound (fieldsIn (valuesOf l)) && storable (stateOf l)) (loaded 0 (stateOf l)) (loaded 3 zeroed)
-    (λ s e. (eqb-true (length l) 665 t, both-true (sound (fieldsIn (valuesOf l))) (storable (stateOf l)) s .1))
-    (λ f e. let z : _≡_ {A = ℕ} 3 0 = e in absurd (omega arith)))
-    (λ f e. let z : _≡_ {A = ℕ} 4 0 = e in absurd (omega arith))
-
-pub loaded-right : (l : List ℕ) {d : Loaded} → d ≡ loadCall l → d .number ≡ 0 → (length l ≡ 665) × (storable (d .state) ≡ true)
+pub loaded-right : (l : List ℕ) {d : Loaded} → d ≡ loadCall l → d .number ≡ 0 → (length l ≡ imageLen) × (storable (d .state) ≡ true)
 loaded-right l {d} e z =
-    let r = right l (sym (ap (λ (a : Loaded). a .number) e) ∙ z) in
-    (r .0, ap (λ (a : Loaded). storable (a .state)) e ∙ r .1)
+    let h = sym (ap (λ (a : Loaded). a .number) e) ∙ z in
+    (load-length l h, ap (λ (a : Loaded). storable (a .state)) e ∙ load-storable l h)
 
 -- a state in range is made of two
 parts : (m : Memory) → storable m ≡ true → (stateInRange m ≡ true) × (useInRange (m .core .used) logLimit ≡ true)
@@ -149,4 +138,4 @@ fresh-storable kind banks code colour rom v w save log sound e z =
     let s = started l (sym (ap (λ (a : Begun). a .number) e) ∙ z) in
     let u = start l .state in
     ap (λ (a : Begun). storable (a .state)) e
-    ∙ joins u (s .good .holds .state) (use-wider (u .used) (length log) logLimit (s .good .holds .log) (s .good .used))
+    ∙ joins u (s .good .holds .state) (use-wider (u .core .used) (length log) logLimit (s .good .holds .log) (s .good .used))

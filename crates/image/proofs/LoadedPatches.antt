@@ -4,7 +4,7 @@ use mathlib.Core.Path.{_≡_, refl, sym, ap, _∙_}
 use mathlib.Core.List.{List, [], _∷_, _++_}
 use Prim.Native.Nat.{ℕ, _+_, _*_, _^_, _<_, _≤_}
 use native.Mathlib.Omega.{arith}
-use lib.ListN.{length, take, drop, set, length-drop}
+use lib.ListN.{length, take, drop, length-drop}
 use lib.Seq.{length-take-le}
 use mir.Syntax.{w32}
 use mir.Facts.{sfits-toZ}
@@ -14,20 +14,18 @@ use Rattle.packing.proofs.Laws.{below-take, below-drop, fit-at, unpack-fit}
 use Rattle.places.specs.Places.{number}
 use Rattle.palette.specs.declared.Color.{Color}
 use Rattle.mbc.specs.declared.mbc.Mapper.{Mapper}
-use Rattle.memory.specs.declared.Clock.{Clock}
 use Rattle.memory.specs.declared.Memory.{Memory}
-use Rattle.memory.specs.World.{withOam, withPage, withClock, withMapper, withUsed}
+use Rattle.memory.specs.World.{withMapper, withUsed}
 use Rattle.image.specs.Layout.{imageLen, fieldWidths, imageOf}
 use Rattle.image.specs.Load.{at, colorsOf, storable, stateOf, loadCall}
 use Rattle.image.specs.Laws.{Typed}
-use Rattle.image.specs.Patches.{mappingPut, clockPut}
+use Rattle.image.specs.Patches.{mappingPut}
 use Rattle.image.proofs.ColorLaws.{channels-length, channels-colors}
 use Rattle.image.proofs.Parts.{repacked-length}
 use Rattle.image.proofs.FieldLaws.{fields-number}
 use Rattle.image.proofs.LoadLaws.{made, state-read}
-use Rattle.image.proofs.OpenLaws.{load-length, load-state, load-image}
-use Rattle.image.proofs.Round.{image-back}
-use Rattle.image.proofs.PatchLaws.{Bytes, mapping-image, clock-image, oam-image, page-image}
+use Rattle.image.proofs.OpenLaws.{load-length, load-state, load-storable, load-image}
+use Rattle.image.proofs.PatchLaws.{Bytes, mapping-image}
 
 colors-length : (l : List ℕ) → length l ≡ 96 → length (colorsOf l) ≡ 32
 colors-length l h = omega (arith, channels-length (colorsOf l), ap length (channels-colors 32 l h))
@@ -79,21 +77,9 @@ module _ (l : List ℕ) (below : Below 256 l) (h : loadCall l .number ≡ done) 
   loaded-typed = rw (load-state l h) (state-typed l (load-length l h) below)
 
   pub loaded-storable : storable (loadCall l .state) ≡ true
-  loaded-storable = image-back l below h .0
+  loaded-storable = load-storable l h
 
   pub loaded-mapping : (p : Mapper) (u : ℕ) → storable (withUsed (withMapper (loadCall l .state) p) u) ≡ true
       → mappingPut l p u ≡ imageOf (withUsed (withMapper (loadCall l .state) p) u)
   loaded-mapping p u k =
       ap (λ (x : List ℕ). mappingPut x p u) (sym (load-image l h below)) ∙ mapping-image (loadCall l .state) loaded-typed loaded-storable p u k
-
-  pub loaded-clock : (c : Clock) → c .div < 256 → storable (withClock (loadCall l .state) c (loadCall l .state .page)) ≡ true
-      → clockPut l c ≡ imageOf (withClock (loadCall l .state) c (loadCall l .state .page))
-  loaded-clock c d k = ap (λ (x : List ℕ). clockPut x c) (sym (load-image l h below)) ∙ clock-image (loadCall l .state) loaded-typed loaded-storable c d k
-
-  pub loaded-oam : (i v : ℕ) → i < 256 → v < 256 → set l i v ≡ imageOf (withOam (loadCall l .state) (set (loadCall l .state .oam) i v))
-  loaded-oam i v hi hv =
-      ap (λ (x : List ℕ). set x i v) (sym (load-image l h below)) ∙ sym (oam-image (loadCall l .state) loaded-typed loaded-storable i v hi hv)
-
-  pub loaded-page : (i v : ℕ) → i < 256 → v < 256 → set l (256 + i) v ≡ imageOf (withPage (loadCall l .state) (set (loadCall l .state .page) i v))
-  loaded-page i v hi hv =
-      ap (λ (x : List ℕ). set x (256 + i) v) (sym (load-image l h below)) ∙ sym (page-image (loadCall l .state) loaded-typed loaded-storable i v hi hv)

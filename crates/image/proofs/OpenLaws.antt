@@ -8,6 +8,7 @@ use lib.Dec.{eqb}
 use lib.ListN.{length, take, drop, getD}
 use lib.Seq.{getD-take, getD-drop}
 use borrow.Author.Tests.{eqb-true}
+use Rattle.rules.proofs.Tests.{both-true}
 use Rattle.numbers.specs.Numbers.{done, outOfRange, wrongLength}
 use Rattle.packing.specs.Packing.{Below}
 use Rattle.savelog.specs.Log.{logLimit}
@@ -46,6 +47,10 @@ module _ (l : List ℕ) where
     pub load-state : loadCall l ≡ loaded done (stateOf l)
     unfolding loadCall
     load-state = rw (tests .0, tests .1)
+
+    pub load-storable : storable (loadCall l .state) ≡ true
+    load-storable =
+        ap (λ (r : Loaded). storable (r .state)) load-state ∙ both-true (sound (fieldsIn (valuesOf l))) (storable (stateOf l)) (tests .1) .1
 
     module _ (below : Below 256 l) where
       pub load-range : inRange (loadCall l .state) logLimit ≡ true

@@ -31,7 +31,7 @@ pub record Typed (m : Memory) : Type 0 where
   pub source : m .core .hdma .source < 65536
   pub destination : m .core .hdma .destination < 65536
 
--- A state in range has an image of 665 bytes, and loading that gives the state back.
+-- A state in range has an image, and loading that gives the state back.
 abbrev pub StateBack : Type 0
 StateBack =
     (m : Memory) → Typed m → storable m ≡ true

@@ -25,7 +25,7 @@ fn open_lent(
     ensures { λ r. ⌜ (r .number ≡ orElse (loadCall (now (image .entry)) .number) (readRefused (loadCall (now (image .entry)) .state) rom vram wram save sound)) × (r .core ≡ loadCall (now (image .entry)) .state .core) ⌝ }
 {
     let opened = image::open(image);
-    if opened.number != 0 {
+    if opened.number != numbers::DONE {
         return opened;
     }
     let core = opened.core;
@@ -93,7 +93,7 @@ pub fn read_byte(
         save.len(),
         sound.len(),
     );
-    if opened.number != 0 {
+    if opened.number != numbers::DONE {
         return Byte {
             number: opened.number,
             value: 0,
@@ -127,7 +127,7 @@ pub fn read_word(
         save.len(),
         sound.len(),
     );
-    if opened.number != 0 {
+    if opened.number != numbers::DONE {
         return Word {
             number: opened.number,
             value: 0,

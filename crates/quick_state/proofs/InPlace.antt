@@ -15,7 +15,7 @@ use Rattle.image.proofs.LoadedPatches.{loaded-typed}
 use Rattle.image.proofs.OpenLaws.{load-length, load-range, load-image, load-page, open-number, open-core}
 use Rattle.image.proofs.PatchLaws.{slim, mapping-image, page-image, clock-image, typed-bytes, storable-bytes, bytes-set}
 use Rattle.image.specs.Laws.{Typed}
-use Rattle.image.specs.Layout.{imageOf}
+use Rattle.image.specs.Layout.{imageLen, imageOf}
 use Rattle.image.specs.Load.{storable, loadCall, openCall}
 use Rattle.image.specs.Patches.{Slim, mappingPut, clockPut}
 use Rattle.image.specs.declared.Opened.{Opened}
@@ -124,7 +124,7 @@ module _ (i : List ℕ) {o : Opened} (opened : o ≡ openCall i) (taken : o .num
   z : loadCall i .number ≡ 0
   z = sym (open-number i opened) ∙ taken
 
-  pub open-length : length i ≡ 665
+  pub open-length : length i ≡ imageLen
   open-length = load-length i z
 
   clock : o .core .clock ≡ state .core .clock

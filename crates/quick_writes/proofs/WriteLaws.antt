@@ -19,7 +19,7 @@ use Rattle.image.proofs.OpenLaws.{load-length, load-range, load-image, open-num
 use Rattle.image.proofs.PatchLaws.{slim}
 use Rattle.image.proofs.Round.{state-back}
 use Rattle.image.specs.Laws.{Typed}
-use Rattle.image.specs.Layout.{imageOf}
+use Rattle.image.specs.Layout.{imageLen, imageOf}
 use Rattle.image.specs.Load.{storable, loaded, loadCall, openCall}
 use Rattle.image.specs.Patches.{Slim, mappingPut}
 use Rattle.image.specs.declared.Loaded.{Loaded}
@@ -68,7 +68,7 @@ module _ {i v w s l : List ℕ} (t : Taken i v w s l) where
   left-storable : (index b : ℕ) {u : World} → u ≡ put (worldOf i v w s l) index b → storable (u .state) ≡ true
   left-storable index b e = ap (λ (a : World). storable (a .state)) e ∙ put-storable index b
 
-  pub taken-length : length i ≡ 665
+  pub taken-length : length i ≡ imageLen
   taken-length = load-length i (t .number)
 
   -- what the parts ask for, of the state without its arrays
