@@ -130,20 +130,22 @@ module _ (w : World) (h : Holds w) where
       }
   saved-stays NotStored room = stays-refl w h
 
+module _ (w : World) (h : Holds w) where
   save-stays : (i v : ℕ) → Stays w (savePut w i v)
   unfolding savePut
   save-stays i v =
       let a = answer (w .state .core .cartridge) (w .state .core .mapper) i v in
-      by-cond (Stays w) (full (length (w .log)) (w .state .core .used) 1) w (saved a w) (λ t. stays-refl w h)
-      (λ f. saved-stays a (has-room (length (w .log)) (w .state .core .used) 1 f))
+      let m = mapper-stays w h i v in
+      by-cond (Stays w) (full (length (w .log)) (w .state .core .used) 1) w (saved a (inState w (mapperPut (w .state) i v))) (λ t. stays-refl w h)
+      (λ f. stays-trans m (saved-stays _ (m .holds) a (has-room (length (w .log)) (w .state .core .used) 1 f)))
 
   put-in-stays : (r : Region) (i v : ℕ) → Stays w (putIn r w i v)
-  put-in-stays Rom i v = mapper-stays i v
-  put-in-stays Vram i v = vram-stays (vramAt (w .state .core .banks .vram) i) v
+  put-in-stays Rom i v = mapper-stays w h i v
+  put-in-stays Vram i v = vram-stays w h (vramAt (w .state .core .banks .vram) i) v
   put-in-stays Save i v = save-stays i v
-  put-in-stays Wram i v = wram-stays (wramAt (w .state .core .banks .wram) i) v
-  put-in-stays Oam i v = kept-stays _ (oam-kept (w .state) (set (w .state .oam) (i - 0xFE00) v))
-  put-in-stays Page i v = kept-stays _ (write-kept (w .state) (i - 0xFF00) v)
+  put-in-stays Wram i v = wram-stays w h (wramAt (w .state .core .banks .wram) i) v
+  put-in-stays Oam i v = kept-stays w h _ (oam-kept (w .state) (set (w .state .oam) (i - 0xFE00) v))
+  put-in-stays Page i v = kept-stays w h _ (write-kept (w .state) (i - 0xFF00) v)
 
   pub put-stays : (index v : ℕ) → Stays w (put w index v)
   put-stays index v = put-in-stays (regionOf index) index v

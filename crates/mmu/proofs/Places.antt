@@ -13,7 +13,7 @@ use borrow.Author.Tests.{ltb-true, ltb-false}
 use Rattle.mbc.proofs.Bools.{by-cond}
 use Rattle.rules.proofs.Tests.{cond-true, cond-false}
 use Rattle.mbc.proofs.Laws.{mapped-rom, mapped-ram}
-use Rattle.mbc.specs.Mbc.{answer, inRange, mapped, readAt}
+use Rattle.mbc.specs.Mbc.{mapped, readAt, after, answer, inRange}
 use Rattle.mbc.specs.declared.cartridge.Cartridge.{Cartridge}
 use Rattle.mbc.specs.declared.mbc.Answer.{Answer}
 use Rattle.mbc.specs.declared.mbc.Answer.the-variants.{Stored, NotStored}
@@ -22,7 +22,7 @@ use Rattle.memory.proofs.Laws.{range-banks, range-mapper, vram-fits, wram-fits}
 use Rattle.memory.proofs.Regions.{Within, within}
 use Rattle.memory.proofs.region.Region.{the-type}
 use Rattle.memory.specs.Region.{regionOf}
-use Rattle.memory.specs.World.{World, world, Fixed, withUsed}
+use Rattle.memory.specs.World.{World, world, Fixed, withMapper, withUsed}
 use Rattle.memory.specs.declared.Memory.{Memory}
 use Rattle.memory.specs.declared.region.Region.{Region}
 use Rattle.memory.specs.declared.region.Region.the-variants.{Rom, Vram, Save, Wram, Oam, Page}
@@ -120,27 +120,28 @@ module _ (i : ℕ) {r : Region} (e : regionOf i ≡ r) (l : i < 0xFE00) (k : Amo
 
 module _ (m : Memory) {c : Cartridge} {t : Mapper} {used : ℕ} (p : m .core .cartridge ≡ c) (q : m .core .mapper ≡ t) (e : m .core .used ≡ used) (s l : List ℕ)
     (i v : ℕ) where
-  pub save-full : full (length l) used 1 ≡ true → world (withUsed m used) [] [] s l ≡ savePut (world m [] [] s l) i v
+  pub save-full : full (length l) used 1 ≡ true → world (withUsed (withMapper m t) used) [] [] s l ≡ savePut (world m [] [] s l) i v
   unfolding savePut
   save-full a =
       let b : full (length l) (m .core .used) 1 ≡ true = rw e a in
-      rw (← e) (sym (cond-true _ _ _ b))
+      rw (← e, ← q) (sym (cond-true _ _ _ b))
 
   save-answered : (k : Answer) → full (length l) used 1 ≡ false → answer c t i v ≡ k
-      → saved k (world m [] [] s l) ≡ savePut (world m [] [] s l) i v
+      → saved k (world (mapperPut m i v) [] [] s l) ≡ savePut (world m [] [] s l) i v
   unfolding savePut
   save-answered k a n =
       let b : full (length l) (m .core .used) 1 ≡ false = rw e a in
       let r : answer (m .core .cartridge) (m .core .mapper) i v ≡ k = rw (p, q) n in
-      sym (cond-false _ _ _ b ∙ ap (λ (k : Answer). saved k (world m [] [] s l)) r)
+      sym (cond-false _ _ _ b ∙ ap (λ (k : Answer). saved k (world (mapperPut m i v) [] [] s l)) r)
 
-  pub save-none : full (length l) used 1 ≡ false → answer c t i v ≡ NotStored
-      → world (withUsed m used) [] [] s l ≡ savePut (world m [] [] s l) i v
-  save-none a n = rw (← e) (save-answered NotStored a n)
+  pub save-none : {o : Mapper} → full (length l) used 1 ≡ false → o ≡ after c t i v → answer c t i v ≡ NotStored
+      → world (withUsed (withMapper m o) used) [] [] s l ≡ savePut (world m [] [] s l) i v
+  save-none a f n = rw (f, ← e, ← p, ← q) (save-answered NotStored a n)
 
-  pub save-stored : (at b : ℕ) {r : ℕ} {y z : List ℕ} → full (length l) used 1 ≡ false → answer c t i v ≡ Stored at b
-      → r ≡ used + width → y ≡ set s at b → z ≡ appended l used at b → world (withUsed m r) [] [] y z ≡ savePut (world m [] [] s l) i v
-  save-stored at b a n x y z = rw (x, y, z, ← e) (save-answered (Stored at b) a n)
+  pub save-stored : (at b : ℕ) {o : Mapper} {r : ℕ} {y z : List ℕ} → full (length l) used 1 ≡ false → o ≡ after c t i v → answer c t i v ≡ Stored at b
+      → r ≡ used + width → y ≡ set s at b → z ≡ appended l used at b
+      → world (withUsed (withMapper m o) r) [] [] y z ≡ savePut (world m [] [] s l) i v
+  save-stored at b a f n x y z = rw (f, x, y, z, ← e, ← p, ← q) (save-answered (Stored at b) a n)
 
 -- the state, the save and the log of one world, with the memories of another
 abbrev beside : World → World → World
@@ -149,14 +150,15 @@ beside w u = world (u .state) (w .vram) (w .wram) (u .save) (u .log)
 abbrev alone : World → World
 alone w = world (w .state) [] [] (w .save) (w .log)
 
-beside-cond : (t : Bool) (a : Answer) (w : World) → beside w (cond t (alone w) (saved a (alone w))) ≡ cond t w (saved a w)
-beside-cond true a w = refl
-beside-cond false a w = refl
+beside-cond : (t : Bool) (a : Answer) (w : World) (m : Memory)
+    → beside w (cond t (alone w) (saved a (inState (alone w) m))) ≡ cond t w (saved a (inState w m))
+beside-cond true a w m = refl
+beside-cond false a w m = refl
 
 save-apart : (w : World) (i v : ℕ) → beside w (savePut (alone w) i v) ≡ savePut w i v
 unfolding savePut
 save-apart w i v =
-    beside-cond (full (length (w .log)) (w .state .core .used) 1) (answer (w .state .core .cartridge) (w .state .core .mapper) i v) w
+    beside-cond (full (length (w .log)) (w .state .core .used) 1) (answer (w .state .core .cartridge) (w .state .core .mapper) i v) w (mapperPut (w .state) i v)
 
 -- writes
 

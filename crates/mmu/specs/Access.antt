@@ -59,7 +59,7 @@ readWord x m v w s index = readByte x m v w s index + readByte x m v w s ((index
 abbrev pub readIn : Fixed → World → ℕ → ℕ
 readIn x w index = readByte x (w .state) (w .vram) (w .wram) (w .save) index
 
--- a write below 8000 changes the mapper's registers
+-- the mapper after a write that it is asked for: in 0000..7FFF and A000..BFFF
 abbrev pub mapperPut : Memory → ℕ → ℕ → Memory
 mapperPut m i v = withMapper m (after (m .core .cartridge) (m .core .mapper) i v)
 
@@ -80,11 +80,6 @@ abbrev pub saved : Answer → World → World
 saved a w =
     world (savedState a (w .state)) (w .vram) (w .wram) (savedSave a (w .save)) (savedLog a (w .state .core .used) (w .log))
 
--- a write in A000..BFFF: without room in the log nothing is stored (a public call is then refused by 2)
-unfoldable pub savePut : World → ℕ → ℕ → World
-savePut w i v =
-    cond (full (length (w .log)) (w .state .core .used) 1) w (saved (answer (w .state .core .cartridge) (w .state .core .mapper) i v) w)
-
 -- the world with its state, its video memory or its work memory changed
 abbrev pub inState : World → Memory → World
 inState w m = world m (w .vram) (w .wram) (w .save) (w .log)
@@ -94,6 +89,13 @@ inVram w v = world (w .state) v (w .wram) (w .save) (w .log)
 
 abbrev pub inWram : World → List ℕ → World
 inWram w l = world (w .state) (w .vram) l (w .save) (w .log)
+
+-- a write in A000..BFFF: the mapper after it, and what it answers is done. Without room in the log nothing is stored and nothing changes (a public call is
+-- then refused by 2)
+unfoldable pub savePut : World → ℕ → ℕ → World
+savePut w i v =
+    cond (full (length (w .log)) (w .state .core .used) 1) w
+    (saved (answer (w .state .core .cartridge) (w .state .core .mapper) i v) (inState w (mapperPut (w .state) i v)))
 
 -- a byte write at an index of a region
 abbrev pub putIn : Region → World → ℕ → ℕ → World

@@ -6,7 +6,7 @@ ghost use Prim.Native.Nat.{ℕ, _+_, _*_, _<_, _≤_};
 ghost use lib.ListN.{length, getD, set};
 ghost use Rattle.mbc.specs.Mbc.{inRange, ramLen};
 ghost use Rattle.memory.specs.Region.{regionOf};
-ghost use Rattle.memory.specs.World.{world, fixed, withUsed};
+ghost use Rattle.memory.specs.World.{world, fixed, withMapper, withUsed};
 ghost use Rattle.memory.specs.declared.Memory.{Memory};
 ghost use Rattle.savelog.specs.Log.{logLimit};
 ghost use Rattle.mmu.specs.PanDocs.{echo, vramAt, wramAt};
@@ -126,8 +126,14 @@ pub fn put_mapper(memory: Memory, index: u16, value: u8) -> Memory
     memory::with_mapper(memory, after)
 }
 
-// A write in A000..BFFF: the mapper answers, the bus stores the byte and records it. A log without room records nothing, and nothing is stored.
-// It takes of the bus the cartridge, the mapper and the bytes of the log that are used, and gives how many are used after it.
+// What a write in A000..BFFF leaves of the bus: the mapper, and how many bytes of the log are used.
+pub struct Mapping {
+    pub mapper: Mapper,
+    pub used: u16,
+}
+
+// A write in A000..BFFF: the mapper answers, the bus stores the byte and records it. A log without room records nothing, and nothing is stored or changed.
+// It takes of the bus the cartridge, the mapper and the bytes of the log that are used.
 pub fn store_save(
     cartridge: Cartridge,
     mapper: Mapper,
@@ -136,20 +142,31 @@ pub fn store_save(
     log: &mut [u8],
     index: u16,
     value: u8,
-) -> u16
+) -> Mapping
     requires { ⌜ ((0xA000 ≤ index) × (index < 0xC000)) × ((inRange cartridge mapper ≡ true) × ((length (now save) ≡ ramLen cartridge mapper) × (length (now log) ≤ logLimit))) ⌝ }
-    ensures { λ r. ⌜ ((m : Memory) → m .core .cartridge ≡ cartridge → m .core .mapper ≡ mapper → m .core .used ≡ used → world (withUsed m r) [] [] (now (save .exit)) (now (log .exit)) ≡ savePut (world m [] [] (now (save .entry)) (now (log .entry))) index value) ⌝ }
+    ensures { λ r. ⌜ ((m : Memory) → m .core .cartridge ≡ cartridge → m .core .mapper ≡ mapper → m .core .used ≡ used → world (withUsed (withMapper m (r .mapper)) (r .used)) [] [] (now (save .exit)) (now (log .exit)) ≡ savePut (world m [] [] (now (save .entry)) (now (log .entry))) index value) ⌝ }
 {
     if savelog::full(log.len(), used, 1) {
-        return used;
+        return Mapping {
+            mapper: mapper,
+            used: used,
+        };
     }
     let written = mapper.write(cartridge, index, value);
+    let after = written.mapper;
     let answer = written.answer;
     let Answer::Stored { at, value: byte } = answer else {
-        return used;
+        return Mapping {
+            mapper: after,
+            used: used,
+        };
     };
     save[at] = byte;
-    savelog::append(log, used, at, byte)
+    let more = savelog::append(log, used, at, byte);
+    Mapping {
+        mapper: after,
+        used: more,
+    }
 }
 
 pub fn put_save(memory: Memory, save: &mut [u8], log: &mut [u8], index: u16, value: u8) -> Memory
@@ -159,6 +176,8 @@ pub fn put_save(memory: Memory, save: &mut [u8], log: &mut [u8], index: u16, val
     let core = memory.core;
     let cartridge = core.cartridge;
     let mapper = core.mapper;
-    let used = store_save(cartridge, mapper, core.used, save, log, index, value);
-    memory::with_used(memory, used)
+    let mapping = store_save(cartridge, mapper, core.used, save, log, index, value);
+    let after = mapping.mapper;
+    let next = memory::with_mapper(memory, after);
+    memory::with_used(next, mapping.used)
 }

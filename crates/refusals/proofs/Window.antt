@@ -24,10 +24,13 @@ pub in-save-true : (i : ℕ) → inSave i ≡ true → regionOf i ≡ Save
 unfolding inSave
 in-save-true i t = is-save (regionOf i) t
 
-pub in-save-false : (i : ℕ) → inSave i ≡ false → regionOf i ≡ Save → ⊥
+pub in-save-at : (i : ℕ) → regionOf i ≡ Save → inSave i ≡ true
 unfolding inSave
+in-save-at i e = ap isSave e
+
+pub in-save-false : (i : ℕ) → inSave i ≡ false → regionOf i ≡ Save → ⊥
 in-save-false i f e =
-    let t : isSave (regionOf i) ≡ true = ap isSave e in
+    let t = in-save-at i e in
     let z : _≡_ {A = ℕ} 0 1 = cc in
     omega arith
 
