@@ -20,10 +20,12 @@ use Rattle.mbc.specs.declared.mbc.Answer.the-variants.{Stored, NotStored}
 use Rattle.mbc.specs.declared.mbc.Mapper.{Mapper}
 use Rattle.mbc.specs.declared.mbc.Mapper.the-variants.{RomOnly, Mbc1, Mbc2}
 use Rattle.mbc.specs.declared.mbc.Source.{Source}
+use Rattle.memory.specs.Region.{regionOf}
 use Rattle.memory.specs.World.{World, Fixed}
 use Rattle.memory.specs.declared.Memory.{Memory}
-use Rattle.mmu.specs.Access.{lentAt, byteAt, readIn, saved, savePut, putAt, put}
-use Rattle.mmu.specs.PanDocs.{echo}
+use Rattle.memory.specs.declared.region.Region.{Region}
+use Rattle.memory.specs.declared.region.Region.the-variants.{Rom, Vram, Save, Wram, Oam, Page}
+use Rattle.mmu.specs.Access.{byteIn, readIn, saved, savePut, putIn, put}
 use Rattle.mmu.specs.Write.{copyBy, transferred, writeAt, wordAt}
 use Rattle.packing.specs.Packing.{Below}
 use Rattle.registers.proofs.Kept.{cond-both}
@@ -124,32 +126,30 @@ module _ (w : World) (g : Whole w) (v : ℕ) (b : v < 256) where
   state-whole : {m : Memory} → Fine m → Whole (record { state = m; vram = w .vram; wram = w .wram; save = w .save; log = w .log })
   state-whole f = record { state = f; vram = g .vram; wram = g .wram; save = g .save }
 
-  put-at-whole : (i : ℕ) → Whole (putAt w i v)
-  unfolding putAt
-  put-at-whole i =
-      cond-both Whole (ltb i 0x8000) (state-whole (mapper-fine (g .state) _))
-      (cond-both Whole (ltb i 0xA000)
-      (record { state = g .state; vram = below-set (w .vram) _ v (g .vram) b; wram = g .wram; save = g .save })
-      (cond-both Whole (ltb i 0xC000) (save-whole i)
-      (cond-both Whole (ltb i 0xE000)
-      (record { state = g .state; vram = g .vram; wram = below-set (w .wram) _ v (g .wram) b; save = g .save })
-      (cond-both Whole (ltb i 0xFF00) (state-whole (oam-fine (g .state) (page-set (i - 0xFE00) (g .state .oam) b)))
-      (state-whole (write-fine (g .state) v b (i - 0xFF00)))))))
+  put-in-whole : (r : Region) (i : ℕ) → Whole (putIn r w i v)
+  put-in-whole Rom i = state-whole (mapper-fine (g .state) _)
+  put-in-whole Vram i = record { state = g .state; vram = below-set (w .vram) _ v (g .vram) b; wram = g .wram; save = g .save }
+  put-in-whole Save i = save-whole i
+  put-in-whole Wram i = record { state = g .state; vram = g .vram; wram = below-set (w .wram) _ v (g .wram) b; save = g .save }
+  put-in-whole Oam i = state-whole (oam-fine (g .state) (page-set (i - 0xFE00) (g .state .oam) b))
+  put-in-whole Page i = state-whole (write-fine (g .state) v b (i - 0xFF00))
 
   put-whole : (index : ℕ) → Whole (put w index v)
-  put-whole index = put-at-whole (echo index)
+  put-whole index = put-in-whole (regionOf index) index
 
 -- so copies, and all calls
 
 module _ (x : Fixed) (rom : Below 256 (x .rom)) (sound : Below 256 (x .sound)) where
+  byte-in : (w : World) → Whole w → (r : Region) (i : ℕ) → Byte (byteIn r x (w .state) (w .vram) (w .wram) (w .save) i)
+  byte-in w g Rom i = mapped-byte (x .rom) (w .save) rom (g .save) (w .state .core .cartridge) (w .state .core .mapper) i
+  byte-in w g Vram i = g .vram _
+  byte-in w g Save i = mapped-byte (x .rom) (w .save) rom (g .save) (w .state .core .cartridge) (w .state .core .mapper) i
+  byte-in w g Wram i = g .wram _
+  byte-in w g Oam i = g .state .oam .bytes _
+  byte-in w g Page i = register-byte (g .state) (x .sound) sound (i - 0xFF00)
+
   read-byte : (w : World) → Whole w → (index : ℕ) → Byte (readIn x w index)
-  unfolding byteAt lentAt
-  read-byte w g index =
-      let i = echo index in
-      let m = mapped-byte (x .rom) (w .save) rom (g .save) (w .state .core .cartridge) (w .state .core .mapper) i in
-      cond-both Byte (ltb i 0xE000)
-      (cond-both Byte (ltb i 0x8000) m (cond-both Byte (ltb i 0xA000) (g .vram _) (cond-both Byte (ltb i 0xC000) m (g .wram _))))
-      (cond-both Byte (ltb i 0xFF00) (g .state .oam .bytes _) (register-byte (g .state) (x .sound) sound (i - 0xFF00)))
+  read-byte w g index = byte-in w g (regionOf index) index
 
   abbrev Writes : (World → ℕ → ℕ → World) → Type 0
   Writes f = (w : World) → Whole w → (index v : ℕ) → v < 256 → Whole (f w index v)

@@ -8,10 +8,14 @@ use lib.Dec.{eqb, ltb}
 use lib.ListN.{getD, drop, set}
 use lib.Seq.{getD-drop}
 use borrow.Author.Tests.{lt-ltb, le-ltb, ltb-true, ltb-false, eqb-true}
+use Rattle.memory.proofs.Regions.{Within, within, region-at}
+use Rattle.memory.specs.Region.{regionOf}
 use Rattle.memory.specs.World.{World, Fixed, withOam}
+use Rattle.memory.specs.declared.region.Region.{Region}
+use Rattle.memory.specs.declared.region.Region.the-variants.{Rom, Vram, Save, Wram, Oam, Page}
 use Rattle.mmu.proofs.Laws.{write-plain}
-use Rattle.mmu.proofs.Places.{put-oam, read-wram}
-use Rattle.mmu.specs.Access.{byteAt, readIn, inState, put}
+use Rattle.mmu.proofs.Places.{read-by, put-by}
+use Rattle.mmu.specs.Access.{byteIn, readIn, inState, put}
 use Rattle.mmu.specs.PanDocs.{echo, wramAt}
 use Rattle.mmu.specs.Write.{copyBy, transferred, writeAt}
 use Rattle.registers.specs.Transfers.{nothing, oamCopy, copyOf, finished}
@@ -26,18 +30,25 @@ abbrev inOam : World → List ℕ → World
 inOam w o = inState w (withOam (w .state) o)
 
 -- OAM is not read below E000
-read-apart : (x : Fixed) (w : World) (o : List ℕ) (i : ℕ) → i < 0xE000 → readIn x (inOam w o) i ≡ readIn x w i
-unfolding echo byteAt
-read-apart x w o i h = rw (lt-ltb i 0xE000 h, lt-ltb i 0xE000 h)
+module _ (x : Fixed) (w : World) (o : List ℕ) (i : ℕ) (h : i < 0xE000) where
+  read-in : (r : Region) → Within r i
+      → byteIn r x (withOam (w .state) o) (w .vram) (w .wram) (w .save) i ≡ byteIn r x (w .state) (w .vram) (w .wram) (w .save) i
+  read-in Rom b = refl
+  read-in Vram b = refl
+  read-in Save b = refl
+  read-in Wram b = refl
+  read-in Oam b = absurd (omega (arith, b .0))
+  read-in Page b = absurd (omega arith)
+
+  read-apart : readIn x (inOam w o) i ≡ readIn x w i
+  read-apart = read-in (regionOf i) (within i refl)
 
 write-oam : (x : Fixed) (w : World) (n v : ℕ) → n < 160 → writeAt x 1 w (0xFE00 + n) v ≡ inOam w (set (w .state .oam) n v)
-unfolding echo
 write-oam x w n v h =
     let i = 0xFE00 + n in
-    let e : i ≡ echo i = rw (le-ltb i 0xE000 (omega arith), le-ltb i 0xFE00 (omega arith)) in
     let s : i - 0xFE00 ≡ n = omega arith in
     write-plain x w 1 i v (λ e. omega arith) (λ e. omega arith)
-    ∙ sym (put-oam w i i v e (omega arith) (omega arith) (rw s))
+    ∙ sym (put-by w i v (region-at Oam i (omega arith, omega arith)) (rw s))
 
 -- what a page holds
 abbrev pageOf : Fixed → World → ℕ → ℕ → ℕ
@@ -79,9 +90,15 @@ unfolding laid
 laid-same f g zero o h = refl
 laid-same f g (suc n) o h = rw (laid-same f g n o (λ k l. h k (omega arith)), h n (omega arith))
 
-wram-page : (bank page n : ℕ) → 0xC0 ≤ page → n < 160 → wramAt bank (page * 256 + n) ≡ wramAt bank (page * 256) + n
-unfolding wramAt
-wram-page bank page n low h = by-half (ltb (page * 256) 0xD000) refl
+wram-low : (bank i : ℕ) → i < 0xE000 → wramAt bank i ≡ cond (ltb i 0xD000) (i - 0xC000) (i - 0xD000 + bank * 0x1000)
+unfolding wramAt echo
+wram-low bank i h = rw (lt-ltb i 0xE000 h)
+
+wram-page : (bank page n : ℕ) → 0xC0 ≤ page → page < 0xE0 → n < 160 → wramAt bank (page * 256 + n) ≡ wramAt bank (page * 256) + n
+wram-page bank page n low high h =
+    wram-low bank (page * 256 + n) (omega arith)
+    ∙ by-half (ltb (page * 256) 0xD000) refl
+    ∙ ap (λ (k : ℕ). k + n) (sym (wram-low bank (page * 256) (omega arith)))
   where
     by-half : (b : Bool) → ltb (page * 256) 0xD000 ≡ b
         → cond (ltb (page * 256 + n) 0xD000) (page * 256 + n - 0xC000) (page * 256 + n - 0xD000 + bank * 0x1000)
@@ -96,12 +113,10 @@ abbrev wramFrom : World → ℕ → List ℕ
 wramFrom w page = drop (wramAt (w .state .core .banks .wram) (page * 256)) (w .wram)
 
 wram-read : (x : Fixed) (w : World) (page k : ℕ) → 0xC0 ≤ page → page < 0xE0 → k < 160 → pageOf x w page k ≡ getD (wramFrom w page) k 0
-unfolding echo
 wram-read x w page k low high h =
     let i = page * 256 + k in
-    let e : i ≡ echo i = rw (lt-ltb i 0xE000 (omega arith)) in
-    sym (read-wram x (w .state) (w .vram) (w .wram) (w .save) i i e (omega arith) (omega arith))
-    ∙ ap (λ (j : ℕ). getD (w .wram) j 0) (wram-page (w .state .core .banks .wram) page k low h)
+    sym (read-by x (w .state) (w .vram) (w .wram) (w .save) i (region-at Wram i (omega arith, omega arith)) refl)
+    ∙ ap (λ (j : ℕ). getD (w .wram) j 0) (wram-page (w .state .core .banks .wram) page k low high h)
     ∙ sym (getD-drop (wramAt (w .state .core .banks .wram) (page * 256)) (w .wram) k 0)
 
 unfoldable pub oamAfter : Fixed → World → ℕ → List ℕ

@@ -5,6 +5,7 @@ use Rattle.hdma.specs.Hdma as hdma
 use Rattle.joypad.specs.Joypad as joypad
 use Rattle.mbc.specs.Mbc as mbc
 use Rattle.mbc.specs.PanDocs as banks
+use Rattle.memory.specs.Region as region
 use Rattle.memory.specs.Start as start
 use Rattle.mmu.specs.Access as access
 use Rattle.mmu.specs.PanDocs as map
@@ -30,7 +31,7 @@ unfolding
     hdma.firstBlock hdma.starts hdma.sourceUsed hdma.destinationUsed hdma.stepped hdma.stillOn hdma.blockEnded
     hdma.generalEnded hdma.startOf joypad.named joypad.bitOf joypad.afterPress joypad.polled joypad.padRead mbc.ramBanks mbc.ramLen mbc.start
     mbc.ramSource mbc.source mbc.low1 mbc.high1 mbc.after1 mbc.enable2 mbc.after2 banks.zeroAsOne start.monochromePage start.colourPage
-    start.startPage start.startHdma start.started access.lentAt access.byteAt access.savePut access.putAt map.echo map.wramAt write.copyBy write.writeAt
+    start.startPage start.startHdma start.started region.regionOf access.savePut map.echo map.wramAt write.copyBy write.writeAt
     palette.moved colours.byteAt colours.putAt answers.changed refusal.inSave refusal.inSound refusal.byteRoom refusal.byteOwed refusal.cyclesRefused
     colour.wramBankPut colour.backgroundIndexPut colour.backgroundDataPut page.byKind page.lineRead page.plainRead page.shownAs page.readRegister page.plainWrite
     page.writeRegister selected.wramBankOf transfers.sourceHighPut transfers.sourceLowPut transfers.destinationHighPut transfers.destinationLowPut

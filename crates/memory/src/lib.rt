@@ -6,6 +6,7 @@ ghost use Rattle.memory.specs.Ranges.{banksInRange, hdmaInRange, groupsI
 ghost use Rattle.memory.specs.Start.{zeroed, startHdma, started};
 ghost use Rattle.memory.specs.World.{mapperIn, withMapper, withUsed};
 
+mod region;
 mod start;
 
 use hdma::Hdma;
@@ -14,6 +15,8 @@ use lcd::Lcd;
 use mbc::Cartridge;
 use mbc::Mapper;
 use palette::Color;
+pub use region::Region;
+pub use region::region_of;
 pub use start::start_page;
 
 // `is_cgb`, `vram_bank` and `wram_bank`.

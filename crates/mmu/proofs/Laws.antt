@@ -6,29 +6,32 @@ use mathlib.Core.Logic.{⊎-elim}
 use Prim.Native.Nat.{ℕ, zero, suc, _+_, _-_, _/_, _%_, _≤_}
 use native.Mathlib.Numerals.{add-one, sub-one}
 use native.Mathlib.Omega.{arith}
-use lib.Dec.{eqb, ltb, leb}
+use lib.Dec.{eqb}
 use lib.ListN.{length, set, length-set, length-append, length-take, length-drop}
-use borrow.Author.Tests.{ltb-false, eqb-true, eqb-false, eq-eqb, ne-eqb, le-leb, le-ltb}
-use Rattle.rules.proofs.Tests.{both-true}
+use borrow.Author.Tests.{eqb-true, eqb-false, ne-eqb}
 use Rattle.mbc.proofs.Bools.{or-cases, by-cond}
 use Rattle.mbc.proofs.Laws.{ram-len-after}
 use Rattle.mbc.specs.Mbc.{answer}
 use Rattle.mbc.specs.declared.mbc.Answer.{Answer}
 use Rattle.mbc.specs.declared.mbc.Answer.the-variants.{Stored, NotStored}
 use Rattle.memory.proofs.Laws.{used-range, mapper-kept}
+use Rattle.memory.proofs.Regions.{region-at}
+use Rattle.memory.specs.Region.{regionOf}
 use Rattle.memory.specs.World.{World, world, Fixed}
 use Rattle.memory.specs.declared.Memory.{Memory}
-use Rattle.registers.proofs.Kept.{Kept, cond-both, oam-kept, write-kept, finished-kept}
+use Rattle.memory.specs.declared.region.Region.{Region}
+use Rattle.memory.specs.declared.region.Region.the-variants.{Rom, Vram, Save, Wram, Oam, Page}
+use Rattle.registers.proofs.Kept.{Kept, oam-kept, write-kept, finished-kept}
 use Rattle.registers.specs.Page.{writeRegister}
 use Rattle.registers.specs.Transfers.{copyOf, finished}
 use Rattle.registers.specs.declared.transfers.Copy.{Copy}
 use Rattle.registers.specs.declared.transfers.Finish.{Finish}
 use Rattle.savelog.proofs.Use.{has-room, use-more, appended-length}
 use Rattle.savelog.specs.Log.{width, useInRange, full}
-use Rattle.mmu.specs.PanDocs.{echo, vramAt, wramAt}
-use Rattle.mmu.specs.Access.{Holds, Ready, readIn, mapperPut, saved, savePut, inState, inVram, inWram, putAt, put}
+use Rattle.mmu.specs.PanDocs.{vramAt, wramAt}
+use Rattle.mmu.specs.Access.{Holds, Ready, readIn, mapperPut, saved, savePut, inState, inVram, inWram, putIn, put}
 use Rattle.mmu.specs.Write.{copyBy, transferred, starting, writeAt, wordAt}
-use Rattle.mmu.proofs.Places.{put-register}
+use Rattle.mmu.proofs.Places.{put-by}
 
 -- what a write leaves: a world that holds, of the same kind and cartridge, with a log use in range where it was
 pub record Stays (w u : World) : Type 0 where
@@ -127,25 +130,25 @@ module _ (w : World) (h : Holds w) where
       }
   saved-stays NotStored room = stays-refl w h
 
+module _ (w : World) (h : Holds w) where
   save-stays : (i v : ℕ) → Stays w (savePut w i v)
   unfolding savePut
   save-stays i v =
       let a = answer (w .state .core .cartridge) (w .state .core .mapper) i v in
-      by-cond (Stays w) (full (length (w .log)) (w .state .core .used) 1) w (saved a w) (λ t. stays-refl w h)
-      (λ f. saved-stays a (has-room (length (w .log)) (w .state .core .used) 1 f))
+      let m = mapper-stays w h i v in
+      by-cond (Stays w) (full (length (w .log)) (w .state .core .used) 1) w (saved a (inState w (mapperPut (w .state) i v))) (λ t. stays-refl w h)
+      (λ f. stays-trans m (saved-stays _ (m .holds) a (has-room (length (w .log)) (w .state .core .used) 1 f)))
 
-  put-at-stays : (i v : ℕ) → Stays w (putAt w i v)
-  unfolding putAt
-  put-at-stays i v =
-      cond-both (Stays w) (ltb i 0x8000) (mapper-stays i v)
-      (cond-both (Stays w) (ltb i 0xA000) (vram-stays (vramAt (w .state .core .banks .vram) i) v)
-      (cond-both (Stays w) (ltb i 0xC000) (save-stays i v)
-      (cond-both (Stays w) (ltb i 0xE000) (wram-stays (wramAt (w .state .core .banks .wram) i) v)
-      (cond-both (Stays w) (ltb i 0xFF00) (kept-stays _ (oam-kept (w .state) (set (w .state .oam) (i - 0xFE00) v)))
-      (kept-stays _ (write-kept (w .state) (i - 0xFF00) v))))))
+  put-in-stays : (r : Region) (i v : ℕ) → Stays w (putIn r w i v)
+  put-in-stays Rom i v = mapper-stays w h i v
+  put-in-stays Vram i v = vram-stays w h (vramAt (w .state .core .banks .vram) i) v
+  put-in-stays Save i v = save-stays i v
+  put-in-stays Wram i v = wram-stays w h (wramAt (w .state .core .banks .wram) i) v
+  put-in-stays Oam i v = kept-stays w h _ (oam-kept (w .state) (set (w .state .oam) (i - 0xFE00) v))
+  put-in-stays Page i v = kept-stays w h _ (write-kept (w .state) (i - 0xFF00) v)
 
   pub put-stays : (index v : ℕ) → Stays w (put w index v)
-  put-stays index v = put-at-stays (echo index) v
+  put-stays index v = put-in-stays (regionOf index) index v
 
   pub put-holds : (index v : ℕ) → Holds (put w index v)
   put-holds index v = put-stays index v .holds
@@ -287,10 +290,7 @@ module _ (x : Fixed) (w : World) where
 
   put-start : (d index v : ℕ) {n : Memory} → starting d index ≡ true → n ≡ writeRegister (w .state) (index - 0xFF00) v
       → inState w n ≡ put w index v
-  unfolding echo
-  put-start d index v s e =
-      let a = starting-page d index s in
-      put-register w index index v (rw (le-ltb index 0xE000 (omega arith), le-ltb index 0xFE00 (omega arith))) a e
+  put-start d index v s e = put-by w index v (region-at Page index (starting-page d index s)) (ap (inState w) e)
 
   pub start-ready : (d index v : ℕ) {n : Memory} → Ready x w → starting d index ≡ true → n ≡ writeRegister (w .state) (index - 0xFF00) v
       → Ready x (inState w n)

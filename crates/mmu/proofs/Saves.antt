@@ -1,22 +1,22 @@
 -- Only a write in A000..BFFF stores a save byte: any other, with the transfer that it may start, leaves the save, its log and the log's use.
 use mathlib.Core.Path.{_≡_, refl, _∙_}
-use mathlib.Core.Bool.{cond}
 use Prim.Native.Nat.{ℕ, zero, suc, _+_, _-_, _<_, _≤_}
 use native.Mathlib.Omega.{arith}
 use lib.Dec.{ltb}
 use lib.ListN.{set}
-use borrow.Author.Tests.{ltb-true, ltb-false}
 use Rattle.hdma.specs.Hdma.{destinationUsed}
 use Rattle.hdma.specs.declared.Hdma.{Hdma}
-use Rattle.mbc.proofs.Bools.{by-cond}
+use Rattle.memory.proofs.Regions.{within}
+use Rattle.memory.specs.Region.{regionOf}
 use Rattle.memory.specs.World.{World, Fixed}
 use Rattle.memory.specs.declared.Memory.{Memory}
+use Rattle.memory.specs.declared.region.Region.{Region}
+use Rattle.memory.specs.declared.region.Region.the-variants.{Rom, Vram, Save, Wram, Oam, Page}
 use Rattle.registers.proofs.Kept.{Kept, cond-both, oam-kept, write-kept, finished-kept}
 use Rattle.registers.proofs.Starts.{by-copy}
 use Rattle.registers.specs.Transfers.{oamCopy, blockCopy, generalCopy, copyOf, nothing, finished}
 use Rattle.registers.specs.declared.transfers.Copy.{Copy}
-use Rattle.mmu.specs.PanDocs.{echo}
-use Rattle.mmu.specs.Access.{inState, putAt, put}
+use Rattle.mmu.specs.Access.{inState, putIn, put}
 use Rattle.mmu.specs.Write.{copyBy, transferred, writeAt}
 
 pub record Spares (w u : World) : Type 0 where
@@ -33,29 +33,19 @@ spares-kept w n k = record { save = refl; log = refl; used = k .used }
 abbrev pub Outside : ℕ → Type 0
 Outside i = 0xA000 ≤ i → i < 0xC000 → ⊥
 
--- one byte; an echo of the save's window there is none
+-- one byte
 
-echo-outside : (index : ℕ) → Outside index → Outside (echo index)
-unfolding echo
-echo-outside index o =
-    by-cond Outside (ltb index 0xE000) index (cond (ltb index 0xFE00) (index - 0x2000) index) (λ t. o)
-    (λ f.
-    by-cond Outside (ltb index 0xFE00) (index - 0x2000) index (λ t a b. omega (arith, ltb-false index 0xE000 f)) (λ g. o))
-
-put-at-spares : (w : World) (i v : ℕ) → Outside i → Spares w (putAt w i v)
-unfolding putAt
-put-at-spares w i v o =
-    cond-both (Spares w) (ltb i 0x8000) (record { save = refl; log = refl; used = refl })
-    (by-cond (Spares w) (ltb i 0xA000) _ _ (λ t. record { save = refl; log = refl; used = refl })
-    (λ f.
-    by-cond (Spares w) (ltb i 0xC000) _ _ (λ t. absurd (o (ltb-false i 0xA000 f) (ltb-true i 0xC000 t)))
-    (λ g.
-    cond-both (Spares w) (ltb i 0xE000) (record { save = refl; log = refl; used = refl })
-    (cond-both (Spares w) (ltb i 0xFF00) (spares-kept w _ (oam-kept (w .state) (set (w .state .oam) (i - 0xFE00) v)))
-    (spares-kept w _ (write-kept (w .state) (i - 0xFF00) v))))))
+put-in-spares : (w : World) (r : Region) (i v : ℕ) → (r ≡ Save → ⊥) → Spares w (putIn r w i v)
+put-in-spares w Rom i v o = record { save = refl; log = refl; used = refl }
+put-in-spares w Vram i v o = record { save = refl; log = refl; used = refl }
+put-in-spares w Save i v o = absurd (o refl)
+put-in-spares w Wram i v o = record { save = refl; log = refl; used = refl }
+put-in-spares w Oam i v o = spares-kept w _ (oam-kept (w .state) (set (w .state .oam) (i - 0xFE00) v))
+put-in-spares w Page i v o = spares-kept w _ (write-kept (w .state) (i - 0xFF00) v)
 
 pub put-spares : (w : World) (index v : ℕ) → Outside index → Spares w (put w index v)
-put-spares w index v o = put-at-spares w (echo index) v (echo-outside index o)
+put-spares w index v o =
+    put-in-spares w (regionOf index) index v (λ e. let b = within index e in o (b .0) (b .1))
 
 -- where transfers write: video memory and OAM
 

@@ -1,23 +1,23 @@
--- A byte read, and a byte write without the copying that it may start (document 01, "The bus" and "Save log and state image";
--- the ends of the regions are Pan Docs', "Memory Map").
+-- A byte read, and a byte write without the copying that it may start, by the region of the index (document 01, "The bus" and
+-- "Save log and state image").
 use mathlib.Core.Bool.{true, cond}
 use mathlib.Core.List.{List}
 use mathlib.Core.Path.{_≡_}
 use Prim.Native.Nat.{ℕ, _+_, _*_, _-_, _%_, _≤_}
-use lib.Dec.{ltb}
 use lib.ListN.{length, getD, set}
 use Rattle.mbc.specs.Mbc.{inRange, romLen, ramLen, readAt, after, answer}
-use Rattle.mbc.specs.declared.cartridge.Cartridge.{Cartridge}
 use Rattle.mbc.specs.declared.mbc.Answer.{Answer}
 use Rattle.mbc.specs.declared.mbc.Answer.the-variants.{Stored, NotStored}
-use Rattle.mbc.specs.declared.mbc.Mapper.{Mapper}
 use Rattle.memory.specs.Ranges.{stateInRange, vramLen, wramLen, soundLen}
+use Rattle.memory.specs.Region.{regionOf}
 use Rattle.memory.specs.World.{World, world, Fixed, withOam, withMapper, withUsed}
-use Rattle.memory.specs.declared.Banks.{Banks}
+use Rattle.memory.specs.declared.Core.{Core}
 use Rattle.memory.specs.declared.Memory.{Memory}
+use Rattle.memory.specs.declared.region.Region.{Region}
+use Rattle.memory.specs.declared.region.Region.the-variants.{Rom, Vram, Save, Wram, Oam, Page}
 use Rattle.registers.specs.Page.{readRegister, writeRegister}
 use Rattle.savelog.specs.Log.{width, logLimit, appended, full}
-use Rattle.mmu.specs.PanDocs.{echo, vramAt, wramAt}
+use Rattle.mmu.specs.PanDocs.{vramAt, wramAt}
 
 -- a state in range, with memories of the lengths that it needs
 pub record Holds (w : World) : Type 0 where
@@ -33,30 +33,24 @@ pub record Ready (x : Fixed) (w : World) : Type 0 where
   pub sound : length (x .sound) ≡ soundLen
 
 -- what a read of the lent memories needs of them: the mapper is in range, and they reach as far as it and the selected banks do
-pub record Reaches (c : Cartridge) (m : Mapper) (b : Banks) (r v w s : List ℕ) : Type 0 where
-  pub mapper : inRange c m ≡ true
-  pub rom : length r ≡ romLen c
-  pub save : length s ≡ ramLen c m
-  pub vram : b .vram * 0x2000 + 0x2000 ≤ length v
-  pub wram : (0x1000 ≤ length w) × (b .wram * 0x1000 + 0x1000 ≤ length w)
+pub record Reaches (c : Core) (r v w s : List ℕ) : Type 0 where
+  pub mapper : inRange (c .cartridge) (c .mapper) ≡ true
+  pub rom : length r ≡ romLen (c .cartridge)
+  pub save : length s ≡ ramLen (c .cartridge) (c .mapper)
+  pub vram : c .banks .vram * 0x2000 + 0x2000 ≤ length v
+  pub wram : (0x1000 ≤ length w) × (c .banks .wram * 0x1000 + 0x1000 ≤ length w)
 
--- the byte at an index below E000: a byte of a lent memory
-unfoldable pub lentAt : Cartridge → Mapper → Banks → List ℕ → List ℕ → List ℕ → List ℕ → ℕ → ℕ
-lentAt c m b r v w s i =
-    cond (ltb i 0x8000) (readAt c m r s i)
-    (cond (ltb i 0xA000) (getD v (vramAt (b .vram) i) 0)
-    (cond (ltb i 0xC000) (readAt c m r s i)
-    (getD w (wramAt (b .wram) i) 0)))
-
--- the byte at an index that is no echo
-unfoldable pub byteAt : Fixed → Memory → List ℕ → List ℕ → List ℕ → ℕ → ℕ
-byteAt x m v w s i =
-    cond (ltb i 0xE000) (lentAt (m .core .cartridge) (m .core .mapper) (m .core .banks) (x .rom) v w s i)
-    (cond (ltb i 0xFF00) (getD (m .oam) (i - 0xFE00) 0)
-    (readRegister m (x .sound) (i - 0xFF00)))
+-- the byte at an index of a region; ROM and save are read through the mapper
+abbrev pub byteIn : Region → Fixed → Memory → List ℕ → List ℕ → List ℕ → ℕ → ℕ
+byteIn Rom x m v w s i = readAt (m .core .cartridge) (m .core .mapper) (x .rom) s i
+byteIn Vram x m v w s i = getD v (vramAt (m .core .banks .vram) i) 0
+byteIn Save x m v w s i = readAt (m .core .cartridge) (m .core .mapper) (x .rom) s i
+byteIn Wram x m v w s i = getD w (wramAt (m .core .banks .wram) i) 0
+byteIn Oam x m v w s i = getD (m .oam) (i - 0xFE00) 0
+byteIn Page x m v w s i = readRegister m (x .sound) (i - 0xFF00)
 
 abbrev pub readByte : Fixed → Memory → List ℕ → List ℕ → List ℕ → ℕ → ℕ
-readByte x m v w s index = byteAt x m v w s (echo index)
+readByte x m v w s index = byteIn (regionOf index) x m v w s index
 
 -- a word read: low byte first; index + 1 wraps
 abbrev pub readWord : Fixed → Memory → List ℕ → List ℕ → List ℕ → ℕ → ℕ
@@ -65,7 +59,7 @@ readWord x m v w s index = readByte x m v w s index + readByte x m v w s ((index
 abbrev pub readIn : Fixed → World → ℕ → ℕ
 readIn x w index = readByte x (w .state) (w .vram) (w .wram) (w .save) index
 
--- a write below 8000 changes the mapper's registers
+-- the mapper after a write that it is asked for: in 0000..7FFF and A000..BFFF
 abbrev pub mapperPut : Memory → ℕ → ℕ → Memory
 mapperPut m i v = withMapper m (after (m .core .cartridge) (m .core .mapper) i v)
 
@@ -86,11 +80,6 @@ abbrev pub saved : Answer → World → World
 saved a w =
     world (savedState a (w .state)) (w .vram) (w .wram) (savedSave a (w .save)) (savedLog a (w .state .core .used) (w .log))
 
--- a write in A000..BFFF: without room in the log nothing is stored (a public call is then refused by 2)
-unfoldable pub savePut : World → ℕ → ℕ → World
-savePut w i v =
-    cond (full (length (w .log)) (w .state .core .used) 1) w (saved (answer (w .state .core .cartridge) (w .state .core .mapper) i v) w)
-
 -- the world with its state, its video memory or its work memory changed
 abbrev pub inState : World → Memory → World
 inState w m = world m (w .vram) (w .wram) (w .save) (w .log)
@@ -101,15 +90,21 @@ inVram w v = world (w .state) v (w .wram) (w .save) (w .log)
 abbrev pub inWram : World → List ℕ → World
 inWram w l = world (w .state) (w .vram) l (w .save) (w .log)
 
--- a byte write at an index that is no echo
-unfoldable pub putAt : World → ℕ → ℕ → World
-putAt w i v =
-    cond (ltb i 0x8000) (inState w (mapperPut (w .state) i v))
-    (cond (ltb i 0xA000) (inVram w (set (w .vram) (vramAt (w .state .core .banks .vram) i) v))
-    (cond (ltb i 0xC000) (savePut w i v)
-    (cond (ltb i 0xE000) (inWram w (set (w .wram) (wramAt (w .state .core .banks .wram) i) v))
-    (cond (ltb i 0xFF00) (inState w (withOam (w .state) (set (w .state .oam) (i - 0xFE00) v)))
-    (inState w (writeRegister (w .state) (i - 0xFF00) v))))))
+-- a write in A000..BFFF: the mapper after it, and what it answers is done. Without room in the log nothing is stored and nothing changes (a public call is
+-- then refused by 2)
+unfoldable pub savePut : World → ℕ → ℕ → World
+savePut w i v =
+    cond (full (length (w .log)) (w .state .core .used) 1) w
+    (saved (answer (w .state .core .cartridge) (w .state .core .mapper) i v) (inState w (mapperPut (w .state) i v)))
+
+-- a byte write at an index of a region
+abbrev pub putIn : Region → World → ℕ → ℕ → World
+putIn Rom w i v = inState w (mapperPut (w .state) i v)
+putIn Vram w i v = inVram w (set (w .vram) (vramAt (w .state .core .banks .vram) i) v)
+putIn Save w i v = savePut w i v
+putIn Wram w i v = inWram w (set (w .wram) (wramAt (w .state .core .banks .wram) i) v)
+putIn Oam w i v = inState w (withOam (w .state) (set (w .state .oam) (i - 0xFE00) v))
+putIn Page w i v = inState w (writeRegister (w .state) (i - 0xFF00) v)
 
 abbrev pub put : World → ℕ → ℕ → World
-put w index v = putAt w (echo index) v
+put w index v = putIn (regionOf index) w index v

@@ -8,10 +8,11 @@ ghost use Rattle.registers.specs.Transfers.{oamCopy, blockCopy, Bounded};
 ghost use Rattle.mmu.specs.Access.{Holds, Ready, readByte, readWord, put};
 ghost use Rattle.mmu.specs.Write.{transferred, starting, writeAt, wordAt};
 use memory::Memory;
+use memory::Region;
+use memory::region_of;
 
 pub mod regions;
 
-use regions::lowered;
 use regions::put_mapper;
 use regions::put_save;
 use regions::read_lent;
@@ -31,19 +32,18 @@ pub fn read_byte(
     requires { ⌜ Ready (fixed (now rom) (now sound)) (world memory (now vram) (now wram) (now save) []) ⌝ }
     ensures { λ r. ⌜ r ≡ readByte (fixed (now (rom .entry)) (now (sound .entry))) memory (now (vram .entry)) (now (wram .entry)) (now (save .entry)) index ⌝ }
 {
-    let at = lowered(index);
-    if at < 0xE000 {
-        let core = memory.core;
-        let banks = core.banks;
-        let mapper = core.mapper;
-        let cartridge = core.cartridge;
-        return read_lent(cartridge, mapper, banks, rom, vram, wram, save, at);
+    let region = region_of(index);
+    match region {
+        Region::Oam => {
+            let i = (index - 0xFE00) as usize;
+            memory.oam[i]
+        }
+        Region::Page => registers::page::read(memory, sound, (index - 0xFF00) as u8),
+        _ => {
+            let core = memory.core;
+            read_lent(core, rom, vram, wram, save, region, index)
+        }
     }
-    if at < 0xFF00 {
-        let i = (at - 0xFE00) as usize;
-        return memory.oam[i];
-    }
-    registers::page::read(memory, sound, (at - 0xFF00) as u8)
 }
 
 // A byte write without the copying that it may start.
@@ -59,29 +59,26 @@ pub fn put_byte(
     requires { ⌜ Holds (world memory (now vram) (now wram) (now save) (now log)) ⌝ }
     ensures { λ r. ⌜ world r (now (vram .exit)) (now (wram .exit)) (now (save .exit)) (now (log .exit)) ≡ put (world memory (now (vram .entry)) (now (wram .entry)) (now (save .entry)) (now (log .entry))) index value ⌝ }
 {
-    let at = lowered(index);
     let banks = memory.core.banks;
-    if at < 0x8000 {
-        return put_mapper(memory, at, value);
+    match region_of(index) {
+        Region::Rom => put_mapper(memory, index, value),
+        Region::Vram => {
+            write_cgb_lcd_ram(vram, banks.vram, index, value);
+            memory
+        }
+        Region::Save => put_save(memory, save, log, index, value),
+        Region::Wram => {
+            write_cgb_wram(wram, banks.wram, index, value);
+            memory
+        }
+        Region::Oam => {
+            let i = (index - 0xFE00) as usize;
+            let mut next = memory;
+            next.oam[i] = value;
+            next
+        }
+        Region::Page => registers::page::write(memory, (index - 0xFF00) as u8, value),
     }
-    if at < 0xA000 {
-        write_cgb_lcd_ram(vram, banks.vram, at, value);
-        return memory;
-    }
-    if at < 0xC000 {
-        return put_save(memory, save, log, at, value);
-    }
-    if at < 0xE000 {
-        write_cgb_wram(wram, banks.wram, at, value);
-        return memory;
-    }
-    if at < 0xFF00 {
-        let i = (at - 0xFE00) as usize;
-        let mut next = memory;
-        next.oam[i] = value;
-        return next;
-    }
-    registers::page::write(memory, (at - 0xFF00) as u8, value)
 }
 
 // Whether a byte write starts a transfer: of FF46 or FF55, above depth 0.

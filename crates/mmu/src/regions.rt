@@ -1,32 +1,32 @@
 // The regions of the address space, one function each.
 ghost use mathlib.Core.Bool.{true};
-ghost use mathlib.Core.List.{[]};
+ghost use mathlib.Core.List.{List, []};
 ghost use mathlib.Core.Path.{_≡_};
-ghost use Prim.Native.Nat.{_+_, _*_, _<_, _≤_};
+ghost use Prim.Native.Nat.{ℕ, _+_, _*_, _<_, _≤_};
 ghost use lib.ListN.{length, getD, set};
 ghost use Rattle.mbc.specs.Mbc.{inRange, ramLen};
-ghost use Rattle.memory.specs.World.{world, withUsed};
+ghost use Rattle.memory.specs.Region.{regionOf};
+ghost use Rattle.memory.specs.World.{world, fixed, withMapper, withUsed};
 ghost use Rattle.memory.specs.declared.Memory.{Memory};
 ghost use Rattle.savelog.specs.Log.{logLimit};
 ghost use Rattle.mmu.specs.PanDocs.{echo, vramAt, wramAt};
-ghost use Rattle.mmu.specs.Access.{Reaches, lentAt, mapperPut, savePut};
+ghost use Rattle.mmu.specs.Access.{Reaches, readByte, mapperPut, savePut};
 use mbc::Answer;
 use mbc::Cartridge;
 use mbc::Mapper;
-use memory::Banks;
+use memory::Core;
 use memory::Memory;
+use memory::Region;
 
 // E000..FDFF is the same byte as 2000 hex lower.
-pub fn lowered(index: u16) -> u16
-    ensures { λ r. ⌜ (r ≡ echo index) × (0xE000 ≤ r → 0xFE00 ≤ r) ⌝ }
+fn lowered(index: u16) -> u16
+    requires { ⌜ 0xC000 ≤ index ⌝ }
+    ensures { λ r. ⌜ (r ≡ echo index) × (0xC000 ≤ r) ⌝ }
 {
     if index < 0xE000 {
         return index;
     }
-    if index < 0xFE00 {
-        return index - 0x2000;
-    }
-    index
+    index - 0x2000
 }
 
 // Where an index of video memory lies.
@@ -49,10 +49,11 @@ fn wram_at(bank: u8, index: u16) -> usize
     requires { ⌜ 0xC000 ≤ index ⌝ }
     ensures { λ r. ⌜ r ≡ wramAt bank index ⌝ }
 {
-    if index < 0xD000 {
-        return banked(0, index - 0xC000);
+    let at = lowered(index);
+    if at < 0xD000 {
+        return banked(0, at - 0xC000);
     }
-    banked(bank, index - 0xD000)
+    banked(bank, at - 0xD000)
 }
 
 pub fn read_cgb_lcd_ram(vram: &[u8], bank: u8, index: u16) -> u8
@@ -72,7 +73,7 @@ pub fn write_cgb_lcd_ram(vram: &mut [u8], bank: u8, index: u16, value: u8)
 }
 
 pub fn read_cgb_wram(wram: &[u8], bank: u8, index: u16) -> u8
-    requires { ⌜ ((0xC000 ≤ index) × (index < 0xE000)) × ((0x1000 ≤ length (now wram)) × (bank * 0x1000 + 0x1000 ≤ length (now wram))) ⌝ }
+    requires { ⌜ ((0xC000 ≤ index) × (index < 0xFE00)) × ((0x1000 ≤ length (now wram)) × (bank * 0x1000 + 0x1000 ≤ length (now wram))) ⌝ }
     ensures { λ r. ⌜ r ≡ getD (now (wram .entry)) (wramAt bank index) 0 ⌝ }
 {
     let at = wram_at(bank, index);
@@ -80,37 +81,36 @@ pub fn read_cgb_wram(wram: &[u8], bank: u8, index: u16) -> u8
 }
 
 pub fn write_cgb_wram(wram: &mut [u8], bank: u8, index: u16, value: u8)
-    requires { ⌜ ((0xC000 ≤ index) × (index < 0xE000)) × ((0x1000 ≤ length (now wram)) × (bank * 0x1000 + 0x1000 ≤ length (now wram))) ⌝ }
+    requires { ⌜ ((0xC000 ≤ index) × (index < 0xFE00)) × ((0x1000 ≤ length (now wram)) × (bank * 0x1000 + 0x1000 ≤ length (now wram))) ⌝ }
     ensures { λ _. ⌜ now (wram .exit) ≡ set (now (wram .entry)) (wramAt bank index) value ⌝ }
 {
     let at = wram_at(bank, index);
     wram[at] = value;
 }
 
-// A read below E000: of the ROM, video memory, the save or work memory. It takes of the bus only what says where.
+// A read of what is lent: of the ROM, video memory, the save or work memory. It takes of the bus only what says where.
 pub fn read_lent(
-    cartridge: Cartridge,
-    mapper: Mapper,
-    banks: Banks,
+    core: Core,
     rom: &[u8],
     vram: &[u8],
     wram: &[u8],
     save: &[u8],
+    region: Region,
     index: u16,
 ) -> u8
-    requires { ⌜ Reaches cartridge mapper banks (now rom) (now vram) (now wram) (now save) × (index < 0xE000) ⌝ }
-    ensures { λ r. ⌜ r ≡ lentAt cartridge mapper banks (now (rom .entry)) (now (vram .entry)) (now (wram .entry)) (now (save .entry)) index ⌝ }
+    requires { ⌜ Reaches core (now rom) (now vram) (now wram) (now save) × ((region ≡ regionOf index) × (index < 0xFE00)) ⌝ }
+    ensures { λ r. ⌜ ((m : Memory) (sound : List ℕ) → m .core ≡ core → r ≡ readByte (fixed (now (rom .entry)) sound) m (now (vram .entry)) (now (wram .entry)) (now (save .entry)) index) ⌝ }
 {
-    if index < 0x8000 {
-        return mapper.read(cartridge, rom, save, index);
+    let banks = core.banks;
+    match region {
+        Region::Vram => read_cgb_lcd_ram(vram, banks.vram, index),
+        Region::Wram => read_cgb_wram(wram, banks.wram, index),
+        _ => {
+            let mapper = core.mapper;
+            let cartridge = core.cartridge;
+            mapper.read(cartridge, rom, save, index)
+        }
     }
-    if index < 0xA000 {
-        return read_cgb_lcd_ram(vram, banks.vram, index);
-    }
-    if index < 0xC000 {
-        return mapper.read(cartridge, rom, save, index);
-    }
-    read_cgb_wram(wram, banks.wram, index)
 }
 
 // A write below 8000: the mapper's registers.
@@ -126,8 +126,14 @@ pub fn put_mapper(memory: Memory, index: u16, value: u8) -> Memory
     memory::with_mapper(memory, after)
 }
 
-// A write in A000..BFFF: the mapper answers, the bus stores the byte and records it. A log without room records nothing, and nothing is stored.
-// It takes of the bus the cartridge, the mapper and the bytes of the log that are used, and gives how many are used after it.
+// What a write in A000..BFFF leaves of the bus: the mapper, and how many bytes of the log are used.
+pub struct Mapping {
+    pub mapper: Mapper,
+    pub used: u16,
+}
+
+// A write in A000..BFFF: the mapper answers, the bus stores the byte and records it. A log without room records nothing, and nothing is stored or changed.
+// It takes of the bus the cartridge, the mapper and the bytes of the log that are used.
 pub fn store_save(
     cartridge: Cartridge,
     mapper: Mapper,
@@ -136,20 +142,31 @@ pub fn store_save(
     log: &mut [u8],
     index: u16,
     value: u8,
-) -> u16
+) -> Mapping
     requires { ⌜ ((0xA000 ≤ index) × (index < 0xC000)) × ((inRange cartridge mapper ≡ true) × ((length (now save) ≡ ramLen cartridge mapper) × (length (now log) ≤ logLimit))) ⌝ }
-    ensures { λ r. ⌜ ((m : Memory) → m .core .cartridge ≡ cartridge → m .core .mapper ≡ mapper → m .core .used ≡ used → world (withUsed m r) [] [] (now (save .exit)) (now (log .exit)) ≡ savePut (world m [] [] (now (save .entry)) (now (log .entry))) index value) ⌝ }
+    ensures { λ r. ⌜ ((m : Memory) → m .core .cartridge ≡ cartridge → m .core .mapper ≡ mapper → m .core .used ≡ used → world (withUsed (withMapper m (r .mapper)) (r .used)) [] [] (now (save .exit)) (now (log .exit)) ≡ savePut (world m [] [] (now (save .entry)) (now (log .entry))) index value) ⌝ }
 {
     if savelog::full(log.len(), used, 1) {
-        return used;
+        return Mapping {
+            mapper: mapper,
+            used: used,
+        };
     }
     let written = mapper.write(cartridge, index, value);
+    let after = written.mapper;
     let answer = written.answer;
     let Answer::Stored { at, value: byte } = answer else {
-        return used;
+        return Mapping {
+            mapper: after,
+            used: used,
+        };
     };
     save[at] = byte;
-    savelog::append(log, used, at, byte)
+    let more = savelog::append(log, used, at, byte);
+    Mapping {
+        mapper: after,
+        used: more,
+    }
 }
 
 pub fn put_save(memory: Memory, save: &mut [u8], log: &mut [u8], index: u16, value: u8) -> Memory
@@ -159,6 +176,8 @@ pub fn put_save(memory: Memory, save: &mut [u8], log: &mut [u8], index: u16, val
     let core = memory.core;
     let cartridge = core.cartridge;
     let mapper = core.mapper;
-    let used = store_save(cartridge, mapper, core.used, save, log, index, value);
-    memory::with_used(memory, used)
+    let mapping = store_save(cartridge, mapper, core.used, save, log, index, value);
+    let after = mapping.mapper;
+    let next = memory::with_mapper(memory, after);
+    memory::with_used(next, mapping.used)
 }

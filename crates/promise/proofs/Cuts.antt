@@ -4,12 +4,12 @@ use mathlib.Core.List.{List, [], _∷_, _++_}
 use mathlib.Core.Path.{_≡_, refl, ap, sym, _∙_}
 use Prim.Native.Nat.{ℕ, _*_, _%_, _<_, _≤_}
 use native.Mathlib.Omega.{arith}
-use lib.Dec.{eqb, ltb}
+use lib.Dec.{eqb}
 use lib.ListN.{length}
 use lib.Seq.{length-take-le}
 use Rattle.dispatch.proofs.Open.{Good, good-use}
 use Rattle.mbc.proofs.Laws.{stored-within, ram-len-after}
-use Rattle.mbc.specs.Mbc.{ramBanks, ramLen, answer}
+use Rattle.mbc.specs.Mbc.{ramBanks, ramLen, mapped, answer}
 use Rattle.mbc.specs.declared.cartridge.Cartridge.{Cartridge}
 use Rattle.mbc.specs.declared.mbc.Mapper.{Mapper}
 use Rattle.mbc.specs.declared.mbc.Mapper.the-variants.{RomOnly, Mbc1, Mbc2}
@@ -65,7 +65,7 @@ answered-fit c m i v h NotStored e = tt
 
 ram-after : (c : Cartridge) (m : Mapper) (b : ByteWrite) → ramLen c (mapperAfter c m b) ≡ ramLen c m
 unfolding mapperAfter
-ram-after c m b = cond-both (λ (k : Mapper). ramLen c k ≡ ramLen c m) (ltb (b .index) 0x8000) (ram-len-after c m (b .index) (b .value)) refl
+ram-after c m b = cond-both (λ (k : Mapper). ramLen c k ≡ ramLen c m) (mapped (b .index)) (ram-len-after c m (b .index) (b .value)) refl
 
 pub let-fit : (c : Cartridge) (m : Mapper) (bs : List ByteWrite) → Bytes bs → Fit (ramLen c m) (letInAll c m bs)
 unfolding letInAll letIn

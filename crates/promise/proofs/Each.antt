@@ -23,7 +23,7 @@ use Rattle.promise.proofs.Bus.{
   unless,
   inWorld,
 }
-use Rattle.promise.proofs.Writes.{in-save-false, write-spared}
+use Rattle.promise.proofs.Writes.{outside-save, write-spared}
 
 -- Transfers
 
@@ -79,13 +79,13 @@ outside-promise x w (call.ReadWord i) e = spared Reading (same w)
 outside-promise x w (call.ReadCgbLcdRam i bank) e = spared Reading (same w)
 outside-promise x w (call.WriteByte i v) e =
     let o = neither (inSave i) false e in
-    unless-spared Other _ w _ _ _ (write-spares x 2 w i v (in-save-false i (o .0)))
+    unless-spared Other _ w _ _ _ (write-spares x 2 w i v (outside-save i (o .0)))
 outside-promise x w (call.WriteWord i v) e =
     let o = neither (inSave i) (inSave (nextIndex i) || false) e in
     let p = neither (inSave (nextIndex i)) false (o .1) in
     unless-spared Other _ w _ _ _
-    (spares-trans (write-spares x 2 w i (v % 256) (in-save-false i (o .0)))
-    (write-spares x 2 _ (nextIndex i) (v / 256) (in-save-false (nextIndex i) (p .0))))
+    (spares-trans (write-spares x 2 w i (v % 256) (outside-save i (o .0)))
+    (write-spares x 2 _ (nextIndex i) (v / 256) (outside-save (nextIndex i) (p .0))))
 outside-promise x w (call.DoDmaTransfer page) e = spared Other (transfer-promise x w .0 page)
 outside-promise x w call.DoHdma e = spared Other (transfer-promise x w .1)
 outside-promise x w (call.State c) e = state-spared w (state-answers (w .state) c)

@@ -11,6 +11,7 @@ use Rattle.mbc.specs.Mbc as mbc
 use Rattle.mbc.specs.Mbc.{cartridgeOf, ramLen}
 use Rattle.mbc.specs.declared.cartridge.Cartridge.{Cartridge}
 use Rattle.mbc.specs.declared.mbc.Mapper.{Mapper}
+use Rattle.memory.specs.Region.{regionOf}
 use Rattle.memory.specs.World.{World}
 use Rattle.savelog.proofs.Laws.{save-within}
 use Rattle.savelog.proofs.Prefix as savelog
@@ -120,5 +121,5 @@ promise l ts z =
     }
 
 pub example : Example
-unfolding letInAll letIn mapperAfter inSave mbc.start mbc.after2 mbc.enable2 mbc.source mbc.ramSource mbc.ramLen
+unfolding letInAll letIn mapperAfter inSave regionOf mbc.start mbc.after2 mbc.enable2 mbc.source mbc.ramSource mbc.ramLen
 example = refl

@@ -95,7 +95,7 @@ module _ (w : World) (g : Good w) where
         (record {
           stays = transfer-stays x w holds 1 k 0;
           spares = transfer-spares x 1 k a 0 w;
-          mapper = transfer-mapper x 1 k b 0 w;
+          mapper = transfer-mapper x 1 k b a 0 w;
         }))
         (λ h. moved-read (refusedWrite x w) 0)
 
@@ -146,7 +146,7 @@ module _ (w : World) (g : Good w) where
   -- a byte write
   made-byte : (x : Fixed) (i v : ℕ) → (inSave i ≡ true → w .state .core .used + width ≤ length (w .log)) → Made (byte i v) w (writeAt x 2 w i v)
   made-byte x i v room =
-      record { stays = write-stays x w holds 2 i v; mapper = write-after x w i v; stores = write-stores x w i v room }
+      record { stays = write-stays x w holds 2 i v; mapper = write-after x w i v room; stores = write-stores x w i v room }
 
 -- a word write: two byte writes
 left-word : (x : Fixed) (w : World) → Good w → (i v : ℕ) → wordRoom (w .state .core .used) (length (w .log)) i ≡ 0

@@ -2,8 +2,7 @@
 use mathlib.Core.Bool.{cond}
 use mathlib.Core.List.{List, [], _∷_, _++_}
 use Prim.Native.Nat.{ℕ}
-use lib.Dec.{ltb}
-use Rattle.mbc.specs.Mbc.{after, answer}
+use Rattle.mbc.specs.Mbc.{mapped, after, answer}
 use Rattle.mbc.specs.declared.cartridge.Cartridge.{Cartridge}
 use Rattle.mbc.specs.declared.mbc.Mapper.{Mapper}
 use Rattle.mbc.specs.declared.mbc.Answer.{Answer}
@@ -22,9 +21,10 @@ grantedAll [] cs = []
 grantedAll (n ∷ ns) [] = []
 grantedAll (n ∷ ns) (c ∷ cs) = granted n c ++ grantedAll ns cs
 
--- "after the earlier writes": a byte write in 0000..7FFF changes the mapper's registers, no other does
+-- "after the earlier writes": a byte write in 0000..7FFF or A000..BFFF, where the bus asks the mapper, leaves the mapper that its rules give; no other
+-- changes it. (One in A000..BFFF that the log has no room for is refused by 2, so it is not among these.)
 unfoldable pub mapperAfter : Cartridge → Mapper → ByteWrite → Mapper
-mapperAfter c m b = cond (ltb (b .index) 0x8000) (after c m (b .index) (b .value)) m
+mapperAfter c m b = cond (mapped (b .index)) (after c m (b .index) (b .value)) m
 
 -- "byte writes to A000..BFFF that the mapper's rules let in, each at the address and with the value that those rules give"
 abbrev pub answered : Answer → List Rec

@@ -13,11 +13,13 @@ use Rattle.image.proofs.OpenLaws.{load-range, load-oam, load-page, open-number,
 use Rattle.image.specs.Load.{loadCall, openCall}
 use Rattle.image.specs.declared.Opened.{Opened}
 use Rattle.mbc.proofs.Bools.{by-cond}
+use Rattle.memory.proofs.Regions.{within}
+use Rattle.memory.specs.Region.{regionOf}
 use Rattle.memory.specs.World.{world, Fixed}
 use Rattle.memory.specs.declared.Core.{Core}
-use Rattle.mmu.proofs.Places.{ready-reaches, read-lent, read-oam, read-register}
-use Rattle.mmu.specs.Access.{Ready, Reaches, lentAt, readByte, readWord}
-use Rattle.mmu.specs.PanDocs.{echo}
+use Rattle.memory.specs.declared.region.Region.the-variants.{Oam, Page}
+use Rattle.mmu.proofs.Places.{ready-reaches, read-by}
+use Rattle.mmu.specs.Access.{Ready, Reaches, readByte, readWord}
 use Rattle.packing.specs.Packing.{Below}
 use Rattle.refusals.proofs.Answers.{both-pass, refused-byte, refused-word, accepted-byte, accepted-word}
 use Rattle.refusals.proofs.Core.{read-lengths}
@@ -49,27 +51,25 @@ module _ (i : List ℕ) {o : Opened} (e : o ≡ openCall i) where
 -- the byte
 
 module _ (x : Fixed) (i v w s : List ℕ) {c : Core} (e : c ≡ loadCall i .state .core) where
-  pub core-reaches : Ready x (world (loadCall i .state) v w s []) → Reaches (c .cartridge) (c .mapper) (c .banks) (x .rom) v w s
+  pub core-reaches : Ready x (world (loadCall i .state) v w s []) → Reaches c (x .rom) v w s
   core-reaches r = rw e (ready-reaches r)
 
-  module _ (index at : ℕ) (q : at ≡ echo index) where
-    pub byte-lent : at < 0xE000 → lentAt (c .cartridge) (c .mapper) (c .banks) (x .rom) v w s at ≡ readByte x (loadCall i .state) v w s index
-    byte-lent h = rw e (read-lent x (loadCall i .state) v w s index at q h)
+  module _ (index : ℕ) (z : loadCall i .number ≡ 0) (b : Below 256 i) where
+    pub byte-oam : regionOf index ≡ Oam → getD i (index - 0xFE00) 0 ≡ readByte x (loadCall i .state) v w s index
+    byte-oam q =
+        let h = within index q in
+        read-by x (loadCall i .state) v w s index q (sym (load-oam i z b (index - 0xFE00) (omega (arith, h .0, h .1))))
 
-    module _ (z : loadCall i .number ≡ 0) (b : Below 256 i) where
-      pub byte-oam : 0xFE00 ≤ at → at < 0xFF00 → getD i (at - 0xFE00) 0 ≡ readByte x (loadCall i .state) v w s index
-      byte-oam l h =
-          sym (load-oam i z b (at - 0xFE00) (omega arith)) ∙ read-oam x (loadCall i .state) v w s index at q (omega arith) h
-
-      pub byte-page : 0xFF00 ≤ at → at < 65536
-          → shownAs (getD i (at - 0xFE00) 0) (c .banks .colour) (c .lcd) (c .joypad .state) (x .sound) (at - 0xFF00)
-          ≡ readByte x (loadCall i .state) v w s index
-      unfolding readRegister
-      byte-page l h =
-          let p : 256 + (at - 0xFF00) ≡ at - 0xFE00 = omega arith in
-          let g : getD i (at - 0xFE00) 0 ≡ getD (loadCall i .state .page) (at - 0xFF00) 0 =
-          ap (λ (k : ℕ). getD i k 0) (sym p) ∙ sym (load-page i z b (at - 0xFF00) (omega arith)) in
-          rw (g, e) (read-register x (loadCall i .state) v w s index at q l)
+    pub byte-page : regionOf index ≡ Page → index < 65536
+        → shownAs (getD i (index - 0xFE00) 0) (c .banks .colour) (c .lcd) (c .joypad .state) (x .sound) (index - 0xFF00)
+        ≡ readByte x (loadCall i .state) v w s index
+    unfolding readRegister
+    byte-page q h =
+        let l : 0xFF00 ≤ index = within index q in
+        let p : 256 + (index - 0xFF00) ≡ index - 0xFE00 = omega arith in
+        let g : getD i (index - 0xFE00) 0 ≡ getD (loadCall i .state .page) (index - 0xFF00) 0 =
+        ap (λ (k : ℕ). getD i k 0) (sym p) ∙ sym (load-page i z b (index - 0xFF00) (omega arith)) in
+        read-by x (loadCall i .state) v w s index q (rw (g, e))
 
 -- the answer
 

@@ -10,6 +10,7 @@ ghost use Rattle.refusals.specs.Refusal.{orElse, readRefused};
 ghost use Rattle.entry.specs.Entry.{given, readEntry};
 use image::Opened;
 use memory::Core;
+use memory::Region;
 use refusals::Byte;
 use refusals::Word;
 
@@ -50,28 +51,29 @@ fn byte_at(
     requires { ⌜ ((loadCall (now image) .number ≡ 0) × (core ≡ loadCall (now image) .state .core)) × Ready (fixed (now rom) (now sound)) (world (loadCall (now image) .state) (now vram) (now wram) (now save) []) ⌝ }
     ensures { λ r. ⌜ r ≡ readByte (fixed (now (rom .entry)) (now (sound .entry))) (loadCall (now (image .entry)) .state) (now (vram .entry)) (now (wram .entry)) (now (save .entry)) index ⌝ }
 {
-    let at = mmu::regions::lowered(index);
-    let banks = core.banks;
-    if at < 0xE000 {
-        let cartridge = core.cartridge;
-        let mapper = core.mapper;
-        return mmu::regions::read_lent(cartridge, mapper, banks, rom, vram, wram, save, at);
+    let region = memory::region_of(index);
+    match region {
+        Region::Oam => {
+            let i = (index - 0xFE00) as usize;
+            image[i]
+        }
+        Region::Page => {
+            let i = (index - 0xFE00) as usize;
+            let byte = image[i];
+            let banks = core.banks;
+            let lcd = core.lcd;
+            let joypad = core.joypad;
+            registers::page::shown(
+                byte,
+                banks.colour,
+                lcd,
+                joypad.state,
+                sound,
+                (index - 0xFF00) as u8,
+            )
+        }
+        _ => mmu::regions::read_lent(core, rom, vram, wram, save, region, index),
     }
-    let i = (at - 0xFE00) as usize;
-    let byte = image[i];
-    if at < 0xFF00 {
-        return byte;
-    }
-    let lcd = core.lcd;
-    let joypad = core.joypad;
-    registers::page::shown(
-        byte,
-        banks.colour,
-        lcd,
-        joypad.state,
-        sound,
-        (at - 0xFF00) as u8,
-    )
 }
 
 pub fn read_byte(

@@ -5,9 +5,12 @@ use lib.Dec.{eqb, ltb, leb}
 use lib.ListN.{length}
 use Rattle.mbc.specs.Mbc.{romLen, ramLen}
 use Rattle.memory.specs.Ranges.{inRange, vramLen, wramLen, soundLen}
+use Rattle.memory.specs.Region.{regionOf}
 use Rattle.memory.specs.World.{World, Fixed}
 use Rattle.memory.specs.declared.Core.{Core}
 use Rattle.memory.specs.declared.Memory.{Memory}
+use Rattle.memory.specs.declared.region.Region.{Region}
+use Rattle.memory.specs.declared.region.Region.the-variants.{Rom, Vram, Save, Wram, Oam, Page}
 use Rattle.numbers.specs.Numbers.{done, owed, noRoom, outOfRange, wrongLength, tooManyCycles, outside}
 use Rattle.savelog.specs.Log.{logLimit, full, useInRange}
 
@@ -53,9 +56,17 @@ lentRefused c rom vram wram save sound log = orElse (lengthsRefused c rom vram w
 unfoldable pub writeRefused : Memory → ℕ → ℕ → ℕ → ℕ → ℕ → ℕ → ℕ
 writeRefused m rom vram wram save sound log = orElse (stateRefused m log) (lentRefused (m .core) rom vram wram save sound log)
 
--- an index of the save's window, A000..BFFF
+-- an index of the save's window
+abbrev pub isSave : Region → Bool
+isSave Rom = false
+isSave Vram = false
+isSave Save = true
+isSave Wram = false
+isSave Oam = false
+isSave Page = false
+
 unfoldable pub inSave : ℕ → Bool
-inSave i = leb 0xA000 i && ltb i 0xC000
+inSave i = isSave (regionOf i)
 
 -- an index of the sound window, FF10..FF3F
 unfoldable pub inSound : ℕ → Bool

@@ -4,6 +4,7 @@ ghost use Rattle.refusals.specs.Refusal.{orElse, stateRefused, refusedSt
 use interrupt::Pending;
 use memory::Core;
 use memory::Memory;
+use memory::Region;
 
 mod door;
 
@@ -178,10 +179,10 @@ pub fn write_refused(
 pub fn in_save(index: u16) -> bool
     ensures { λ r. ⌜ r ≡ inSave index ⌝ }
 {
-    if index < 0xA000 {
-        return false;
+    match memory::region_of(index) {
+        Region::Save => true,
+        _ => false,
     }
-    index < 0xC000
 }
 
 // The sound window.

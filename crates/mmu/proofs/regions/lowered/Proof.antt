@@ -1,4 +1,4 @@
--- By cases of the index; an echo's is 2000 hex lower, and what is left at E000 or above stands at FE00 or above.
+-- By the index; an echo's is 2000 hex lower.
 use Rattle.mmu.specs.PanDocs.{echo}
 use Rattle.rules.proofs.Tests.{tests}
 use borrow.Author.Needs.{needs}
@@ -16,9 +16,5 @@ returns-2 : tie.Need-returns-2
 unfolding echo
 returns-2 c = (search tests, search needs)
 
-returns-3 : tie.Need-returns-3
-unfolding echo
-returns-3 c = (search tests, search needs)
-
 pub lowered-spec : {M : Type 1} → statement M
-lowered-spec = tie.close (tie.spec returns sub-result returns-2 returns-3)
+lowered-spec = tie.close (tie.spec returns sub-result returns-2)

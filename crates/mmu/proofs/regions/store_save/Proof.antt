@@ -25,7 +25,7 @@ enum-told : tie.Need-enum-told
 enum-told c = search needs
 
 returns-2 : tie.Need-returns-2
-returns-2 c = λ m p q e. save-none m p q e _ _ _ _ (sym (c .before .before .before .before .full .ensures) ∙ c .before .before .before .if1 .left) (ap (λ (k : Written). k .answer) (sym (c .before .before .write .ensures)) ∙ c .enum-told .given .1)
+returns-2 c = λ m p q e. save-none m p q e _ _ _ _ (sym (c .before .before .before .before .full .ensures) ∙ c .before .before .before .if1 .left) (ap (λ (k : Written). k .mapper) (c .before .before .write .ensures)) (ap (λ (k : Written). k .answer) (sym (c .before .before .write .ensures)) ∙ c .enum-told .given .1)
 
 slice-write-save : tie.Need-slice-write-save
 slice-write-save c = let b = stored-within _ _ _ _ _ _ (c .before .before .before .before .before .before .before .before .fits .value .fits) (ap (λ (k : Written). k .answer) (sym (c .before .before .before .write .ensures)) ∙ c .before .answer .given .1) in omega (arith, b .0, c .before .before .before .before .before .before .before .before .pre .1 .1 .0)
@@ -40,7 +40,7 @@ same-length-2 : tie.Need-same-length-2
 same-length-2 c = search needs
 
 returns-3 : tie.Need-returns-3
-returns-3 c = λ m p q e. save-stored m p q e _ _ _ _ _ _ (sym (c .before .before .before .before .before .before .before .before .before .full .ensures) ∙ c .before .before .before .before .before .before .before .before .if1 .left) (ap (λ (k : Written). k .answer) (sym (c .before .before .before .before .before .before .before .write .ensures)) ∙ c .before .before .before .before .before .answer .given .1) (c .before .before .append .ensures .1) refl (c .before .before .append .ensures .0)
+returns-3 c = λ m p q e. save-stored m p q e _ _ _ _ _ _ (sym (c .before .before .before .before .before .before .before .before .before .full .ensures) ∙ c .before .before .before .before .before .before .before .before .if1 .left) (ap (λ (k : Written). k .mapper) (c .before .before .before .before .before .before .before .write .ensures)) (ap (λ (k : Written). k .answer) (sym (c .before .before .before .before .before .before .before .write .ensures)) ∙ c .before .before .before .before .before .answer .given .1) (c .before .before .append .ensures .1) refl (c .before .before .append .ensures .0)
 
 pub store-save-spec : {M : Type 1} → statement M
 store-save-spec =
