@@ -26,8 +26,8 @@ pub fn on_state(image: &mut [u8], call: StateCall) -> u8
     if 1 < done.number {
         return done.number;
     }
-    let after = done.memory;
-    image::store(after, image);
+    let next = done.memory;
+    image::store(next, image);
     done.number
 }
 
