@@ -5,7 +5,6 @@ ghost use lib.ListN.{length};
 ghost use Rattle.memory.specs.World.{world};
 ghost use Rattle.bus_host.specs.Host.{lengthsIn, lentParts};
 ghost use Rattle.bus_host.specs.Digest.{mixed, digest, colorBytes, wordBytes, signedBytes, logBytes, memoryBytes};
-use crate::complement::unsigned;
 use crate::host::least;
 use crate::host::lengths_in;
 use lcd::Lcd;
@@ -14,6 +13,7 @@ use lines::number::flag;
 use lines::number::high;
 use lines::number::low;
 use memory::Memory;
+use packing::complement_of;
 use palette::Color;
 
 fn of_byte(h: u32, byte: u8) -> u32
@@ -60,7 +60,7 @@ fn of_word(h: u32, word: u16) -> u32
 
 // A signed number of four bytes, as its two's complement.
 fn of_signed(h: u32, number: i32) -> u32 {
-    let bits = unsigned(number);
+    let bits = complement_of(number);
     of_word(of_word(h, (bits / 65536) as u16), (bits % 65536) as u16)
 }
 

@@ -7,7 +7,6 @@ use lib.Dec.{eqb, ltb, leb}
 use lib.ListN.{length}
 use borrow.Author.Tests.{eqb-true, eqb-false, ltb-false}
 use Rattle.bus.specs.Calls.{Outcome, outcome, unless}
-use Rattle.mbc.proofs.Bools.{by-cond}
 use Rattle.memory.specs.Ranges.{inRange}
 use Rattle.memory.specs.World.{World, Fixed}
 use Rattle.memory.specs.declared.Memory.{Memory}
@@ -29,6 +28,7 @@ use Rattle.refusals.specs.Refusal.{
   wordRoom,
   inSound,
 }
+use Rattle.rules.proofs.Tests.{untrue, by-cond}
 use Rattle.savelog.specs.Log.{width, logLimit}
 use Rattle.dispatch.specs.Kinds.{refused}
 
@@ -91,7 +91,7 @@ module _ (x : Fixed) (w : World) where
 no-room : (a b : Bool) → _≡_ {A = ℕ} (cond (a && b) 2 0) 0 → a ≡ true → b ≡ false
 no-room true true e t = absurd (omega arith)
 no-room true false e t = refl
-no-room false b e t = let z : _≡_ {A = ℕ} 0 1 = cc in absurd (omega arith)
+no-room false b e t = untrue t
 
 module _ (used log i : ℕ) where
   pub byte-fits : byteRoom used log i ≡ 0 → inSave i ≡ true → used + width ≤ log

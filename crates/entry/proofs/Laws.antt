@@ -22,7 +22,6 @@ use Rattle.dispatch.specs.declared.Performed.{Performed}
 use Rattle.dispatch.specs.declared.StateCall.{StateCall}
 use Rattle.image.specs.Load.{storable, sound, fieldsIn, valuesOf, stateOf, loaded, loadCall}
 use Rattle.image.specs.declared.Loaded.{Loaded}
-use Rattle.mbc.proofs.Bools.{by-cond}
 use Rattle.mbc.specs.Mbc as mbc
 use Rattle.mbc.specs.declared.cartridge.Cartridge.{Cartridge}
 use Rattle.mbc.specs.declared.mbc.Answer.the-variants.{NotStored}
@@ -41,7 +40,7 @@ use Rattle.refusals.specs.Refusal.{refusedWrite, refusedState, writeRefused}
 use Rattle.refusals.specs.declared.Done.{Done}
 use Rattle.registers.proofs.Kept.{Kept}
 use Rattle.registers.specs.Transfers.{oamCopy, blockCopy}
-use Rattle.rules.proofs.Tests.{both-true}
+use Rattle.rules.proofs.Tests.{both-true, by-cond}
 use Rattle.savelog.specs.Log.{width, logLimit, useInRange}
 
 -- an image that was loaded

@@ -184,7 +184,7 @@ module _ (m : Memory) (t : Typed m) (h : storable m ≡ true) where
 
 -- A byte of OAM or page: the first 512 bytes are these
 
-below-set : (k : ℕ) (l : List ℕ) (i v : ℕ) → Below k l → v < k → Below k (set l i v)
+pub below-set : (k : ℕ) (l : List ℕ) (i v : ℕ) → Below k l → v < k → Below k (set l i v)
 below-set k [] i v h b j = h j
 below-set k (x ∷ l) zero v h b zero = b
 below-set k (x ∷ l) zero v h b (suc j) = h (suc j)

@@ -12,11 +12,10 @@ use mir.Syntax.{w32}
 use mir.Val.{ofZ, toZ, SFits}
 use mir.Facts.{fits-ofZ}
 use borrow.Author.Tests.{eqb-true, leb-true}
-use Rattle.rules.proofs.Tests.{both-true}
+use Rattle.rules.proofs.Tests.{both-true, or-cases}
 use Rattle.packing.specs.Packing.{Below, bits, packed, unpacked, repacked, eights, fives}
 use Rattle.packing.proofs.Laws.{Fit, packed-lt, below-fit}
 use Rattle.mbc.specs.Mbc as mbc
-use Rattle.mbc.proofs.Bools.{or-cases}
 use Rattle.mbc.proofs.Ranges.{rom-below, banks-most, mbc1-facts}
 use Rattle.mbc.specs.declared.cartridge.Cartridge.{Cartridge}
 use Rattle.mbc.specs.declared.mbc.Mapper.{Mapper}

@@ -8,6 +8,7 @@ use native.Mathlib.Omega.{arith}
 use native.Mathlib.Nat.{mod-lt, mod-le}
 use lib.Dec.{eqb, ltb, lit≤}
 use borrow.Author.Tests.{ltb-true, lt-ltb, le-ltb, le-leb, eq-eqb}
+use Rattle.rules.proofs.Tests.{by-cond}
 use Rattle.mbc.specs.PanDocs.{enables, zeroAsOne, mbc1Bank, mbc2Bank, twoBits, modeBit, bit8, masked, romAddress, halfByte}
 use Rattle.mbc.specs.Mbc.{oneOf, implies, ramBanks, ramLen, hasBanks, described, held, suits, inRange, mapped, start1, start2, romBank, ramSource, source, storedAt, answer, withRom, withRam, withMode, withEnabled, withHigh, enable1, low1, high1, mode1, after1, enable2, select2, after2, after, cartridgeOf}
 use Rattle.mbc.specs.declared.cartridge.Cartridge.{Cartridge}
@@ -19,7 +20,7 @@ use Rattle.mbc.specs.declared.mbc.Source.{Source}
 use Rattle.mbc.specs.declared.mbc.Source.the-variants.{Rom, Save, Half, Fixed}
 use Rattle.mbc.specs.declared.mbc.Answer.{Answer}
 use Rattle.mbc.specs.declared.mbc.Answer.the-variants.{Stored, NotStored}
-use Rattle.mbc.proofs.Bools.{and-left, and-right, by-cond, weaker}
+use Rattle.mbc.proofs.Bools.{and-left, and-right, weaker}
 use Rattle.mbc.proofs.Ranges.{Mbc1Facts, mbc1-facts, some-banks, mode-needs, has-ram, rom-below}
 
 -- the places that a mapper answers for

@@ -7,12 +7,13 @@ use Prim.Native.Nat.{ℕ, _<_, _≤_}
 use native.Mathlib.Omega.{arith}
 use lib.Dec.{eqb, ltb, leb, lit≤}
 use borrow.Author.Tests.{ltb-true, leb-true, eqb-true, lt-ltb, le-ltb}
+use Rattle.rules.proofs.Tests.{or-cases, by-cond}
 use Rattle.mbc.specs.Mbc.{oneOf, implies, hasBanks, hasCode, described, suits, held, inRange, mapped, ramBanks, romBank, ramBank1, lengths, romLen, ramLen, start, start1, start2}
 use Rattle.mbc.specs.declared.cartridge.Cartridge.{Cartridge}
 use Rattle.mbc.specs.declared.mbc1.Mbc1.{Mbc1 as Registers1}
 use Rattle.mbc.specs.declared.mbc.Mapper.{Mapper}
 use Rattle.mbc.specs.declared.mbc.Mapper.the-variants.{RomOnly, Mbc1, Mbc2}
-use Rattle.mbc.proofs.Bools.{and-left, and-right, or-cases, implied, from, by-cond, and-implied}
+use Rattle.mbc.proofs.Bools.{and-left, and-right, implied, from, and-implied}
 
 pub banks-most : (most : ℕ) (c : Cartridge) → hasBanks most c ≡ true → c .banks ≤ most
 unfolding hasBanks

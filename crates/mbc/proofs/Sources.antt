@@ -5,6 +5,7 @@ use Prim.Native.Nat.{ℕ, _<_, _≤_}
 use native.Mathlib.Omega.{arith}
 use lib.Dec.{eqb, ltb, lit<}
 use borrow.Author.Tests.{ltb-true, ltb-false, lt-ltb, le-ltb}
+use Rattle.rules.proofs.Tests.{by-cond}
 use Rattle.mbc.specs.PanDocs.{romAddress, ramAddress}
 use Rattle.mbc.specs.Mbc.{romLen, ramLen, inRange, mapped, romBank, ramBank1, ramSource, source}
 use Rattle.mbc.specs.declared.cartridge.Cartridge.{Cartridge}
@@ -12,7 +13,6 @@ use Rattle.mbc.specs.declared.mbc.Mapper.{Mapper}
 use Rattle.mbc.specs.declared.mbc.Mapper.the-variants.{RomOnly, Mbc1, Mbc2}
 use Rattle.mbc.specs.declared.mbc.Source.{Source}
 use Rattle.mbc.specs.declared.mbc.Source.the-variants.{Rom, Save, Half, Fixed}
-use Rattle.mbc.proofs.Bools.{by-cond}
 use Rattle.mbc.proofs.Ranges.{some-banks, in-ram, rom-below, rom-only-code, has-ram, some-ram, ram-below}
 
 pub in-first : (c : Cartridge) (m : Mapper) (index : ℕ) → index < 0x4000 → source c m index ≡ Rom index

@@ -8,8 +8,7 @@ use native.Mathlib.Omega.{arith}
 use lib.Dec.{eqb, ltb, leb}
 use lib.ListN.{length, set, length-set, length-append, length-take, length-drop}
 use borrow.Author.Tests.{ltb-false, eqb-true, eq-eqb, ne-eqb, le-leb}
-use Rattle.rules.proofs.Tests.{both-true}
-use Rattle.mbc.proofs.Bools.{by-cond}
+use Rattle.rules.proofs.Tests.{both-true, by-cond, cond-both}
 use Rattle.mbc.proofs.Laws.{ram-len-after}
 use Rattle.mbc.specs.Mbc.{answer}
 use Rattle.mbc.specs.declared.mbc.Answer.{Answer}
@@ -17,7 +16,7 @@ use Rattle.mbc.specs.declared.mbc.Answer.the-variants.{Stored, NotStored}
 use Rattle.memory.proofs.Laws.{used-range, mapper-kept}
 use Rattle.memory.specs.World.{World, world, Fixed}
 use Rattle.memory.specs.declared.Memory.{Memory}
-use Rattle.registers.proofs.Kept.{Kept, cond-both, oam-kept, write-kept, finished-kept}
+use Rattle.registers.proofs.Kept.{Kept, oam-kept, write-kept, finished-kept}
 use Rattle.registers.specs.Transfers.{copyOf, finished}
 use Rattle.registers.specs.declared.transfers.Copy.{Copy}
 use Rattle.registers.specs.declared.transfers.Finish.{Finish}

@@ -8,8 +8,7 @@ use native.Mathlib.Omega.{arith}
 use lib.Dec.{ltb, lit≤}
 use lib.ListN.{length, getD, set}
 use borrow.Author.Tests.{lt-ltb, le-ltb, ltb-true, ltb-false}
-use Rattle.mbc.proofs.Bools.{by-cond}
-use Rattle.rules.proofs.Tests.{cond-true, cond-false}
+use Rattle.rules.proofs.Tests.{cond-true, cond-false, by-cond, cond-both}
 use Rattle.mbc.specs.Mbc.{readAt, answer, inRange}
 use Rattle.mbc.specs.declared.cartridge.Cartridge.{Cartridge}
 use Rattle.mbc.specs.declared.mbc.Answer.{Answer}
@@ -19,7 +18,6 @@ use Rattle.memory.proofs.Laws.{range-banks, range-mapper, vram-fits, wram-fits}
 use Rattle.memory.specs.World.{World, world, Fixed, withOam, withUsed}
 use Rattle.memory.specs.declared.Banks.{Banks}
 use Rattle.memory.specs.declared.Memory.{Memory}
-use Rattle.registers.proofs.Kept.{cond-both}
 use Rattle.registers.specs.Page.{readRegister, writeRegister}
 use Rattle.savelog.specs.Log.{width, appended}
 use Rattle.mmu.specs.PanDocs.{echo, vramAt, wramAt}

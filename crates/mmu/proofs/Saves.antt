@@ -10,12 +10,12 @@ use Rattle.hdma.specs.Hdma.{destinationUsed, starts}
 use Rattle.hdma.specs.declared.Hdma.{Hdma}
 use Rattle.hdma.specs.declared.Start.{Start}
 use Rattle.hdma.specs.declared.Start.the-variants as start
-use Rattle.mbc.proofs.Bools.{by-cond}
 use Rattle.memory.specs.World.{World, Fixed}
 use Rattle.memory.specs.declared.Memory.{Memory}
-use Rattle.registers.proofs.Kept.{Kept, cond-both, oam-kept, write-kept, finished-kept}
+use Rattle.registers.proofs.Kept.{Kept, oam-kept, write-kept, finished-kept}
 use Rattle.registers.specs.Transfers.{oamCopy, blockCopy, generalCopy, startedCopy, startCopy, copyOf, nothing, finished}
 use Rattle.registers.specs.declared.transfers.Copy.{Copy}
+use Rattle.rules.proofs.Tests.{by-cond, cond-both}
 use Rattle.mmu.specs.PanDocs.{echo}
 use Rattle.mmu.specs.Access.{inState, putAt, put}
 use Rattle.mmu.specs.Write.{copyBy, transferred, writeAt}

@@ -4,8 +4,7 @@ use mathlib.Core.Path.{_≡_, refl, sym}
 use Prim.Native.Nat.{ℕ, _/_, _%_}
 use lib.Dec.{eqb}
 use Rattle.dispatch.proofs.Numbered.{by-unless}
-use Rattle.dispatch.proofs.States.{not-done, Answers, reads, changes, clears, state-answers}
-use Rattle.mbc.proofs.Bools.{by-cond}
+use Rattle.dispatch.proofs.States.{Answers, reads, changes, clears, state-answers}
 use Rattle.memory.specs.World.{World, Fixed}
 use Rattle.memory.specs.declared.Memory.{Memory}
 use Rattle.mmu.proofs.Saves.{Spares, Clear, spares-trans, write-spares, transfer-spares, oam-clear, block-clear}
@@ -13,6 +12,7 @@ use Rattle.mmu.specs.Access.{put}
 use Rattle.mmu.specs.Write.{transferred, writeAt, wordAt}
 use Rattle.registers.specs.Transfers.{oamCopy, blockCopy}
 use Rattle.registers.specs.declared.transfers.Copy.{Copy}
+use Rattle.rules.proofs.Tests.{untrue, by-cond}
 use Rattle.promise.specs.Bus.{Outcome, outcome, step, inSave, nextIndex, Performed, Done, Kind, Reading, Clearing, Other, kindOf}
 use Rattle.promise.specs.Bus.call as call
 use Rattle.promise.specs.Calls.{writesOf}
@@ -59,7 +59,7 @@ unless-spared k n w m v u s =
     by-unless (λ (o : Outcome). Spared k w (o .after)) n w _ (λ z. spared k (untouched w u s)) (λ h. spared k (same w))
 
 neither : (a b : Bool) → (a || b) ≡ false → (a ≡ false) × (b ≡ false)
-neither true b e = not-done (sym e)
+neither true b e = untrue (sym e)
 neither false b e = (refl, e)
 
 changed-used : (w : World) (n : ℕ) (next : Memory) → next .used ≡ w .state .used → changed n (w .state) next .memory .used ≡ w .state .used

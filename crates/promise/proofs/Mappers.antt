@@ -10,7 +10,6 @@ use Rattle.hdma.specs.Hdma.{destinationUsed, starts}
 use Rattle.hdma.specs.declared.Hdma.{Hdma}
 use Rattle.hdma.specs.declared.Start.{Start}
 use Rattle.hdma.specs.declared.Start.the-variants as start
-use Rattle.mbc.proofs.Bools.{by-cond}
 use Rattle.mbc.specs.Mbc.{answer}
 use Rattle.mbc.specs.declared.mbc.Answer.{Answer}
 use Rattle.mbc.specs.declared.mbc.Answer.the-variants.{Stored, NotStored}
@@ -19,9 +18,10 @@ use Rattle.memory.specs.declared.Memory.{Memory}
 use Rattle.mmu.specs.PanDocs.{echo}
 use Rattle.mmu.specs.Access.{saved, savePut, putAt, put}
 use Rattle.mmu.specs.Write.{copyBy, transferred, writeAt}
-use Rattle.registers.proofs.Kept.{cond-both, oam-kept, write-kept, finished-kept}
+use Rattle.registers.proofs.Kept.{oam-kept, write-kept, finished-kept}
 use Rattle.registers.specs.Transfers.{oamCopy, blockCopy, generalCopy, startedCopy, startCopy, copyOf, nothing}
 use Rattle.registers.specs.declared.transfers.Copy.{Copy}
+use Rattle.rules.proofs.Tests.{by-cond, cond-both}
 use Rattle.savelog.specs.Log.{width}
 
 abbrev pub SameMapper : World → World → Type 0

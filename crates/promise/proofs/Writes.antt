@@ -8,7 +8,6 @@ use lib.Dec.{ltb, leb}
 use lib.ListN.{length, take, drop, length-append}
 use lib.Seq.{take-at, length-take-le}
 use borrow.Author.Tests.{ltb-true, ltb-false, leb-true, lt-ltb, le-ltb, le-leb}
-use Rattle.mbc.proofs.Bools.{by-cond}
 use Rattle.mbc.specs.Mbc.{answer}
 use Rattle.mbc.specs.declared.mbc.Mapper.{Mapper}
 use Rattle.mbc.specs.declared.mbc.Answer.{Answer}
@@ -21,7 +20,7 @@ use Rattle.mmu.specs.Access.{saved, savePut, put, putAt}
 use Rattle.mmu.specs.PanDocs.{echo}
 use Rattle.mmu.specs.Write.{writeAt}
 use Rattle.registers.specs.Transfers.{copyOf}
-use Rattle.rules.proofs.Tests.{both-true}
+use Rattle.rules.proofs.Tests.{both-true, by-cond}
 use Rattle.savelog.specs.Log.{Rec, width, bytesOf, recordBytes, appended, applyAll}
 use Rattle.promise.specs.Bus.{inSave}
 use Rattle.promise.specs.Calls.{byte}

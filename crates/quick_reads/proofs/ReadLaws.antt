@@ -12,7 +12,6 @@ use Rattle.dispatch.specs.declared.Call.the-variants as call
 use Rattle.image.proofs.OpenLaws.{load-range, load-oam, load-page, open-number, open-core}
 use Rattle.image.specs.Load.{loadCall, openCall}
 use Rattle.image.specs.declared.Opened.{Opened}
-use Rattle.mbc.proofs.Bools.{by-cond}
 use Rattle.memory.specs.Ranges.{coreOf}
 use Rattle.memory.specs.World.{world, Fixed}
 use Rattle.memory.specs.declared.Core.{Core}
@@ -26,6 +25,7 @@ use Rattle.refusals.specs.Refusal.{orElse, readRefused, refusedRead, coreLength
 use Rattle.registers.specs.Page.{shownAs, readRegister}
 use Rattle.entry.specs.Entry.{given, readEntry}
 use Rattle.entry.proofs.Entries.{unloaded-read, byte-read, word-read}
+use Rattle.rules.proofs.Tests.{by-cond}
 
 -- the number: of the image first, then of the lengths
 

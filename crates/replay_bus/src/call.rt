@@ -1,11 +1,11 @@
 // The call that a letter and its input name.
 ghost use Prim.Native.Nat.{_≤_};
 use crate::line::Line;
-use bus_host::complement::signed;
 use dispatch::Call;
 use dispatch::StateCall;
 use lines::number::long;
 use lines::number::word;
+use packing::signed_of;
 
 pub enum Made {
     Some(Call),
@@ -66,7 +66,7 @@ fn of_index(letter: u8, index: u16, high: u8, low: u8) -> Made {
 fn signed_at(given: &[u8; 52], at: usize) -> i32
     requires { ⌜ at ≤ 48 ⌝ }
 {
-    signed(long(
+    signed_of(long(
         word(given[at], given[at + 1]),
         word(given[at + 2], given[at + 3]),
     ))
