@@ -88,7 +88,7 @@ static inline uint16_t pouch_bus_do_hdma(struct pouch_bus *bus)
 /* Appends the log's new bytes to the journal, a file opened with O_APPEND, and clears the log once over half of it is used and all of that is in the journal.
  * true: every stored byte is in the file, and outlives this process; fsync makes it outlive the machine. false: bus.number refuses, or the file did not
  * take all of it (errno); nothing is lost, and the next call goes on with the first byte that is not there.
- * After number 2 of a write: keep, and write again. A log of 12 bytes or more then has room. */
+ * After number 2 of a write: keep, and write again. A log of four records or more then has room. */
 static inline bool pouch_bus_keep(struct pouch_bus *bus, int journal)
 {
     uint16_t used;
@@ -121,10 +121,11 @@ static inline size_t pouch_journal_len(const uint8_t *journal, size_t len)
  * before the damaged one, so recover on a copy. */
 static inline uint8_t pouch_bus_recover(uint8_t *save, size_t save_len, const uint8_t *journal, size_t journal_len)
 {
+    const size_t most = POUCH_LOG_LEN_MAX / POUCH_RECORD_LEN * POUCH_RECORD_LEN;
     uint8_t number = POUCH_DONE;
     journal_len = pouch_journal_len(journal, journal_len);
     do {
-        size_t part = journal_len < POUCH_LOG_LEN_MAX ? journal_len : POUCH_LOG_LEN_MAX;
+        size_t part = journal_len < most ? journal_len : most;
         number = pouch_recover(save, save_len, journal, part);
         journal += part;
         journal_len -= part;

@@ -6,13 +6,13 @@
  *
  * What the host owns and lends for the time of a call:
  *
- *   image   the state of the bus, 665 bytes. Made by pouch_fresh, changed by the calls. It is plain data: the host may copy it, store it, put it back
- *           (with the memories as they were then; what that means for save and log is in README.md beside this file).
+ *   image   the state of the bus, POUCH_IMAGE_LEN bytes. Made by pouch_fresh, changed by the calls. It is plain data: the host may copy it, store it,
+ *           put it back (with the memories as they were then; what that means for save and log is in README.md beside this file).
  *   rom     the cartridge's ROM: N banks of 16,384 bytes.
  *   vram    video memory: 8,192 bytes, in colour 16,384 (bank 0, then bank 1).
  *   wram    work memory: 8,192 bytes, in colour 32,768 (banks 0 to 7).
  *   save    the cartridge's RAM: 0, 512, 8,192 or 32,768 bytes, as the cartridge has.
- *   log     0 to 65,535 bytes. The image says how many of them are used: pouch_log_used.
+ *   log     0 to POUCH_LOG_LEN_MAX bytes. The image says how many of them are used: pouch_log_used.
  *   sound   what FF10..FF3F read now: 48 bytes, which the host's sound part keeps.
  *
  * Rules for the host, which no call can check:
@@ -27,7 +27,7 @@
  * Each call gives back a number (enum pouch_number). 0 and 1 say that it is done. Any other refuses: then no byte of what was lent is changed, and
  * a `value` is set to 0. Where several refusals are due, the first in this order is given, and the comments below name them in it:
  *
- *   4  the image's length is not 665
+ *   4  the image's length is not POUCH_IMAGE_LEN
  *   3  the image's contents are out of range (pouch_fresh: the cartridge's description is); or the log's use is beyond the lent log
  *   4  another lent length is not what it must be
  *   5  too many cycles
@@ -117,7 +117,7 @@ uint8_t pouch_fresh(
     size_t vram_len, uint8_t *wram, size_t wram_len, const uint8_t *save, size_t save_len, const uint8_t *log, size_t log_len, const uint8_t *sound,
     size_t sound_len);
 
-/* The number of log bytes that are used, a multiple of 3: records of what was stored since the log was last cleared, in order.
+/* The number of log bytes that are used, a multiple of POUCH_RECORD_LEN: records of what was stored since the log was last cleared, in order.
  * 0; 4, 3 image. */
 uint8_t pouch_log_used(const uint8_t *image, size_t image_len, uint16_t *value);
 
@@ -126,8 +126,8 @@ uint8_t pouch_log_used(const uint8_t *image, size_t image_len, uint16_t *value);
 uint8_t pouch_clear_log(uint8_t *image, size_t image_len);
 
 /* Recovery: stores the log's records in the save, in order. Takes no image. Copies of a log that was cleared in between are given one by one, in order.
- * 1 or 2 last bytes, a record that was cut, are ignored.
- * 0; 4 save_len is not 0, 512, 8,192 or 32,768, or log_len is over 65,535; 6 a whole record begins with a 0 bit or names no byte of this save. */
+ * Last bytes that are no whole record are ignored.
+ * 0; 4 save_len is not 0, 512, 8,192 or 32,768, or log_len is over POUCH_LOG_LEN_MAX; 6 a whole record begins with a 0 bit or names no byte of this save. */
 uint8_t pouch_recover(uint8_t *save, size_t save_len, const uint8_t *log, size_t log_len);
 
 /* The processor's reads and writes */
@@ -159,16 +159,16 @@ uint8_t pouch_mapper_read(
  * 0; 4, 3 image; 7 index outside 0000..7FFF and A000..BFFF. */
 uint8_t pouch_mapper_write(uint8_t *image, size_t image_len, uint16_t index, uint8_t byte, uint32_t *value);
 
-/* The processor writes a byte: into a memory, a register, or the mapper. A save byte that the mapper lets in is stored in save and logged, 3 bytes of the
- * log each, also when its value is the same. A write to FF46 or FF55 runs its transfer within the call; no transfer writes to the save.
- * 0; 1 index in FF10..FF3F; 4, 3 image or log's use; 4 another length; 2 index in A000..BFFF (also where the mapper stores nothing) and under 3 log bytes
- * are free. */
+/* The processor writes a byte: into a memory, a register, or the mapper. A save byte that the mapper lets in is stored in save and logged, one record
+ * each, also when its value is the same. A write to FF46 or FF55 runs its transfer within the call; no transfer writes to the save.
+ * 0; 1 index in FF10..FF3F; 4, 3 image or log's use; 4 another length; 2 index in A000..BFFF (also where the mapper stores nothing) and no room for a
+ * record. */
 uint8_t pouch_write_byte(
     uint8_t *image, size_t image_len, const uint8_t *rom, size_t rom_len, uint8_t *vram, size_t vram_len, uint8_t *wram, size_t wram_len, uint8_t *save,
     size_t save_len, uint8_t *log, size_t log_len, const uint8_t *sound, size_t sound_len, uint16_t index, uint8_t byte);
 
 /* Two byte writes: the low byte at `index`, then the high byte at the next index; FFFF is followed by 0000.
- * 0; 1 one of both in FF10..FF3F; 4, 3 image or log's use; 4 another length; 2 one of both in A000..BFFF and under 6 log bytes are free. */
+ * 0; 1 one of both in FF10..FF3F; 4, 3 image or log's use; 4 another length; 2 one of both in A000..BFFF and no room for two records. */
 uint8_t pouch_write_word(
     uint8_t *image, size_t image_len, const uint8_t *rom, size_t rom_len, uint8_t *vram, size_t vram_len, uint8_t *wram, size_t wram_len, uint8_t *save,
     size_t save_len, uint8_t *log, size_t log_len, const uint8_t *sound, size_t sound_len, uint16_t index, uint16_t word);

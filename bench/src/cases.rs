@@ -2,7 +2,7 @@
 
 use std::hint::black_box;
 
-use crate::sides::{Ours, Theirs};
+use crate::sides::{Ours, Theirs, RECORD_LEN};
 
 pub struct Case {
     pub name: &'static str,
@@ -96,7 +96,7 @@ fn save_write(ours: &mut Ours) {
 
 /// The Rust has no recovery: what an engine would write by hand.
 fn plain_recovery(save: &mut [u8], log: &[u8]) -> bool {
-    let whole = || log.chunks_exact(3).map(|record| (usize::from(record[0] & 0x7F) << 8 | usize::from(record[1]), record));
+    let whole = || log.chunks_exact(RECORD_LEN).map(|record| (usize::from(record[0] & 0x7F) << 8 | usize::from(record[1]), record));
     if whole().any(|(address, record)| record[0] < 0x80 || save.len() <= address) {
         return false;
     }

@@ -14,6 +14,12 @@ const CODE: u8 = 2;
 const START: [(u16, u8); 4] = [(0x0000, 0x0A), (0xFF07, 0x05), (0xC000, 0x12), (0xC09F, 0x34)];
 
 pub const LONGEST_LOG: usize = pouchrattle::LONGEST_LOG;
+pub const RECORD_LEN: usize = pouchrattle::RECORD_LEN;
+
+/// The record of one stored byte.
+fn record(address: usize, value: u8) -> [u8; RECORD_LEN] {
+    [0x80 | (address >> 8) as u8, address as u8, value]
+}
 
 pub struct Ours {
     pub memory: pouchrattle::Memory,
@@ -62,10 +68,10 @@ impl Theirs {
         let log = Rc::new(RefCell::new(Vec::with_capacity(LONGEST_LOG)));
         memory.set_ram_change_callback(Box::new(move |address, value| {
             let mut log = log.borrow_mut();
-            if log.len() == LONGEST_LOG {
+            if log.len() + RECORD_LEN > LONGEST_LOG {
                 log.clear();
             }
-            log.extend_from_slice(&[0x80 | (address >> 8) as u8, address as u8, value]);
+            log.extend_from_slice(&record(address, value));
         }));
         for (index, value) in START {
             memory.write_byte(index, value);
@@ -76,8 +82,9 @@ impl Theirs {
 
 impl Recovery {
     fn new() -> Recovery {
-        let record = |at: u16| [0x80 | ((at % 8192) >> 8) as u8, at as u8, (at % 251) as u8];
-        Recovery { save: vec![0; 8192], log: (0..LONGEST_LOG as u16 / 3).flat_map(record).collect() }
+        let save = vec![0; 8192];
+        let records = (0..LONGEST_LOG / RECORD_LEN).flat_map(|at| record(at % save.len(), (at % 251) as u8));
+        Recovery { log: records.collect(), save }
     }
 }
 

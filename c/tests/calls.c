@@ -146,8 +146,8 @@ static void check_log(void)
     IS(wr(0xA001, 0x11), POUCH_DONE);
     IS(wr(0xA001, 0x11), POUCH_DONE);
     IS(pouch_write_word(WRITES, 0xBFFE, 0x3322), POUCH_DONE);
-    IS(ask(pouch_log_used), 12);
-    IS(memcmp(log_.at, "\x80\x01\x11\x80\x01\x11\x9F\xFE\x22\x9F\xFF\x33\x5A", 13), 0);
+    IS(ask(pouch_log_used), 4 * POUCH_RECORD_LEN);
+    IS(memcmp(log_.at, "\x80\x01\x11\x80\x01\x11\x9F\xFE\x22\x9F\xFF\x33\x5A", 4 * POUCH_RECORD_LEN + 1), 0);
     IS(save.at[1] == 0x11 && save.at[8190] == 0x22 && save.at[8191] == 0x33, true);
     IS(pouch_clear_log(LEND(image)), POUCH_DONE);
     IS(ask(pouch_log_used), 0);
@@ -257,16 +257,16 @@ static void check_other_corners(void)
     IS(rd(0x4000), 33);
     IS(field(ROM_BANK, 7), 33);
 
-    start(POUCH_MBC2, 2, 0, false, 3);
+    start(POUCH_MBC2, 2, 0, false, POUCH_RECORD_LEN);
     IS(wr(0x0000, 0x0A), POUCH_DONE);
     IS(wr(0xA000, 0xAB), POUCH_DONE);
     IS(save.at[0], 0x0B);
-    IS(memcmp(log_.at, "\x80\x00\x0B", 3), 0);
+    IS(memcmp(log_.at, "\x80\x00\x0B", POUCH_RECORD_LEN), 0);
 
     start_mbc1(false);
     IS(wr(0x0000, 0x0A), POUCH_DONE);
     IS(wr(0xB234, 0x56), POUCH_DONE);
-    IS(memcmp(log_.at, "\x92\x34\x56", 3), 0);
+    IS(memcmp(log_.at, "\x92\x34\x56", POUCH_RECORD_LEN), 0);
 
     start_mbc1(true);
     IS(wr(0xFF68, 0x80), POUCH_DONE);

@@ -1,6 +1,7 @@
 /* Checks of pouch_bus.h: the journal holds every stored byte once and in order, whatever the log's length and however badly the file takes it, and recovery
  * from it gives the save, also from a journal longer than a log can be, or torn. */
 #define _POSIX_C_SOURCE 200809L
+#include "record.h"
 #include <pouch_bus.h>
 #include <errno.h>
 #include <fcntl.h>
@@ -25,14 +26,20 @@ static void require(bool holds, const char *what)
 }
 
 /* Write i of the test's list, and its record. */
+static uint16_t at(uint32_t i)
+{
+    return (uint16_t)(i * 4093 % sizeof save);
+}
+
+static uint8_t value(uint32_t i)
+{
+    return (uint8_t)(i * 7);
+}
+
 static uint8_t write_number(struct pouch_bus *bus, uint32_t i)
 {
-    uint16_t at = (uint16_t)(i * 4093 % sizeof save);
-    uint8_t *record = records + (size_t)i * POUCH_RECORD_LEN;
-    record[0] = (uint8_t)(0x80 | at >> 8);
-    record[1] = (uint8_t)at;
-    record[2] = (uint8_t)(i * 7);
-    return pouch_bus_write(bus, (uint16_t)(0xA000 + at), record[2]);
+    put_record(records + (size_t)i * POUCH_RECORD_LEN, at(i), value(i));
+    return pouch_bus_write(bus, (uint16_t)(0xA000 + at(i)), value(i));
 }
 
 /* Lets files of this process grow to so many bytes: a longer write is cut there. */
@@ -88,9 +95,9 @@ static void run_torn(size_t len)
     memset(stood, 0, sizeof stood);
     for (size_t n = 0; n < len; n++) {
         if (n > 0 && n % POUCH_RECORD_LEN == 0) {
-            const uint8_t *record = records + n - POUCH_RECORD_LEN;
-            stood[(record[0] & 0x7F) << 8 | record[1]] = record[2];
-            if (record[2] == 0)
+            uint32_t i = (uint32_t)(n / POUCH_RECORD_LEN - 1);
+            stood[at(i)] = value(i);
+            if (records[n - 1] == 0)
                 continue;
         }
         memcpy(torn, journal, n);
@@ -99,17 +106,21 @@ static void run_torn(size_t len)
         require(pouch_bus_recover(recovered, sizeof recovered, torn, len) == POUCH_DONE, "recovery from a torn journal");
         require(memcmp(recovered, stood, sizeof stood) == 0, "the save from a torn journal");
     }
-    uint8_t last[] = {0x80, 0x05, 0x11, 0x80, 0x06, 0x00, 0x00, 0x00};
-    require(pouch_journal_len(last, 6) == 6, "a last record that ends in 0 counts");
-    require(pouch_journal_len(last, 7) == 3 && pouch_journal_len(last, 8) == 3, "zeros behind it make it doubtful");
-    require(pouch_journal_len(last, 4) == 4 && pouch_journal_len(last + 6, 2) == 0 && pouch_journal_len(last, 0) == 0, "part of a record, zeros, nothing");
+    const size_t one = POUCH_RECORD_LEN, two = 2 * one;
+    uint8_t last[2 * POUCH_RECORD_LEN + 2] = {0};
+    put_record(last, 5, 0x11);
+    put_record(last + one, 6, 0x00);
+    require(pouch_journal_len(last, two) == two, "a last record that ends in 0 counts");
+    require(pouch_journal_len(last, two + 1) == one && pouch_journal_len(last, two + 2) == one, "zeros behind it make it doubtful");
+    require(pouch_journal_len(last, one + 1) == one + 1 && pouch_journal_len(last + two, 2) == 0 && pouch_journal_len(last, 0) == 0,
+            "part of a record, zeros, nothing");
 }
 
 int main(int count, char **words)
 {
     require(count == 2, "usage: journal FILE");
     signal(SIGXFSZ, SIG_IGN);
-    for (size_t log_len = 12; log_len < 40; log_len++)
+    for (size_t log_len = 4 * POUCH_RECORD_LEN; log_len < 40; log_len++)
         run(words[1], log_len, 60, 1000, 0); /* kept after number 2 alone */
     run_torn(60 * POUCH_RECORD_LEN);
     run(words[1], 4095, 3000, 10, 7);

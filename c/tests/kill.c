@@ -7,6 +7,7 @@
  * list alone. Then the journal is cut at random places, and recovery must give the save after the last write whose record is whole. */
 #define _POSIX_C_SOURCE 200809L
 #include "../example/game.h"
+#include "record.h"
 #include <pouch_bus.h>
 #include <fcntl.h>
 #include <poll.h>
@@ -74,9 +75,7 @@ static bool is_journal_from(uint32_t from, size_t len)
 {
     for (size_t i = 0; i < len; i += POUCH_RECORD_LEN) {
         uint32_t write = from + (uint32_t)(i / POUCH_RECORD_LEN);
-        records[i] = (uint8_t)(0x80 | game_at(write) >> 8);
-        records[i + 1] = (uint8_t)game_at(write);
-        records[i + 2] = game_value(write);
+        put_record(records + i, game_at(write), game_value(write));
     }
     return memcmp(journal, records, len) == 0;
 }

@@ -119,7 +119,7 @@ static void check_entry(const struct entry *entry)
 
     /* the image's length, before anything else is looked at */
     start_mbc1(false);
-    image.len = 664;
+    image.len = POUCH_IMAGE_LEN - 1;
     REFUSES(entry, POUCH_WRONG_LENGTH);
     image.len = 666;
     REFUSES(entry, POUCH_WRONG_LENGTH);
@@ -190,9 +190,9 @@ static void check_fresh(void)
     start(POUCH_MBC2, 16, 0, true, 0);
     /* the image's length, then the description, then the lengths */
     start_mbc1(false);
-    image.len = 664;
+    image.len = POUCH_IMAGE_LEN - 1;
     REFUSED(fresh(3, 3, 1, false), POUCH_WRONG_LENGTH);
-    image.len = 665;
+    image.len = POUCH_IMAGE_LEN;
     for (int i = 0; i < 6; i++) { /* 4, and 3 before it */
         size_t len = lent[i]->len;
         lent[i]->len = lent[i] == &log_ ? 65536 : len - 1;
@@ -225,16 +225,16 @@ static void check_numbers(void)
     IS(pouch_write_word(WRITES, 0xFF40, 0), POUCH_DONE);
 
     /* 2: by index alone, RAM off too; 4 before it */
-    start(POUCH_MBC1, 2, 2, false, 2);
+    start(POUCH_MBC1, 2, 2, false, POUCH_RECORD_LEN - 1);
     REFUSED(wr(0xA000, 1), POUCH_NO_ROOM);
     REFUSED(wr(0xBFFF, 1), POUCH_NO_ROOM);
     IS(wr(0x9FFF, 1), POUCH_DONE);
     IS(wr(0xC000, 1), POUCH_DONE);
     sound.len--;
     REFUSED(wr(0xA000, 1), POUCH_WRONG_LENGTH);
-    start(POUCH_MBC1, 2, 2, false, 8);
+    start(POUCH_MBC1, 2, 2, false, 3 * POUCH_RECORD_LEN - 1);
     IS(wr(0x0000, 0x0A), POUCH_DONE);
-    IS(wr(0xA000, 1), POUCH_DONE); /* 5 are left: room for a byte, not for a word */
+    IS(wr(0xA000, 1), POUCH_DONE); /* a byte less than two records is left: room for a byte, not for a word */
     REFUSED(pouch_write_word(WRITES, 0xA000, 1), POUCH_NO_ROOM);
     REFUSED(pouch_write_word(WRITES, 0x9FFF, 1), POUCH_NO_ROOM);
     REFUSED(pouch_write_word(WRITES, 0xBFFF, 1), POUCH_NO_ROOM);
@@ -259,10 +259,10 @@ static void check_numbers(void)
     REFUSED(pouch_recover(LEND(save), no_bit, sizeof no_bit), POUCH_DAMAGED);
     REFUSED(pouch_recover(LEND(save), outside, sizeof outside), POUCH_DAMAGED);
     REFUSED(pouch_recover(save.at, 8191, outside, sizeof outside), POUCH_WRONG_LENGTH);
-    REFUSED(pouch_recover(LEND(save), arena, 65536), POUCH_WRONG_LENGTH);
+    REFUSED(pouch_recover(LEND(save), arena, POUCH_LOG_LEN_MAX + 1), POUCH_WRONG_LENGTH);
     REFUSED(pouch_recover(LEND(save), no_bit, 0), POUCH_DONE);
-    REFUSED(pouch_recover(save.at, 0, no_bit, 2), POUCH_DONE);
-    IS(pouch_recover(LEND(save), no_bit, 5), POUCH_DONE);
+    REFUSED(pouch_recover(save.at, 0, no_bit, POUCH_RECORD_LEN - 1), POUCH_DONE);
+    IS(pouch_recover(LEND(save), no_bit, 2 * POUCH_RECORD_LEN - 1), POUCH_DONE);
     IS(save.at[0], 0x11);
     save.at[0] = FILL;
     IS(pouch_recover(LEND(save), sound_records, sizeof sound_records), POUCH_DONE);

@@ -2,8 +2,11 @@
 
 use std::array;
 
+/// The bytes of an image: POUCH_IMAGE_LEN.
+pub const IMAGE_LEN: usize = 665;
+
 /// A state of the bus, as document 01 lays it out.
-pub type Image = [u8; 665];
+pub type Image = [u8; IMAGE_LEN];
 
 const DISABLED: usize = 5057;
 const LINE: usize = 5081;

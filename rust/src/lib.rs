@@ -40,10 +40,10 @@ mod savelog;
 mod timer;
 
 pub use cartridge::{Cartridge, MbcType};
-pub use image::{CGBColor, HostNumbers, Image};
+pub use image::{CGBColor, HostNumbers, Image, IMAGE_LEN};
 pub use interrupt::Interrupt;
 pub use joypad::{Button, Controller};
-pub use memory::{Memory, LONGEST_LOG};
+pub use memory::{Memory, LONGEST_LOG, RECORD_LEN};
 pub use refusal::{Refusal, Written};
 pub use savelog::recover;
 pub use timer::Timer;

@@ -1,12 +1,15 @@
 use crate::cartridge::Cartridge;
 use crate::entries::*;
-use crate::image::{self, CGBColor, HostNumbers, Image};
+use crate::image::{self, CGBColor, HostNumbers, Image, IMAGE_LEN};
 use crate::interrupt::Interrupt;
 use crate::joypad::Button;
 use crate::refusal::{done, outcome, Refusal, Written};
 
 /// The longest log, in bytes: room for 21,845 records.
 pub const LONGEST_LOG: usize = 65535;
+
+/// The bytes of one record in the log.
+pub const RECORD_LEN: usize = 3;
 
 /// The bus with all that it stands on: its state as an image, and the memories that the library is lent for each call. Each has the length
 /// that the cartridge's description asks for, from `new` on, so that no call is refused by its lengths or its state.
@@ -47,11 +50,11 @@ impl Memory {
         Memory::with_log(cartridge, is_cgb, save, LONGEST_LOG)
     }
 
-    /// The same with a log of so many bytes. One record takes 3.
+    /// The same with a log of so many bytes. One record takes `RECORD_LEN`.
     pub fn with_log(cartridge: Cartridge, is_cgb: bool, save: &[u8], log: usize) -> Result<Memory, Refusal> {
         let (vram, wram) = if is_cgb { (16384, 32768) } else { (8192, 8192) };
         let mut memory = Memory {
-            image: [0; 665],
+            image: [0; IMAGE_LEN],
             rom: cartridge.rom,
             vram: vec![0; vram],
             wram: vec![0; wram],

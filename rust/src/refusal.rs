@@ -7,7 +7,7 @@ use std::fmt;
 #[derive(Clone, Copy, Debug, PartialEq, Eq)]
 #[repr(u8)]
 pub enum Refusal {
-    /// A write in A000..BFFF, and the log has no room: under 3 bytes for a byte, under 6 for a word. Take the log off and write again.
+    /// A write in A000..BFFF, and the log has no room: for one record for a byte, for two for a word. Take the log off and write again.
     NoRoom = 2,
     /// The cartridge's description or the state is out of range.
     OutOfRange = 3,

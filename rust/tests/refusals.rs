@@ -3,7 +3,7 @@
 mod common;
 
 use common::{bus, cartridge, colour, monochrome, with_save, write};
-use pouchrattle::{MbcType, Memory, Refusal, Timer};
+use pouchrattle::{MbcType, Memory, Refusal, Timer, LONGEST_LOG, RECORD_LEN};
 
 /// A fresh bus over a save of so many bytes: its refusal, if any.
 fn built(mbc_type: MbcType, banks: usize, ram_size: u8, save: usize) -> Option<Refusal> {
@@ -44,7 +44,7 @@ fn wrong_lengths() {
         cartridge.rom = vec![0; length];
         assert_eq!(Memory::new(cartridge, false, &[]).err(), Some(refusal), "{length}");
     }
-    for (log, refusal) in [(0, None), (65535, None), (65536, Some(Refusal::WrongLength)), (usize::MAX, Some(Refusal::WrongLength))] {
+    for (log, refusal) in [(0, None), (LONGEST_LOG, None), (LONGEST_LOG + 1, Some(Refusal::WrongLength)), (usize::MAX, Some(Refusal::WrongLength))] {
         assert_eq!(Memory::with_log(cartridge(RomOnly, 2, 0), false, &[], log).err(), refusal, "{log}");
     }
 }
@@ -82,7 +82,7 @@ fn cycles() {
 
 #[test]
 fn full_log() {
-    let mut memory = Memory::with_log(cartridge(MbcType::Mbc1, 2, 2), false, &[0; 8192], 8).unwrap();
+    let mut memory = Memory::with_log(cartridge(MbcType::Mbc1, 2, 2), false, &[0; 8192], 3 * RECORD_LEN - 1).unwrap();
     write(&mut memory, &[(0x0000, 0x0A), (0xA000, 1)]);
     let before = memory.clone();
     for index in [0x9FFF, 0xA000, 0xBFFF] {
@@ -107,7 +107,7 @@ fn images() {
     let mut memory = with_save(false);
     write(&mut memory, &[(0xA000, 7)]);
     let before = memory.clone();
-    assert_eq!(memory.set_image(&[0; 665]), Err(Refusal::OutOfRange));
+    assert_eq!(memory.set_image(&[0; pouchrattle::IMAGE_LEN]), Err(Refusal::OutOfRange));
     let mut image = *memory.image();
     image[664] |= 1;
     assert_eq!(memory.set_image(&image), Err(Refusal::OutOfRange));

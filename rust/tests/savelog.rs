@@ -3,7 +3,7 @@
 mod common;
 
 use common::{cartridge, rom_byte, with_save, write};
-use pouchrattle::{recover, MbcType, Memory, Refusal, Timer};
+use pouchrattle::{recover, MbcType, Memory, Refusal, Timer, LONGEST_LOG, RECORD_LEN};
 
 #[test]
 fn corner_12_record() {
@@ -27,10 +27,10 @@ fn every_stored_byte_is_logged() {
         }
         assert_eq!(memory.save()[usize::from(index) - 0xA000], value);
     }
-    assert_eq!((kept.len(), kept[0].len()), (2, 65535));
+    assert_eq!((kept.len(), kept[0].len()), (2, LONGEST_LOG / RECORD_LEN * RECORD_LEN));
     kept.push(memory.take_log());
     assert!(memory.log().is_empty());
-    assert_eq!(kept.iter().map(Vec::len).sum::<usize>(), 150_000);
+    assert_eq!(kept.iter().map(Vec::len).sum::<usize>(), 50_000 * RECORD_LEN);
 
     let mut save = start;
     for log in &kept {
@@ -54,7 +54,7 @@ fn a_cut_log_recovers_its_whole_records() {
     for cut in 0..=log.len() {
         let mut save = vec![0; 512];
         assert_eq!(recover(&mut save, &log[..cut]), Ok(()));
-        assert_eq!((save[0], save[511]), (if cut < 3 { 0 } else { 0x56 }, if cut < 6 { 0 } else { 0x78 }));
+        assert_eq!((save[0], save[511]), (if cut < RECORD_LEN { 0 } else { 0x56 }, if cut < 2 * RECORD_LEN { 0 } else { 0x78 }));
     }
 }
 
@@ -66,7 +66,7 @@ fn a_damaged_log_changes_nothing() {
         let log = [[0x80, 0x00, 0x56], damaged].concat();
         assert_eq!(recover(&mut save, &log), Err(Refusal::Damaged));
         assert!(save.iter().all(|&byte| byte == 0x11));
-        assert_eq!(recover(&mut save, &log[..5]), Ok(()));
+        assert_eq!(recover(&mut save, &log[..2 * RECORD_LEN - 1]), Ok(()));
         assert_eq!(save[0], 0x56);
     }
 }
@@ -77,7 +77,7 @@ fn recovery_takes_the_lengths_of_saves() {
         let expected = if [0, 512, 8192, 32768].contains(&length) { Ok(()) } else { Err(Refusal::WrongLength) };
         assert_eq!(recover(&mut vec![0; length], &[]), expected, "{length}");
     }
-    let log = vec![0x80; 65536];
+    let log = vec![0x80; LONGEST_LOG + 1];
     assert_eq!(recover(&mut [0; 512], &log), Err(Refusal::WrongLength));
     assert_eq!(recover(&mut [0; 512], &log[1..]), Ok(()));
 }
@@ -93,7 +93,7 @@ fn a_transfer_past_video_memory_leaves_the_save_alone() {
     }
     // A write of the game's own would have been stored.
     write(&mut memory, &[(0xA000, 0x22)]);
-    assert_eq!((memory.save()[0], memory.log().len()), (0x22, 3));
+    assert_eq!((memory.save()[0], memory.log().len()), (0x22, RECORD_LEN));
 }
 
 #[test]
@@ -114,6 +114,6 @@ fn a_session_is_taken_up_again() {
     assert!(again.log().is_empty());
     let log = memory.log().to_vec();
     memory.set_image(again.image()).unwrap();
-    assert_eq!((memory.log(), log.len()), (&log[..], 3));
+    assert_eq!((memory.log(), log.len()), (&log[..], RECORD_LEN));
     assert!(memory.take_log() == log && memory.image() == again.image());
 }

@@ -22,7 +22,7 @@ use Rattle.entry.proofs.Laws.{step-storable, fresh-storable}
 use Rattle.entry.specs.Entry.{Given, given, Fresh, fresh, freshEntry}
 use Rattle.image.proofs.Round.{state-back}
 use Rattle.image.proofs.StateLaws.{storable-state}
-use Rattle.image.specs.Layout.{imageOf}
+use Rattle.image.specs.Layout.{imageLen, imageOf}
 use Rattle.image.specs.Load.{storable, loaded, loadCall}
 use Rattle.mbc.specs.Mbc.{cartridgeOf, start as mapperOf}
 use Rattle.mbc.specs.declared.cartridge.Cartridge.{Cartridge}
@@ -150,7 +150,7 @@ fresh-done : (image v w : List ℕ) (b : Begun) → freshEntry image v w b .numb
 unfolding freshEntry
 fresh-done image v w b =
     let Done : Fresh → Type 0 = λ f. f .number ≡ done → (b .number ≡ done) × (f ≡ fresh done (imageOf (b .state)) (b .vram) (b .wram)) in
-    by-cond Done (eqb (length image) 665) _ _
+    by-cond Done (eqb (length image) imageLen) _ _
     (λ t.
     by-cond Done (eqb (b .number) 0) _ _ (λ s z. (eqb-true (b .number) 0 s, refl)) (λ s z. absurd (eqb-false (b .number) 0 s z)))
     (λ t z. let y : _≡_ {A = ℕ} 4 0 = z in absurd (omega arith))

@@ -32,7 +32,7 @@ use Rattle.registers.specs.State.{loaded}
 use Rattle.registers.specs.Transfers.{copyOf, oamCopy, blockCopy}
 use Rattle.registers.specs.declared.transfers.Copy.{Copy}
 use Rattle.rules.proofs.Tests.{cond-both}
-use Rattle.savelog.specs.Log.{width}
+use Rattle.savelog.specs.Log.{width, full}
 use Rattle.boundary.specs.Types.{CallTyped}
 use Rattle.boundary.proofs.Fine.{Fine, page-set, oam-fine, mapper-fine, used-fine, loaded-byte, write-fine, finished-fine, state-fine}
 
@@ -62,7 +62,7 @@ module _ (rom save : List ℕ) (r : Below 256 rom) (s : Below 256 save) where
   mapped-byte c m i = cond-both Found (ltb i 0x4000) (r _) (cond-both Found (ltb i 0x8000) (r _) (ram-byte c m i))
 
 module _ {m : Memory} (f : Fine m) (sound : List ℕ) (b : Below 256 sound) where
-  pad-byte : (at : ℕ) → Byte (padRead (loaded m at) (m .joypad .state))
+  pad-byte : (at : ℕ) → Byte (padRead (loaded m at) (m .core .joypad .state))
   unfolding padRead
   pad-byte at =
       cond-both (λ (n : ℕ). Byte (loaded m at / 16 * 16 + n)) (directionsAnswer (loaded m at)) (omega (arith, loaded-byte f at))
@@ -71,13 +71,13 @@ module _ {m : Memory} (f : Fine m) (sound : List ℕ) (b : Below 256 sound) wher
   forced-byte : (at : ℕ) {bits : ℕ} → bits < 256 → Byte (bitOr (loaded m at) bits)
   forced-byte at {bits} h = or-lt 8 (loaded m at) bits (loaded-byte f at) h
 
-  kind-byte : {a c : ℕ} → Byte a → Byte c → Byte (byKind (m .banks .colour) a c)
+  kind-byte : {a c : ℕ} → Byte a → Byte c → Byte (byKind (m .core .banks .colour) a c)
   unfolding byKind
-  kind-byte p q = cond-both Byte (m .banks .colour) p q
+  kind-byte p q = cond-both Byte (m .core .banks .colour) p q
 
-  line-byte : Byte (lineRead (m .lcd))
+  line-byte : Byte (lineRead (m .core .lcd))
   unfolding lineRead
-  line-byte = cond-both Byte (m .lcd .disabled) (lit< tt) (f .lcd .line)
+  line-byte = cond-both Byte (m .core .lcd .disabled) (lit< tt) (f .lcd .line)
 
   plain-byte : (at : ℕ) → Byte (plainRead (loaded m at) sound at)
   unfolding plainRead
@@ -107,11 +107,11 @@ module _ {m : Memory} (f : Fine m) (sound : List ℕ) (b : Below 256 sound) wher
 -- What is written
 
 module _ (w : World) (g : Whole w) (v : ℕ) (b : v < 256) where
-  saved-whole : (i : ℕ) (a : Answer) → answer (w .state .cartridge) (w .state .mapper) i v ≡ a → Whole (saved a w)
+  saved-whole : (i : ℕ) (a : Answer) → answer (w .state .core .cartridge) (w .state .core .mapper) i v ≡ a → Whole (saved a w)
   saved-whole i (Stored at u) e =
-      let s = stored-within (w .state .cartridge) (w .state .mapper) i v at u b e in
+      let s = stored-within (w .state .core .cartridge) (w .state .core .mapper) i v at u b e in
       record {
-        state = used-fine (g .state) (w .state .used + width);
+        state = used-fine (g .state) (w .state .core .used + width);
         vram = g .vram;
         wram = g .wram;
         save = below-set 256 (w .save) at u (g .save) (s .1 .1);
@@ -120,7 +120,7 @@ module _ (w : World) (g : Whole w) (v : ℕ) (b : v < 256) where
 
   save-whole : (i : ℕ) → Whole (savePut w i v)
   unfolding savePut
-  save-whole i = cond-both Whole (ltb (length (w .log)) (w .state .used + width)) g (saved-whole i _ refl)
+  save-whole i = cond-both Whole (full (length (w .log)) (w .state .core .used) 1) g (saved-whole i _ refl)
 
   state-whole : {m : Memory} → Fine m → Whole (record { state = m; vram = w .vram; wram = w .wram; save = w .save; log = w .log })
   state-whole f = record { state = f; vram = g .vram; wram = g .wram; save = g .save }
@@ -147,7 +147,7 @@ module _ (x : Fixed) (rom : Below 256 (x .rom)) (sound : Below 256 (x .sound)) w
   unfolding byteAt lentAt
   read-byte w g index =
       let i = echo index in
-      let m = mapped-byte (x .rom) (w .save) rom (g .save) (w .state .cartridge) (w .state .mapper) i in
+      let m = mapped-byte (x .rom) (w .save) rom (g .save) (w .state .core .cartridge) (w .state .core .mapper) i in
       cond-both Byte (ltb i 0xE000)
       (cond-both Byte (ltb i 0x8000) m (cond-both Byte (ltb i 0xA000) (g .vram _) (cond-both Byte (ltb i 0xC000) m (g .wram _))))
       (cond-both Byte (ltb i 0xFF00) (g .state .oam .bytes _) (register-byte (g .state) (x .sound) sound (i - 0xFF00)))

@@ -15,6 +15,8 @@ use Rattle.hdma.proofs.Laws as hdma
 use Rattle.hdma.specs.Hdma.{InRange}
 use Rattle.hdma.specs.declared.Ended.{Ended}
 use Rattle.hdma.specs.declared.Hdma.{Hdma}
+use Rattle.hdma.specs.declared.Start.{Start}
+use Rattle.hdma.specs.declared.Written.{Written}
 use Rattle.image.proofs.PatchLaws.{below-set}
 use Rattle.image.specs.Laws.{Typed}
 use Rattle.interrupt.specs.Flags.{named}
@@ -61,9 +63,10 @@ use Rattle.registers.specs.Colour.{
 }
 use Rattle.registers.specs.Page.{plainWrite, writeRegister}
 use Rattle.registers.specs.State.{loaded, stored, screenOf, withScreen, onScreen, timerOf, withTimer, requestedIn, removedIn, polledIn}
-use Rattle.registers.specs.Transfers.{transferPut, sourceHighPut, sourceLowPut, destinationHighPut, destinationLowPut, startPut, withEnded, finished}
+use Rattle.registers.specs.Transfers.{transferPut, sourceHighPut, sourceLowPut, destinationHighPut, destinationLowPut, startedBy, started, startPut, withEnded, finished}
 use Rattle.registers.specs.declared.transfers.Finish.{Finish}
 use Rattle.registers.specs.declared.transfers.Finish.the-variants.{Nothing, Block, General}
+use Rattle.registers.specs.declared.transfers.Started.{Started}
 use Rattle.rules.proofs.Tests.{cond-both}
 use Rattle.state_calls.specs.State.{onInterrupt}
 use Rattle.timer.proofs.Laws as timer
@@ -87,14 +90,14 @@ pub record Fine (m : Memory) : Type 0 where
   pub page : Page (m .page)
   pub background : Colours (m .background)
   pub sprites : Colours (m .sprites)
-  pub joypad : joypad.Bytes (m .joypad)
-  pub lcd : LcdTyped (m .lcd)
-  pub hdma : InRange (m .hdma)
-  pub clock : (m .clock .div < 256) × (m .clock .tima < 1024)
+  pub joypad : joypad.Bytes (m .core .joypad)
+  pub lcd : LcdTyped (m .core .lcd)
+  pub hdma : InRange (m .core .hdma)
+  pub clock : (m .core .clock .div < 256) × (m .core .clock .tima < 1024)
 
 pub typed-fine : (m : Memory) → Typed m → stateInRange m ≡ true → Fine m
 typed-fine m t h =
-    let p = hdma-parts (m .hdma) (m .banks .colour) (range-hdma m h) in
+    let p = hdma-parts (m .core .hdma) (m .core .banks .colour) (range-hdma m h) in
     record {
       oam = record { size = t .oam .0; bytes = t .oam .1 };
       page = record { size = t .page .0; bytes = t .page .1 };
@@ -217,7 +220,7 @@ module _ {m : Memory} (f : Fine m) where
   -- Colour alone
 
   coloured : (at : ℕ) {v : ℕ} {n : Memory} → v < 256 → Fine n → Fine (inColour m at v n)
-  coloured at b n = cond-both Fine (m .banks .colour) n (stored-fine at b)
+  coloured at b n = cond-both Fine (m .core .banks .colour) n (stored-fine at b)
 
   background-ready : palette.Ready (backgroundOf m)
   background-ready =
@@ -232,7 +235,7 @@ module _ {m : Memory} (f : Fine m) where
   with-sprites : {p : Palette} → palette.Ready p → Fine (withSpritePalette m p)
   with-sprites r = sprites-fine (r .size, r .range) (page-set 0x6B (page-set 0x6A (f .page) (r .index)) (r .shown))
 
-  with-transfer : (at : ℕ) {h : Hdma} {b : ℕ} → InRange h → b < 256 → Fine (transferPut m at h b)
+  with-transfer : (at : ℕ) {w : Written} → InRange (w .hdma) → w .byte < 256 → Fine (transferPut m at w)
   with-transfer at h b = hdma-fine h (page-set at (f .page) b)
 
   with-ended : {e : Ended} → InRange (e .hdma) → hdma.Bytes e → Fine (withEnded m e)
@@ -244,8 +247,8 @@ module _ {m : Memory} (f : Fine m) where
   unfolding finished
   finished-fine Nothing v = f
   finished-fine Block v =
-      with-ended (hdma.block-range (m .hdma) (loaded m 0x55) (f .hdma)) (hdma.block-bytes (m .hdma) (loaded m 0x55) (f .hdma))
-  finished-fine General v = with-ended (hdma.general-range (m .hdma) v (f .hdma)) (hdma.general-bytes (m .hdma) v)
+      with-ended (hdma.block-range (m .core .hdma) (loaded m 0x55) (f .hdma)) (hdma.block-bytes (m .core .hdma) (loaded m 0x55) (f .hdma))
+  finished-fine General v = with-ended (hdma.general-range (m .core .hdma) v (f .hdma)) (hdma.general-bytes (m .core .hdma) v)
 
   -- a byte written to the page
   module _ (v : ℕ) (b : v < 256) where
@@ -264,30 +267,30 @@ module _ {m : Memory} (f : Fine m) where
     source-high-fine : Fine (sourceHighPut m v)
     unfolding sourceHighPut
     source-high-fine =
-        coloured 0x51 b (with-transfer 0x51 (hdma.source-high-range (m .hdma) v (f .hdma) b) (hdma.source-high-byte (m .hdma) v b))
+        coloured 0x51 b (with-transfer 0x51 (hdma.source-high-range (m .core .hdma) v (f .hdma) b) (hdma.source-high-byte (m .core .hdma) v b))
 
     source-low-fine : Fine (sourceLowPut m v)
     unfolding sourceLowPut
     source-low-fine =
-        coloured 0x52 b (with-transfer 0x52 (hdma.source-low-range (m .hdma) v (f .hdma)) (hdma.source-low-byte (m .hdma) v b))
+        coloured 0x52 b (with-transfer 0x52 (hdma.source-low-range (m .core .hdma) v (f .hdma)) (hdma.source-low-byte (m .core .hdma) v b))
 
     destination-high-fine : Fine (destinationHighPut m v)
     unfolding destinationHighPut
     destination-high-fine =
-        coloured 0x53 b (with-transfer 0x53 (hdma.destination-high-range (m .hdma) v (f .hdma)) (hdma.destination-high-byte (m .hdma) v))
+        coloured 0x53 b (with-transfer 0x53 (hdma.destination-high-range (m .core .hdma) v (f .hdma)) (hdma.destination-high-byte (m .core .hdma) v))
 
     destination-low-fine : Fine (destinationLowPut m v)
     unfolding destinationLowPut
     destination-low-fine =
-        coloured 0x54 b (with-transfer 0x54 (hdma.destination-low-range (m .hdma) v (f .hdma)) (hdma.destination-low-byte (m .hdma) v b))
+        coloured 0x54 b (with-transfer 0x54 (hdma.destination-low-range (m .core .hdma) v (f .hdma)) (hdma.destination-low-byte (m .core .hdma) v b))
 
     start-fine : Fine (startPut m v)
-    unfolding startPut
+    unfolding started
     start-fine =
-        let old = loaded m 0x55 in
-        coloured 0x55 b
-        (with-transfer 0x55 (hdma.started-range (m .hdma) (m .lcd .mode) v old (f .hdma))
-        (hdma.started-byte (m .hdma) (m .lcd .mode) v old (loaded-byte 0x55)))
+        cond-both (λ (s : Started). Fine (s .memory)) (m .core .banks .colour)
+        (hdma.by-start (λ (s : Start). Fine (startedBy m v s .memory)) (m .core .hdma) (m .core .lcd .mode) v (with-transfer 0x55 (f .hdma) (omega arith))
+        (with-transfer 0x55 (f .hdma) (omega arith)) (with-transfer 0x55 (f .hdma) (omega arith)) f)
+        (stored-fine 0x55 b)
 
     background-index-fine : Fine (backgroundIndexPut m v)
     unfolding backgroundIndexPut
@@ -368,7 +371,7 @@ module _ {m : Memory} (f : Fine m) where
 
   polled-fine : Fine (polledIn m)
   polled-fine =
-      let u = update-bytes (m .joypad) (loaded m 0x00) (loaded m 0x0F) (f .joypad) (loaded-byte 0x0F) in
+      let u = update-bytes (m .core .joypad) (loaded m 0x00) (loaded m 0x0F) (f .joypad) (loaded-byte 0x0F) in
       joypad-fine (u .0) (page-set 0x0F (f .page) (u .1))
 
   changed-fine : (n : ℕ) {next : Memory} → Fine next → Fine (changed n m next .memory)
@@ -408,8 +411,8 @@ module _ {m : Memory} (f : Fine m) where
       on-interrupt removedIn (λ i. stored-fine 0x0F (unset-byte (loaded m 0x0F % 32) (bitOf i) (omega arith))) (named n)
   state-fine on.IsHdmaEnabled t = f
   state-fine (on.UpdateTimer c) t = changed-fine _ (timer-fine c)
-  state-fine (on.Press b) t = changed-fine _ (joypad-fine (press-bytes (m .joypad) b (f .joypad)) (f .page))
-  state-fine (on.Release b) t = changed-fine _ (joypad-fine (release-bytes (m .joypad) b (f .joypad)) (f .page))
+  state-fine (on.Press b) t = changed-fine _ (joypad-fine (press-bytes (m .core .joypad) b (f .joypad)) (f .page))
+  state-fine (on.Release b) t = changed-fine _ (joypad-fine (release-bytes (m .core .joypad) b (f .joypad)) (f .page))
   state-fine on.UpdateJoypad t = changed-fine _ polled-fine
   state-fine on.ClearLog t = changed-fine _ (used-fine 0)
   state-fine (on.Host lcd) t = changed-fine _ (lcd-fine t (f .page))

@@ -14,7 +14,8 @@ use Rattle.packing.specs.Packing.{Below}
 use Rattle.promise.specs.Admitted.{admittedBy, recordsOf}
 use Rattle.promise.specs.Promise.{Recovers}
 use Rattle.promise.specs.Runs.{Turn, calls, run, copiesFrom}
-use Rattle.savelog.specs.Log.{Rec, records, applyAll, recoverAll, joined, cutCopies}
+use Rattle.savelog.specs.Log.{width, records, applyAll, recoverAll, joined, cutCopies}
+use Rattle.savelog.specs.declared.Rec.{Rec}
 use Rattle.boundary.specs.Held.{Held, held, entryRun, entryAnswers, answers, numbersOf, entryCopies}
 use Rattle.boundary.specs.Types.{TurnsTyped, WorldTyped}
 
@@ -44,7 +45,7 @@ pub record EntryKept (l : Lent) (h : Held) (ts : List Turn) : Type 0 where
   pub save : entryRun h ts .save ≡ applyAll (l .image) (entryAdmitted l h ts)
   pub log : joined (entryCopies h ts) ≡ recordsOf (entryAdmitted l h ts)
   pub names : records (joined (entryCopies h ts)) ≡ entryAdmitted l h ts
-  pub cut : (n : ℕ) → recoverAll (l .image) (cutCopies n (entryCopies h ts)) ≡ applyAll (l .image) (take (n / 3) (entryAdmitted l h ts))
+  pub cut : (n : ℕ) → recoverAll (l .image) (cutCopies n (entryCopies h ts)) ≡ applyAll (l .image) (take (n / width) (entryAdmitted l h ts))
   pub recovers : (n : ℕ) → Recovers (l .image) (cutCopies n (entryCopies h ts))
 
 abbrev pub EntryPromise : Type 0

@@ -10,25 +10,26 @@ use borrow.Author.Tests.{eqb-true, leb-true, ltb-true}
 use Rattle.mbc.specs.Mbc.{romLen, ramLen}
 use Rattle.memory.specs.Ranges.{vramLen, wramLen, soundLen}
 use Rattle.memory.specs.World.{world, fixed}
+use Rattle.memory.specs.declared.Core.{Core}
 use Rattle.memory.specs.declared.Memory.{Memory}
 use Rattle.mmu.specs.Access.{Ready}
 use Rattle.rules.proofs.Tests.{both-true, passes, untrue}
 use Rattle.savelog.specs.Log.{logLimit}
-use Rattle.refusals.specs.Refusal.{lengthsFit, lengthsRefused, logRefused, readRefused, writeRefused, vramLengthRefused, vramRefused, hasBank}
+use Rattle.refusals.specs.Refusal.{lengthsFit, lengthsRefused, logRefused, readRefused, lentRefused, writeRefused, vramLengthRefused, vramRefused, hasBank}
 use Rattle.refusals.proofs.Answers.{both-pass, state-passes, range-state}
 
-pub lengths-pass : (m : Memory) (rom vram wram save sound : ℕ) → lengthsRefused m rom vram wram save sound ≡ 0
-    → (rom ≡ romLen (m .cartridge))
-    × (vram ≡ vramLen (m .banks .colour))
-    × (wram ≡ wramLen (m .banks .colour))
-    × (save ≡ ramLen (m .cartridge) (m .mapper))
+pub lengths-pass : (k : Core) (rom vram wram save sound : ℕ) → lengthsRefused k rom vram wram save sound ≡ 0
+    → (rom ≡ romLen (k .cartridge))
+    × (vram ≡ vramLen (k .banks .colour))
+    × (wram ≡ wramLen (k .banks .colour))
+    × (save ≡ ramLen (k .cartridge) (k .mapper))
     × (sound ≡ soundLen)
 unfolding lengthsRefused lengthsFit
-lengths-pass m rom vram wram save sound e =
-    let a = both-true (eqb rom (romLen (m .cartridge))) _ (passes _ 4 (omega arith) e) in
-    let b = both-true (eqb vram (vramLen (m .banks .colour))) _ (a .1) in
-    let c = both-true (eqb wram (wramLen (m .banks .colour))) _ (b .1) in
-    let d = both-true (eqb save (ramLen (m .cartridge) (m .mapper))) _ (c .1) in
+lengths-pass k rom vram wram save sound e =
+    let a = both-true (eqb rom (romLen (k .cartridge))) _ (passes _ 4 (omega arith) e) in
+    let b = both-true (eqb vram (vramLen (k .banks .colour))) _ (a .1) in
+    let c = both-true (eqb wram (wramLen (k .banks .colour))) _ (b .1) in
+    let d = both-true (eqb save (ramLen (k .cartridge) (k .mapper))) _ (c .1) in
     (eqb-true rom _ (a .0), eqb-true vram _ (b .0), eqb-true wram _ (c .0), eqb-true save _ (d .0), eqb-true sound 48 (d .1))
 
 module _ (rom sound : List ℕ) (m : Memory) (v w s : List ℕ) where
@@ -52,7 +53,7 @@ module _ (rom sound : List ℕ) (m : Memory) (v w s : List ℕ) where
 
   pub write-passes : (g : List ℕ) → writeRefused m (length rom) (length v) (length w) (length s) (length sound) (length g) ≡ 0
       → Ready (fixed rom sound) (world m v w s g)
-  unfolding writeRefused logRefused
+  unfolding writeRefused lentRefused logRefused
   write-passes g e =
       let p = both-pass _ _ e in
       let q = both-pass (lengthsRefused _ _ _ _ _ _) _ (p .1) in
@@ -88,9 +89,9 @@ pub vram-passes : (m : Memory) (n i bank : ℕ) → vramLengthRefused m n ≡ 0 
     → ((0x8000 ≤ i) × (i < 0xA000)) × (bank * 0x2000 + 0x2000 ≤ n)
 unfolding vramLengthRefused vramRefused hasBank
 vram-passes m n i bank e f =
-    let p = both-sides (cond (eqb bank 0) true (cond (eqb bank 1) (m .banks .colour) false)) (leb 0x8000 i && ltb i 0xA000) f in
+    let p = both-sides (cond (eqb bank 0) true (cond (eqb bank 1) (m .core .banks .colour) false)) (leb 0x8000 i && ltb i 0xA000) f in
     let q = both-true (leb 0x8000 i) (ltb i 0xA000) (p .1) in
-    let l = eqb-true n (vramLen (m .banks .colour)) (passes _ 4 (omega arith) e) in (
+    let l = eqb-true n (vramLen (m .core .banks .colour)) (passes _ 4 (omega arith) e) in (
       (leb-true 0x8000 i (q .0), ltb-true i 0xA000 (q .1)),
-      omega (arith, l, bank-fits bank (m .banks .colour) (eqb bank 0) (eqb bank 1) refl refl (p .0)),
+      omega (arith, l, bank-fits bank (m .core .banks .colour) (eqb bank 0) (eqb bank 1) refl refl (p .0)),
     )

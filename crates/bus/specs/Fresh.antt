@@ -8,7 +8,7 @@ use Rattle.mbc.specs.Mbc.{fresh}
 use Rattle.memory.specs.Start.{zeroed, started}
 use Rattle.memory.specs.declared.Memory.{Memory}
 use Rattle.numbers.specs.Numbers.{done}
-use Rattle.refusals.specs.Refusal.{orElse, lengthsRefused, logRefused}
+use Rattle.refusals.specs.Refusal.{orElse, lentRefused}
 
 -- the number, the state, and video and work memory as they are left; ROM, save, log and sound window are lent for reading
 pub record Begun : Type 0 where
@@ -27,7 +27,7 @@ startedBy kind banks code colour = started (fresh kind banks code .cartridge) (f
 -- 3 for the description, then 4 for a length
 unfoldable pub freshRefused : ℕ → Memory → ℕ → ℕ → ℕ → ℕ → ℕ → ℕ → ℕ
 freshRefused description m rom vram wram save sound log =
-    orElse description (orElse (lengthsRefused m rom vram wram save sound) (logRefused log))
+    orElse description (lentRefused (m .core) rom vram wram save sound log)
 
 -- a refusal gives the all-zero state and leaves both memories; else both are zeroed
 unfoldable pub beginning : ℕ → Memory → List ℕ → List ℕ → Begun

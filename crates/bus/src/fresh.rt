@@ -29,9 +29,8 @@ fn fresh_refused(
 ) -> u8
     ensures { λ r. ⌜ r ≡ freshRefused description memory rom vram wram save sound log ⌝ }
 {
-    let lengths = refusals::lengths_refused(memory, rom, vram, wram, save, sound);
-    let rest = refusals::or_else(lengths, refusals::log_refused(log));
-    refusals::or_else(description, rest)
+    let lent = refusals::lent_refused(memory.core, rom, vram, wram, save, sound, log);
+    refusals::or_else(description, lent)
 }
 
 // `kind` 0 RomOnly, 1 Mbc1, 2 Mbc2; `banks` is N; `code` the RAM code. A refusal gives the all-zero state, which every call refuses by 3.
@@ -63,7 +62,7 @@ pub fn fresh(
         sound.len(),
         log.len(),
     );
-    if number != 0 {
+    if number != numbers::DONE {
         return Done {
             number: number,
             memory: memory::zero(),

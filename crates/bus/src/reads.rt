@@ -26,7 +26,7 @@ pub fn read_byte(
         save.len(),
         sound.len(),
     );
-    if number != 0 {
+    if number != numbers::DONE {
         return Byte {
             number: number,
             value: 0,
@@ -58,7 +58,7 @@ pub fn read_word(
         save.len(),
         sound.len(),
     );
-    if number != 0 {
+    if number != numbers::DONE {
         return Word {
             number: number,
             value: 0,
@@ -79,7 +79,7 @@ pub fn read_cgb_lcd_ram(memory: Memory, vram: &[u8], index: u16, bank: u8) -> By
     let length = refusals::vram_length_refused(memory, vram.len());
     let rest = refusals::or_else(length, refusals::vram_refused(memory, index, bank));
     let number = refusals::or_else(state, rest);
-    if number != 0 {
+    if number != numbers::DONE {
         return Byte {
             number: number,
             value: 0,

@@ -23,7 +23,7 @@ digest-four h a b c d =
     )
 
 pub digest-lent : (n m : Lengths) → n ≡ m → (state : Memory) (v w s log : List ℕ)
-    → digest (digest (digest (digest 0 (take (n .vram) v)) (take (n .wram) w)) (take (n .save) s)) (logBytes (state .used) log) ≡ digest 0 (memoryBytes (lentParts m (world state v w s log)))
+    → digest (digest (digest (digest 0 (take (n .vram) v)) (take (n .wram) w)) (take (n .save) s)) (logBytes (state .core .used) log) ≡ digest 0 (memoryBytes (lentParts m (world state v w s log)))
 digest-lent n m e state v w s log =
-    digest-four 0 (take (n .vram) v) (take (n .wram) w) (take (n .save) s) (logBytes (state .used) log)
+    digest-four 0 (take (n .vram) v) (take (n .wram) w) (take (n .save) s) (logBytes (state .core .used) log)
     ∙ ap (λ (k : Lengths). digest 0 (memoryBytes (lentParts k (world state v w s log)))) e

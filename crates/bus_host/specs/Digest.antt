@@ -36,4 +36,4 @@ logBytes used log = wordBytes used ++ take (smaller used (length log)) log
 
 -- "Memories: VRAM, WRAM, save, log use (2), the log's bytes in use"
 abbrev pub memoryBytes : World → List ℕ
-memoryBytes w = w .vram ++ w .wram ++ w .save ++ logBytes (w .state .used) (w .log)
+memoryBytes w = w .vram ++ w .wram ++ w .save ++ logBytes (w .state .core .used) (w .log)

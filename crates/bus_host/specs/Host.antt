@@ -25,7 +25,7 @@ abbrev pub lentOf : Lengths → ℕ → ℕ → ℕ → ℕ → Lengths
 lentOf n r v w s = record { rom = smaller (n .rom) r; vram = smaller (n .vram) v; wram = smaller (n .wram) w; save = smaller (n .save) s }
 
 abbrev pub lengthsIn : Memory → ℕ → ℕ → ℕ → ℕ → Lengths
-lengthsIn m = lentOf (lengthsOf (m .cartridge) (m .mapper) (m .banks .colour))
+lengthsIn m = lentOf (lengthsOf (m .core .cartridge) (m .core .mapper) (m .core .banks .colour))
 
 -- the sound window ("The whole bus": N and Y bring its 48 bytes), as far as there is room
 abbrev pub heard : List ℕ → ℕ → List ℕ → List ℕ

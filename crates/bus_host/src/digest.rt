@@ -8,7 +8,6 @@ ghost use Rattle.bus_host.specs.Digest.{mixed, digest, colorBytes, wordB
 use crate::host::least;
 use crate::host::lengths_in;
 use lcd::Lcd;
-use lines::mapper::registers_of;
 use lines::number::flag;
 use lines::number::high;
 use lines::number::low;
@@ -77,11 +76,11 @@ fn of_tables(h: u32, memory: Memory) -> u32 {
 
 // What is one byte.
 fn of_small(h: u32, memory: Memory) -> u32 {
-    let banks = memory.banks;
-    let lcd = memory.lcd;
-    let hdma = memory.hdma;
-    let pad = memory.joypad;
-    let clock = memory.clock;
+    let banks = memory.core.banks;
+    let lcd = memory.core.lcd;
+    let hdma = memory.core.hdma;
+    let pad = memory.core.joypad;
+    let clock = memory.core.clock;
     let bytes = [
         flag(banks.colour),
         flag(lcd.disabled),
@@ -101,8 +100,8 @@ fn of_small(h: u32, memory: Memory) -> u32 {
 }
 
 fn of_words(h: u32, memory: Memory) -> u32 {
-    let clock = memory.clock;
-    let hdma = memory.hdma;
+    let clock = memory.core.clock;
+    let hdma = memory.core.hdma;
     of_word(
         of_word(of_word(h, clock.tima), hdma.source),
         hdma.destination,
@@ -117,15 +116,16 @@ fn of_cycles(h: u32, lcd: Lcd) -> u32 {
 }
 
 fn of_mapper(h: u32, memory: Memory) -> u32 {
-    let cartridge = memory.cartridge;
-    let mapper = memory.mapper;
-    let held = registers_of(mapper);
+    let core = memory.core;
+    let cartridge = core.cartridge;
+    let mapper = core.mapper;
+    let held = mapper.registers();
     let bytes = [
         held.kind,
         high(cartridge.banks),
         low(cartridge.banks),
         cartridge.code,
-        held.rom,
+        low(held.rom),
         held.ram,
         held.mode,
         held.enabled,
@@ -135,7 +135,7 @@ fn of_mapper(h: u32, memory: Memory) -> u32 {
 }
 
 pub fn of_state(memory: Memory) -> u32 {
-    let lcd = memory.lcd;
+    let lcd = memory.core.lcd;
     let small = of_small(of_tables(0, memory), memory);
     of_mapper(of_cycles(of_words(small, memory), lcd), memory)
 }
@@ -154,5 +154,5 @@ pub fn of_memories(memory: Memory, vram: &[u8], wram: &[u8], save: &[u8], log: &
     let w = n.wram;
     let s = n.save;
     let h = of_bytes(of_bytes(of_bytes(0, &vram[..v]), &wram[..w]), &save[..s]);
-    of_log(h, memory.used, log)
+    of_log(h, memory.core.used, log)
 }

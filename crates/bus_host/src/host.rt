@@ -8,7 +8,6 @@ ghost use Rattle.memory.specs.World.{world, fixed};
 ghost use Rattle.bus_host.specs.Host.{smaller, lengthsOf, lentOf, lengthsIn, lentParts};
 use dispatch::Call;
 use dispatch::Performed;
-use lines::mapper::banks;
 use lines::pattern;
 use mbc::Cartridge;
 use mbc::Mapper;
@@ -58,9 +57,10 @@ fn lent(needs: Lengths, rom: usize, vram: usize, wram: usize, save: usize) -> Le
 pub fn lengths_in(memory: Memory, rom: usize, vram: usize, wram: usize, save: usize) -> Lengths
     ensures { λ r. ⌜ (r ≡ lengthsIn memory rom vram wram save) × ((r .rom ≤ rom) × ((r .vram ≤ vram) × ((r .wram ≤ wram) × (r .save ≤ save)))) ⌝ }
 {
-    let cartridge = memory.cartridge;
-    let mapper = memory.mapper;
-    let kind = memory.banks;
+    let core = memory.core;
+    let cartridge = core.cartridge;
+    let mapper = core.mapper;
+    let kind = core.banks;
     lent(
         lengths_of(cartridge, mapper, kind.colour),
         rom,
@@ -123,7 +123,7 @@ struct Description {
 fn described(given: &[u8; 52]) -> Description {
     Description {
         kind: given[0],
-        banks: banks(given[1]),
+        banks: Cartridge::banks_of(given[1]),
         code: given[2],
         colour: given[3] == 1,
     }

@@ -93,7 +93,7 @@ wram-page bank page n low h = by-half (ltb (page * 256) 0xD000) refl
 
 -- work memory from a page on
 abbrev wramFrom : World → ℕ → List ℕ
-wramFrom w page = drop (wramAt (w .state .banks .wram) (page * 256)) (w .wram)
+wramFrom w page = drop (wramAt (w .state .core .banks .wram) (page * 256)) (w .wram)
 
 wram-read : (x : Fixed) (w : World) (page k : ℕ) → 0xC0 ≤ page → page < 0xE0 → k < 160 → pageOf x w page k ≡ getD (wramFrom w page) k 0
 unfolding echo
@@ -101,8 +101,8 @@ wram-read x w page k low high h =
     let i = page * 256 + k in
     let e : i ≡ echo i = rw (lt-ltb i 0xE000 (omega arith)) in
     sym (read-wram x (w .state) (w .vram) (w .wram) (w .save) i i e (omega arith) (omega arith))
-    ∙ ap (λ (j : ℕ). getD (w .wram) j 0) (wram-page (w .state .banks .wram) page k low h)
-    ∙ sym (getD-drop (wramAt (w .state .banks .wram) (page * 256)) (w .wram) k 0)
+    ∙ ap (λ (j : ℕ). getD (w .wram) j 0) (wram-page (w .state .core .banks .wram) page k low h)
+    ∙ sym (getD-drop (wramAt (w .state .core .banks .wram) (page * 256)) (w .wram) k 0)
 
 unfoldable pub oamAfter : Fixed → World → ℕ → List ℕ
 oamAfter x w page =

@@ -27,13 +27,13 @@ use Rattle.corners.proofs.Quick as quick
 unfoldable pub opened : Unit {0}
 unfolding
     bits.isSet bits.setBit bits.unsetBit calls.unless hdma.keptBelow hdma.sourceHigh hdma.sourceLow hdma.destinationHigh hdma.destinationLow
-    hdma.stored55 hdma.firstBlock hdma.starts hdma.started hdma.sourceUsed hdma.destinationUsed hdma.stepped hdma.stillOn hdma.blockEnded
+    hdma.firstBlock hdma.starts hdma.sourceUsed hdma.destinationUsed hdma.stepped hdma.stillOn hdma.blockEnded
     hdma.generalEnded hdma.startOf joypad.named joypad.bitOf joypad.afterPress joypad.polled joypad.padRead mbc.ramBanks mbc.ramLen mbc.start
     mbc.ramSource mbc.source mbc.low1 mbc.high1 mbc.after1 mbc.enable2 mbc.after2 banks.zeroAsOne start.monochromePage start.colourPage
     start.startPage start.startHdma start.started access.lentAt access.byteAt access.savePut access.putAt map.echo map.wramAt write.copyBy write.writeAt
     palette.moved colours.byteAt colours.putAt answers.changed refusal.inSave refusal.inSound refusal.byteRoom refusal.byteOwed refusal.cyclesRefused
     colour.wramBankPut colour.backgroundIndexPut colour.backgroundDataPut page.byKind page.lineRead page.plainRead page.shownAs page.readRegister page.plainWrite
     page.writeRegister selected.wramBankOf transfers.sourceHighPut transfers.sourceLowPut transfers.destinationHighPut transfers.destinationLowPut
-    transfers.startPut transfers.startCopy transfers.copyOf transfers.finished log.bytesOf log.recordBytes log.appended counter.period
+    transfers.started transfers.copyOf transfers.finished log.bytesOf log.recordNumber log.recordBytes log.appended counter.period
     counter.stepTima counter.steps timer.divided timer.counted rows.bytes rows.due oam.written oam.dma oam.oamAfter oam.laid quick.quick quick.quickly
 opened = tt

@@ -32,10 +32,10 @@ changedIn w n next = inWorld w (performedDone (changed n (w .state) next))
 
 unfoldable pub quick : Fixed → World → Act → Outcome
 quick x w (read i) = outcome done (readIn x w i) w
-quick x w (write i v) = unless (byteRoom (w .state .used) (length (w .log)) i) w (outcome (byteOwed i) 0 (written x w i v))
+quick x w (write i v) = unless (byteRoom (w .state .core .used) (length (w .log)) i) w (outcome (byteOwed i) 0 (written x w i v))
 quick x w (cycle n) = changedIn w (cyclesRefused n) (withTimer (w .state) (updated (timerOf (w .state)) n))
 quick x w (press b) =
-    changedIn w (joypad.pressCall (w .state .joypad) b .number) (withController (w .state) (joypad.pressCall (w .state .joypad) b .controller))
+    changedIn w (joypad.pressCall (w .state .core .joypad) b .number) (withController (w .state) (joypad.pressCall (w .state .core .joypad) b .controller))
 quick x w poll = outcome done 0 (inState w (polledIn (w .state)))
 quick x w block = outcome done 36 (transferred x (writeAt x 1) (blockCopy (w .state)) 0 w)
 
@@ -49,7 +49,7 @@ changed-kept : (n : ℕ) (m : Memory) {next : Memory} → Kept m next → Kept m
 unfolding changed
 changed-kept n m k = cond-both (λ (d : Done). Kept m (d .memory)) (eqb n 0) k (kept-refl m)
 
-module _ (x : Fixed) (w : World) (g : Good w) (right : fits (w .state .cartridge) x ≡ true) where
+module _ (x : Fixed) (w : World) (g : Good w) (right : fits (w .state .core .cartridge) x ≡ true) where
   same : (a : Act) → step x w (callOf a) ≡ quick x w a
   unfolding step stateStep callOf quick byteGiven changed unless orElse
   same (read i) = rw (read-number w g x, right)
@@ -63,11 +63,11 @@ module _ (x : Fixed) (w : World) (g : Good w) (right : fits (w .state .cartridge
   unfolding quick unless
   stays (read i) = stays-refl w (g .holds)
   stays (write i v) =
-      cond-both (λ (o : Outcome). Stays w (o .after)) (eqb (byteRoom (w .state .used) (length (w .log)) i) 0)
+      cond-both (λ (o : Outcome). Stays w (o .after)) (eqb (byteRoom (w .state .core .used) (length (w .log)) i) 0)
       (rw (← write-written x w i v) (write-stays x w (g .holds) 2 i v)) (stays-refl w (g .holds))
   stays (cycle n) = kept-stays w (g .holds) _ (changed-kept (cyclesRefused n) (w .state) (timer-kept (w .state) n))
   stays (press b) =
-      let p = joypad.pressCall (w .state .joypad) b in
+      let p = joypad.pressCall (w .state .core .joypad) b in
       kept-stays w (g .holds) _ (changed-kept (p .number) (w .state) (controller-kept (w .state) (p .controller)))
   stays poll = kept-stays w (g .holds) _ (polled-kept (w .state))
   stays block = transfer-stays x w (g .holds) 1 (blockCopy (w .state)) 0
@@ -75,10 +75,10 @@ module _ (x : Fixed) (w : World) (g : Good w) (right : fits (w .state .cartridge
   good : (a : Act) → Good (quick x w a .after)
   good a = stays-good w (quick x w a .after) g (stays a)
 
-  still-right : (a : Act) → fits (quick x w a .after .state .cartridge) x ≡ true
+  still-right : (a : Act) → fits (quick x w a .after .state .core .cartridge) x ≡ true
   still-right a = rw (stays a .cartridge) right
 
-pub seen-quickly : (x : Fixed) (w : World) → Good w → fits (w .state .cartridge) x ≡ true → (ls : List Line) → seen x w ls ≡ quickly x w ls
+pub seen-quickly : (x : Fixed) (w : World) → Good w → fits (w .state .core .cartridge) x ≡ true → (ls : List Line) → seen x w ls ≡ quickly x w ls
 unfolding seen quickly
 seen-quickly x w g r [] = refl
 seen-quickly x w g r (does a ∷ ls) =

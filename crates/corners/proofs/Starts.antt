@@ -17,7 +17,7 @@ use Rattle.memory.specs.Ranges.{vramLen, wramLen, soundLen}
 use Rattle.memory.specs.Start.{started}
 use Rattle.memory.specs.World.{World, world}
 use Rattle.numbers.specs.Numbers.{done}
-use Rattle.refusals.specs.Refusal.{orElse, lengthsFit, lengthsRefused, logRefused}
+use Rattle.refusals.specs.Refusal.{orElse, lentRefused, lengthsFit, lengthsRefused, logRefused}
 use Rattle.savelog.specs.Log.{useInRange}
 use Rattle.corners.specs.Rows.{Lent, bytes, logLen, Description, Line, freshOn, fixedOn, seenOn, due, dueOn}
 use Rattle.corners.proofs.Quick.{quickly, seen-quickly}
@@ -44,14 +44,14 @@ startOn lent d colour =
     (bytes (lent .save) 0 (mbc.ramLen (cartridge d) (mapper d))) (bytes (lent .log) 0 logLen)
 
 lengths-open : (c : Cartridge) (m : Mapper) (colour : Bool)
-    → lengthsRefused (started c m colour) (mbc.romLen c) (vramLen colour) (wramLen colour) (mbc.ramLen c m) soundLen ≡ 0
+    → lengthsRefused (started c m colour .core) (mbc.romLen c) (vramLen colour) (wramLen colour) (mbc.ramLen c m) soundLen ≡ 0
 unfolding lengthsRefused lengthsFit started
 lengths-open c m colour =
     rw (eq-eqb (mbc.romLen c) _ refl, eq-eqb (vramLen colour) _ refl, eq-eqb (wramLen colour) _ refl, eq-eqb (mbc.ramLen c m) _ refl)
 
 module _ (lent : Lent) (d : Description) (a : Allowed d) (colour : Bool) where
   fresh-open : freshOn lent d colour ≡ begun done (started (cartridge d) (mapper d) colour) (replicate (vramLen colour) 0) (replicate (wramLen colour) 0)
-  unfolding beginning freshRefused orElse logRefused
+  unfolding beginning freshRefused orElse lentRefused logRefused
   fresh-open =
       rw (
         a .fresh,
@@ -74,7 +74,7 @@ module _ (lent : Lent) (d : Description) (a : Allowed d) (colour : Bool) where
         used = rw (le-leb 0 (length (bytes (lent .log) 0 logLen)) (omega arith));
       }
 
-  start-right : fits (startOn lent d colour .state .cartridge) (fixedOn lent d) ≡ true
+  start-right : fits (startOn lent d colour .state .core .cartridge) (fixedOn lent d) ≡ true
   unfolding started
   start-right = rw (eq-eqb _ _ (bytes-length (lent .rom) 0 (mbc.romLen (cartridge d))), bytes-length (lent .sound) 0 soundLen)
 

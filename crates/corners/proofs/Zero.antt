@@ -16,7 +16,7 @@ use Rattle.memory.specs.World.{World, Fixed}
 use Rattle.memory.specs.declared.Memory.{Memory}
 use Rattle.numbers.specs.Numbers.{outOfRange}
 use Rattle.refusals.specs.Answers.{changed, byteGiven, wordGiven, flagGiven, waitingGiven}
-use Rattle.refusals.specs.Refusal.{orElse, stateRefused, readRefused, writeRefused, refusedState, refusedRead, refusedWrite}
+use Rattle.refusals.specs.Refusal.{orElse, stateRefused, readRefused, lentRefused, writeRefused, refusedState, refusedRead, refusedWrite}
 use Rattle.registers.specs.State.{requestedIn, removedIn}
 use Rattle.savelog.specs.Log.{logLimit}
 use Rattle.state_calls.specs.State.{onInterrupt}
@@ -64,7 +64,7 @@ module _ (x : Fixed) (w : World) (e : w .state ≡ zeroed) where
   read-closed = rw (state-closed (w .state) e logLimit)
 
   write-closed : refusedWrite x w ≡ outOfRange
-  unfolding writeRefused orElse
+  unfolding writeRefused lentRefused orElse
   write-closed = rw (state-closed (w .state) e _)
 
 pub zero-closed : ZeroRefused

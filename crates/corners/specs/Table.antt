@@ -64,10 +64,10 @@ a = 4
 -- What no call reads
 
 abbrev selects : ℕ → Line
-selects bank = shows (λ w. romBank (w .state .mapper) ∷ []) (bank ∷ [])
+selects bank = shows (λ w. romBank (w .state .core .mapper) ∷ []) (bank ∷ [])
 
 abbrev workBank : ℕ → Line
-workBank bank = shows (λ w. w .state .banks .wram ∷ []) (bank ∷ [])
+workBank bank = shows (λ w. w .state .core .banks .wram ∷ []) (bank ∷ [])
 
 abbrev oamIs : List ℕ → Line
 oamIs l = shows (λ w. w .state .oam) l
@@ -80,7 +80,7 @@ saveIs l = shows (λ w. w .save) l
 
 -- the log's first bytes, as many as are used
 abbrev logIs : List ℕ → Line
-logIs l = shows (λ w. take (w .state .used) (w .log)) l
+logIs l = shows (λ w. take (w .state .core .used) (w .log)) l
 
 abbrev channels : Color → List ℕ
 channels c = c .red ∷ c .green ∷ c .blue ∷ []

@@ -1,16 +1,19 @@
 -- Numbers: what refuses a write gives 0 or a number above 1; and a call by its refusal.
 use mathlib.Core.Bool.{Bool, true, false, cond, _&&_, _||_, or-true}
 use mathlib.Core.Path.{_≡_, refl}
-use Prim.Native.Nat.{ℕ, _+_, _≤_}
+use Prim.Native.Nat.{ℕ, _+_, _*_, _≤_}
 use native.Mathlib.Omega.{arith}
-use lib.Dec.{eqb, ltb, leb}
+use lib.Dec.{eqb, leb}
 use lib.ListN.{length}
-use borrow.Author.Tests.{eqb-true, eqb-false, ltb-false}
+use borrow.Author.Tests.{eqb-true, eqb-false}
 use Rattle.bus.specs.Calls.{Outcome, outcome, unless}
 use Rattle.memory.specs.Ranges.{inRange}
 use Rattle.memory.specs.World.{World, Fixed}
 use Rattle.memory.specs.declared.Memory.{Memory}
 use Rattle.numbers.specs.Numbers.{done, owed}
+use Rattle.rules.proofs.Tests.{by-cond, untrue}
+use Rattle.savelog.proofs.Use.{has-room}
+use Rattle.savelog.specs.Log.{width, logLimit, full}
 use Rattle.refusals.specs.Refusal.{
   inSave,
   nextIndex,
@@ -20,6 +23,7 @@ use Rattle.refusals.specs.Refusal.{
   stateRefused,
   lengthsFit,
   lengthsRefused,
+  lentRefused,
   logRefused,
   writeRefused,
   refusedWrite,
@@ -28,8 +32,6 @@ use Rattle.refusals.specs.Refusal.{
   wordRoom,
   inSound,
 }
-use Rattle.rules.proofs.Tests.{untrue, by-cond}
-use Rattle.savelog.specs.Log.{width, logLimit}
 use Rattle.dispatch.specs.Kinds.{refused}
 
 -- a call by its refusal
@@ -57,9 +59,9 @@ pub state-refusal : (m : Memory) (limit : ℕ) → Refusal (stateRefused m limit
 unfolding stateRefused
 state-refusal m limit = test-refusal (inRange m limit) 3 refl
 
-lengths-refusal : (m : Memory) (rom vram wram save sound : ℕ) → Refusal (lengthsRefused m rom vram wram save sound)
+lengths-refusal : (m : Memory) (rom vram wram save sound : ℕ) → Refusal (lengthsRefused (m .core) rom vram wram save sound)
 unfolding lengthsRefused
-lengths-refusal m rom vram wram save sound = test-refusal (lengthsFit m rom vram wram save sound) 4 refl
+lengths-refusal m rom vram wram save sound = test-refusal (lengthsFit (m .core) rom vram wram save sound) 4 refl
 
 log-refusal : (log : ℕ) → Refusal (logRefused log)
 unfolding logRefused
@@ -67,24 +69,24 @@ log-refusal log = test-refusal (leb log logLimit) 4 refl
 
 module _ (x : Fixed) (w : World) where
   write-refusal : Refusal (refusedWrite x w)
-  unfolding writeRefused
+  unfolding writeRefused lentRefused
   write-refusal =
       or-refusal (stateRefused (w .state) (length (w .log))) _ (state-refusal (w .state) (length (w .log)))
-      (or-refusal (lengthsRefused (w .state) (length (x .rom)) (length (w .vram)) (length (w .wram)) (length (w .save)) (length (x .sound))) _
+      (or-refusal (lengthsRefused (w .state .core) (length (x .rom)) (length (w .vram)) (length (w .wram)) (length (w .save)) (length (x .sound))) _
       (lengths-refusal (w .state) (length (x .rom)) (length (w .vram)) (length (w .wram)) (length (w .save)) (length (x .sound)))
       (log-refusal (length (w .log))))
 
-  pub byte-refusal : (i : ℕ) → Refusal (orElse (refusedWrite x w) (byteRoom (w .state .used) (length (w .log)) i))
+  pub byte-refusal : (i : ℕ) → Refusal (orElse (refusedWrite x w) (byteRoom (w .state .core .used) (length (w .log)) i))
   unfolding byteRoom
   byte-refusal i =
       or-refusal (refusedWrite x w) _ write-refusal
-      (room-refusal (inSave i && ltb (length (w .log)) (w .state .used + width)) 2 refl)
+      (room-refusal (inSave i && full (length (w .log)) (w .state .core .used) 1) 2 refl)
 
-  pub word-refusal : (i : ℕ) → Refusal (orElse (refusedWrite x w) (wordRoom (w .state .used) (length (w .log)) i))
+  pub word-refusal : (i : ℕ) → Refusal (orElse (refusedWrite x w) (wordRoom (w .state .core .used) (length (w .log)) i))
   unfolding wordRoom
   word-refusal i =
       or-refusal (refusedWrite x w) _ write-refusal
-      (room-refusal (eitherInSave i && ltb (length (w .log)) (w .state .used + (width + width))) 2 refl)
+      (room-refusal (eitherInSave i && full (length (w .log)) (w .state .core .used) 2) 2 refl)
 
 -- room in the log
 
@@ -96,17 +98,17 @@ no-room false b e t = untrue t
 module _ (used log i : ℕ) where
   pub byte-fits : byteRoom used log i ≡ 0 → inSave i ≡ true → used + width ≤ log
   unfolding byteRoom
-  byte-fits e t = ltb-false log (used + width) (no-room (inSave i) (ltb log (used + width)) e t)
+  byte-fits e t = has-room log used 1 (no-room (inSave i) (full log used 1) e t)
 
-  word-fits : wordRoom used log i ≡ 0 → eitherInSave i ≡ true → used + (width + width) ≤ log
+  word-fits : wordRoom used log i ≡ 0 → eitherInSave i ≡ true → used + 2 * width ≤ log
   unfolding wordRoom
-  word-fits e t = ltb-false log (used + (width + width)) (no-room (eitherInSave i) (ltb log (used + (width + width))) e t)
+  word-fits e t = has-room log used 2 (no-room (eitherInSave i) (full log used 2) e t)
 
-  pub low-fits : wordRoom used log i ≡ 0 → inSave i ≡ true → used + (width + width) ≤ log
+  pub low-fits : wordRoom used log i ≡ 0 → inSave i ≡ true → used + 2 * width ≤ log
   unfolding eitherInSave
   low-fits e t = word-fits e (rw t)
 
-  pub high-fits : wordRoom used log i ≡ 0 → inSave (nextIndex i) ≡ true → used + (width + width) ≤ log
+  pub high-fits : wordRoom used log i ≡ 0 → inSave (nextIndex i) ≡ true → used + 2 * width ≤ log
   unfolding eitherInSave
   high-fits e t = word-fits e (rw t (or-true (inSave i)))
 

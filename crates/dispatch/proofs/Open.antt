@@ -3,19 +3,22 @@ use mathlib.Core.Bool.{Bool, true, false, cond}
 use mathlib.Core.Path.{_≡_, refl}
 use Prim.Native.Nat.{ℕ, _%_, _≤_}
 use native.Mathlib.Omega.{arith}
-use lib.Dec.{eqb, leb}
+use lib.Dec.{eqb}
 use lib.ListN.{length}
-use borrow.Author.Tests.{eq-eqb, le-leb, eqb-true, leb-true}
+use borrow.Author.Tests.{eq-eqb, le-leb}
 use Rattle.memory.specs.Ranges.{inRange}
 use Rattle.memory.specs.World.{World, Fixed}
 use Rattle.mmu.proofs.Laws.{Stays}
 use Rattle.mmu.specs.Access.{Holds}
 use Rattle.numbers.specs.Numbers.{done, wrongLength}
+use Rattle.savelog.proofs.Use.{use-parts, use-joins}
+use Rattle.savelog.specs.Log.{width, logLimit, useInRange}
 use Rattle.refusals.specs.Refusal.{
   orElse,
   stateRefused,
   lengthsFit,
   lengthsRefused,
+  lentRefused,
   logRefused,
   readRefused,
   writeRefused,
@@ -23,36 +26,31 @@ use Rattle.refusals.specs.Refusal.{
   refusedRead,
   refusedWrite,
 }
-use Rattle.rules.proofs.Tests.{both-true}
-use Rattle.savelog.specs.Log.{width, logLimit, useInRange}
 use Rattle.dispatch.specs.Lent.{fits}
 
 pub record Good (w : World) : Type 0 where
   pub holds : Holds w
-  pub used : useInRange (w .state .used) (length (w .log)) ≡ true
+  pub used : useInRange (w .state .core .used) (length (w .log)) ≡ true
 
 pub stays-good : (w u : World) → Good w → Stays w u → Good u
 stays-good w u g s = record { holds = s .holds; used = s .used (g .used) }
 
-pub good-use : {w : World} → Good w → (w .state .used % width ≡ 0) × (w .state .used ≤ length (w .log))
-unfolding useInRange
-good-use {w} g =
-    let b = both-true (eqb (w .state .used % width) 0) (leb (w .state .used) (length (w .log))) (g .used) in
-    (eqb-true (w .state .used % width) 0 (b .0), leb-true (w .state .used) (length (w .log)) (b .1))
+pub good-use : {w : World} → Good w → (w .state .core .used % width ≡ 0) × (w .state .core .used ≤ length (w .log))
+good-use {w} g = use-parts (w .state .core .used) (length (w .log)) (g .used)
 
 module _ (w : World) (g : Good w) where
-  state-open : (limit : ℕ) → w .state .used ≤ limit → stateRefused (w .state) limit ≡ done
-  unfolding stateRefused inRange useInRange
-  state-open limit h = rw (g .holds .state, eq-eqb (w .state .used % width) 0 (good-use g .0), le-leb (w .state .used) limit h)
+  state-open : (limit : ℕ) → w .state .core .used ≤ limit → stateRefused (w .state) limit ≡ done
+  unfolding stateRefused inRange
+  state-open limit h = rw (g .holds .state, use-joins (w .state .core .used) limit (good-use g .0) h)
 
   pub alone-open : refusedState (w .state) ≡ done
   alone-open = state-open logLimit (omega (arith, good-use g .1, g .holds .log))
 
   module _ (x : Fixed) where
     abbrev pub lentNumber : ℕ
-    lentNumber = cond (fits (w .state .cartridge) x) done wrongLength
+    lentNumber = cond (fits (w .state .core .cartridge) x) done wrongLength
 
-    lengths-number : lengthsRefused (w .state) (length (x .rom)) (length (w .vram)) (length (w .wram)) (length (w .save)) (length (x .sound)) ≡ lentNumber
+    lengths-number : lengthsRefused (w .state .core) (length (x .rom)) (length (w .vram)) (length (w .wram)) (length (w .save)) (length (x .sound)) ≡ lentNumber
     unfolding lengthsRefused lengthsFit
     lengths-number = let h = g .holds in rw (eq-eqb _ _ (h .vram), eq-eqb _ _ (h .wram), eq-eqb _ _ (h .save))
 
@@ -61,9 +59,9 @@ module _ (w : World) (g : Good w) where
     read-number = rw alone-open lengths-number
 
     pub write-number : refusedWrite x w ≡ lentNumber
-    unfolding writeRefused orElse logRefused
+    unfolding writeRefused lentRefused orElse logRefused
     write-number =
-        rw (state-open (length (w .log)) (good-use g .1), le-leb _ _ (g .holds .log), lengths-number) (either (fits (w .state .cartridge) x))
+        rw (state-open (length (w .log)) (good-use g .1), le-leb _ _ (g .holds .log), lengths-number) (either (fits (w .state .core .cartridge) x))
       where
         either : (b : Bool) → cond (eqb (cond b done wrongLength) done) done (cond b done wrongLength) ≡ cond b done wrongLength
         either true = refl

@@ -17,7 +17,7 @@ use Rattle.memory.specs.World.{world}
 use Rattle.memory.specs.declared.Memory.{Memory}
 use Rattle.numbers.specs.Numbers.{done}
 use Rattle.refusals.proofs.Answers.{both-pass}
-use Rattle.refusals.specs.Refusal.{logRefused}
+use Rattle.refusals.specs.Refusal.{lentRefused, logRefused}
 use Rattle.rules.proofs.Tests.{both-true, passes}
 use Rattle.savelog.specs.Log.{logLimit, useInRange}
 use Rattle.dispatch.specs.Unchanged.{RefusedFresh}
@@ -55,9 +55,9 @@ log-passes n z = leb-true n logLimit (passes (leb n logLimit) 4 (omega arith) z)
 
 pub record Started (l : Lent) (b : Begun) : Type 0 where
   pub good : Good (world (b .state) (b .vram) (b .wram) (l .image) (l .log))
-  pub unused : b .state .used ≡ 0
-  pub cartridge : b .state .cartridge ≡ mbc.cartridgeOf (l .banks) (l .code)
-  pub mapper : b .state .mapper ≡ mbc.start (l .kind)
+  pub unused : b .state .core .used ≡ 0
+  pub cartridge : b .state .core .cartridge ≡ mbc.cartridgeOf (l .banks) (l .code)
+  pub mapper : b .state .core .mapper ≡ mbc.start (l .kind)
 
 begun-started : (l : Lent)
     → freshRefused (mbc.fresh (l .kind) (l .banks) (l .code) .number) (startedBy (l .kind) (l .banks) (l .code) (l .colour)) (length (l .rom))
@@ -65,7 +65,7 @@ begun-started : (l : Lent)
     ≡ 0
     → Started l
     (begun 0 (startedBy (l .kind) (l .banks) (l .code) (l .colour)) (replicate (length (l .vram)) 0) (replicate (length (l .wram)) 0))
-unfolding freshRefused startedWith useInRange
+unfolding freshRefused lentRefused startedWith useInRange
 begun-started l e =
     let p = both-pass _ _ e in
     let q = both-pass _ _ (p .1) in

@@ -111,7 +111,7 @@ pub fn pending_number(pending: Pending) -> u16
 fn of_waiting(memory: Memory, waiting: Waiting) -> Performed
     ensures { λ r. ⌜ r ≡ performed (waiting .number) (waitingNumber waiting) memory ⌝ }
 {
-    if waiting.number != 0 {
+    if waiting.number != numbers::DONE {
         return Performed {
             number: waiting.number,
             value: 0,

@@ -15,7 +15,7 @@ use Rattle.dispatch.specs.declared.Call.{Call}
 use Rattle.dispatch.specs.declared.Call.the-variants as call
 use Rattle.dispatch.specs.declared.Performed.{Performed}
 use Rattle.dispatch.specs.declared.StateCall.{StateCall}
-use Rattle.image.specs.Layout.{imageOf}
+use Rattle.image.specs.Layout.{imageLen, imageOf}
 use Rattle.image.specs.Load.{loadCall}
 use Rattle.image.specs.declared.Loaded.{Loaded}
 use Rattle.mbc.specs.Mbc as mbc
@@ -88,12 +88,12 @@ module _ (i : List ℕ) {d : Loaded} (e : d ≡ loadCall i) where
       unfolding stateEntry encoded
       done-state h g = rw (← e, z, ← f, le-ltb 1 (p .number) h, g)
 
-    pub mapper-read : (rom s : List ℕ) (k : ℕ) {b : ReadByte} → b ≡ mbc.readByte (d .state .cartridge) (d .state .mapper) rom s k
+    pub mapper-read : (rom s : List ℕ) (k : ℕ) {b : ReadByte} → b ≡ mbc.readByte (d .state .core .cartridge) (d .state .core .mapper) rom s k
         → given (b .number) (b .value) ≡ mapperReadEntry i rom s k
     unfolding mapperReadEntry
     mapper-read rom s k f = rw (← e, z, f)
 
-    module _ (k v : ℕ) {b : WriteByte} (f : b ≡ mbc.writeByte (d .state .cartridge) (d .state .mapper) k v) where
+    module _ (k v : ℕ) {b : WriteByte} (f : b ≡ mbc.writeByte (d .state .core .cartridge) (d .state .core .mapper) k v) where
       pub refused-mapper : (b .number ≡ 0 → ⊥) → mapped (b .number) 0 i ≡ mapperWriteEntry i k v
       unfolding mapperWriteEntry encodedMapper
       refused-mapper h = rw (← e, z, ← f, ne-eqb (b .number) 0 h)
@@ -165,11 +165,11 @@ module _ (x : Fixed) (i v w s l : List ℕ) where
 -- a fresh bus
 
 module _ (i v w : List ℕ) where
-  pub fresh-length : (b : Begun) → (length i ≡ 665 → ⊥) → fresh 4 i v w ≡ freshEntry i v w b
+  pub fresh-length : (b : Begun) → (length i ≡ imageLen → ⊥) → fresh 4 i v w ≡ freshEntry i v w b
   unfolding freshEntry
-  fresh-length b h = rw (ne-eqb (length i) 665 h)
+  fresh-length b h = rw (ne-eqb (length i) imageLen h)
 
-  module _ (h : length i ≡ 665) (n : ℕ) (m : Memory) {b : Begun} (e : b ≡ beginning n m v w) where
+  module _ (h : length i ≡ imageLen) (n : ℕ) (m : Memory) {b : Begun} (e : b ≡ beginning n m v w) where
     pub fresh-refused : (b .number ≡ 0 → ⊥) → fresh (b .number) i (b .vram) (b .wram) ≡ freshEntry i v w (beginning n m v w)
     unfolding freshEntry
     fresh-refused z =

@@ -1,12 +1,11 @@
--- What an entry needs: an image that was loaded has 665 bytes and a state in range, and every call leaves a state in range.
+-- What an entry needs: an image that was loaded has its length and a state in range, and every call leaves a state in range.
 use mathlib.Core.Bool.{Bool, true, not, _&&_}
 use mathlib.Core.List.{List}
 use mathlib.Core.Path.{_≡_, refl, sym, ap, _∙_}
-use Prim.Native.Nat.{ℕ, _%_, _≤_}
+use Prim.Native.Nat.{ℕ}
 use native.Mathlib.Omega.{arith}
-use lib.Dec.{eqb, leb}
+use lib.Dec.{eqb}
 use lib.ListN.{length}
-use borrow.Author.Tests.{eqb-true, leb-true, le-leb}
 use Rattle.bus.proofs.Passes.{write-passes}
 use Rattle.bus.specs.Calls.{Outcome}
 use Rattle.bus.specs.Fresh.{Begun, freshCall}
@@ -20,7 +19,9 @@ use Rattle.dispatch.specs.declared.Call.{Call}
 use Rattle.dispatch.specs.declared.Call.the-variants as call
 use Rattle.dispatch.specs.declared.Performed.{Performed}
 use Rattle.dispatch.specs.declared.StateCall.{StateCall}
-use Rattle.image.specs.Load.{storable, sound, fieldsIn, valuesOf, stateOf, loaded, loadCall}
+use Rattle.image.proofs.OpenLaws.{load-length, load-storable}
+use Rattle.image.specs.Layout.{imageLen}
+use Rattle.image.specs.Load.{storable, loadCall}
 use Rattle.image.specs.declared.Loaded.{Loaded}
 use Rattle.mbc.specs.Mbc as mbc
 use Rattle.mbc.specs.declared.cartridge.Cartridge.{Cartridge}
@@ -28,7 +29,6 @@ use Rattle.mbc.specs.declared.mbc.Answer.the-variants.{NotStored}
 use Rattle.mbc.specs.declared.mbc.Mapper.{Mapper}
 use Rattle.mbc.specs.declared.mbc.WriteByte.{WriteByte}
 use Rattle.memory.proofs.Laws.{used-range, mapper-kept}
-use Rattle.memory.specs.Start.{zeroed}
 use Rattle.memory.specs.Ranges.{stateInRange, inRange}
 use Rattle.memory.specs.World.{World, Fixed, withUsed, withMapper}
 use Rattle.memory.specs.declared.Memory.{Memory}
@@ -36,43 +36,26 @@ use Rattle.mmu.proofs.Laws.{Stays, write-stays, word-stays, transfer-stays}
 use Rattle.mmu.specs.Access.{Ready}
 use Rattle.refusals.proofs.Answers.{both-pass, state-passes}
 use Rattle.refusals.specs.Answers.{changed}
-use Rattle.refusals.specs.Refusal.{refusedWrite, refusedState, writeRefused}
+use Rattle.refusals.specs.Refusal.{refusedWrite, refusedState, lentRefused, writeRefused}
 use Rattle.refusals.specs.declared.Done.{Done}
 use Rattle.registers.proofs.Kept.{Kept}
 use Rattle.registers.specs.Transfers.{oamCopy, blockCopy}
 use Rattle.rules.proofs.Tests.{both-true, by-cond}
-use Rattle.savelog.specs.Log.{width, logLimit, useInRange}
+use Rattle.savelog.proofs.Use.{use-wider}
+use Rattle.savelog.specs.Log.{logLimit, useInRange}
 
 -- an image that was loaded
-right : (l : List ℕ) → loadCall l .number ≡ 0 → (length l ≡ 665) × (storable (loadCall l .state) ≡ true)
-unfolding loadCall
-right l =
-    by-cond (λ (d : Loaded). d .number ≡ 0 → (length l ≡ 665) × (storable (d .state) ≡ true)) (eqb (length l) 665) _ _
-    (λ t.
-    by-cond (λ (d : Loaded). d .number ≡ 0 → (length l ≡ 665) × (storable (d .state) ≡ true))
-    (sound (fieldsIn (valuesOf l)) && storable (stateOf l)) (loaded 0 (stateOf l)) (loaded 3 zeroed)
-    (λ s e. (eqb-true (length l) 665 t, both-true (sound (fieldsIn (valuesOf l))) (storable (stateOf l)) s .1))
-    (λ f e. let z : _≡_ {A = ℕ} 3 0 = e in absurd (omega arith)))
-    (λ f e. let z : _≡_ {A = ℕ} 4 0 = e in absurd (omega arith))
-
-pub loaded-right : (l : List ℕ) {d : Loaded} → d ≡ loadCall l → d .number ≡ 0 → (length l ≡ 665) × (storable (d .state) ≡ true)
+pub loaded-right : (l : List ℕ) {d : Loaded} → d ≡ loadCall l → d .number ≡ 0 → (length l ≡ imageLen) × (storable (d .state) ≡ true)
 loaded-right l {d} e z =
-    let r = right l (sym (ap (λ (a : Loaded). a .number) e) ∙ z) in
-    (r .0, ap (λ (a : Loaded). storable (a .state)) e ∙ r .1)
-
--- a use within a log is within the longest one
-wider : (n len : ℕ) → len ≤ logLimit → useInRange n len ≡ true → useInRange n logLimit ≡ true
-unfolding useInRange
-wider n len h e =
-    let b = both-true (eqb (n % width) 0) (leb n len) e in
-    rw (b .0, le-leb n logLimit (omega (arith, h, leb-true n len (b .1))))
+    let h = sym (ap (λ (a : Loaded). a .number) e) ∙ z in
+    (load-length l h, ap (λ (a : Loaded). storable (a .state)) e ∙ load-storable l h)
 
 -- a state in range is made of two
-parts : (m : Memory) → storable m ≡ true → (stateInRange m ≡ true) × (useInRange (m .used) logLimit ≡ true)
+parts : (m : Memory) → storable m ≡ true → (stateInRange m ≡ true) × (useInRange (m .core .used) logLimit ≡ true)
 unfolding storable inRange
 parts m h = both-true (stateInRange m) _ h
 
-joins : (m : Memory) → stateInRange m ≡ true → useInRange (m .used) logLimit ≡ true → storable m ≡ true
+joins : (m : Memory) → stateInRange m ≡ true → useInRange (m .core .used) logLimit ≡ true → storable m ≡ true
 unfolding storable inRange
 joins m a b = rw (a, b)
 
@@ -99,15 +82,15 @@ module _ (x : Fixed) (w : World) (h : storable (w .state) ≡ true) where
   abbrev Fine : Outcome → Type 0
   Fine o = storable (o .after .state) ≡ true
 
-  pub stays-storable : useInRange (w .state .used) (length (w .log)) ≡ true → (u : World) → Stays w u → storable (u .state) ≡ true
-  stays-storable e u s = joins (u .state) (s .holds .state) (wider (u .state .used) (length (u .log)) (s .holds .log) (s .used e))
+  pub stays-storable : useInRange (w .state .core .used) (length (w .log)) ≡ true → (u : World) → Stays w u → storable (u .state) ≡ true
+  stays-storable e u s = joins (u .state) (s .holds .state) (use-wider (u .state .core .used) (length (u .log)) logLimit (s .holds .log) (s .used e))
 
   -- what is not refused is ready
   ready : refusedWrite x w ≡ 0 → Ready x w
   ready e = write-passes (x .rom) (x .sound) (w .state) (w .vram) (w .wram) (w .save) (w .log) e
 
-  pub in-log : refusedWrite x w ≡ 0 → useInRange (w .state .used) (length (w .log)) ≡ true
-  unfolding writeRefused inRange
+  pub in-log : refusedWrite x w ≡ 0 → useInRange (w .state .core .used) (length (w .log)) ≡ true
+  unfolding writeRefused lentRefused inRange
   in-log e = both-true (stateInRange (w .state)) _ (state-passes (w .state) (length (w .log)) (both-pass _ _ e .0)) .1
 
   pub step-storable : (c : Call) → storable (step x w c .after .state) ≡ true
@@ -137,13 +120,13 @@ mapper-after c m k v =
     by-cond (λ (w : WriteByte). w .number ≡ 0 → w .mapper ≡ mbc.after c m k v) (not (mbc.mapped k)) (mbc.wroteAs 7 m NotStored) _
     (λ s e. let z : _≡_ {A = ℕ} 7 0 = e in absurd (omega arith)) (λ s e. refl))
 
-pub mapper-storable : (m : Memory) (k v : ℕ) {b : WriteByte} {n : Memory} → b ≡ mbc.writeByte (m .cartridge) (m .mapper) k v → b .number ≡ 0
+pub mapper-storable : (m : Memory) (k v : ℕ) {b : WriteByte} {n : Memory} → b ≡ mbc.writeByte (m .core .cartridge) (m .core .mapper) k v → b .number ≡ 0
     → n ≡ withMapper m (b .mapper) → storable m ≡ true → storable n ≡ true
 mapper-storable m k v {b} {n} e z f h =
     let p = parts m h in
-    let a = mapper-after (m .cartridge) (m .mapper) k v (sym (ap (λ (w : WriteByte). w .number) e) ∙ z) in
-    let q : b .mapper ≡ mbc.after (m .cartridge) (m .mapper) k v = ap (λ (w : WriteByte). w .mapper) e ∙ a in
-    rw (f, q) (joins (withMapper m (mbc.after (m .cartridge) (m .mapper) k v)) (mapper-kept m (p .0) k v) (p .1))
+    let a = mapper-after (m .core .cartridge) (m .core .mapper) k v (sym (ap (λ (w : WriteByte). w .number) e) ∙ z) in
+    let q : b .mapper ≡ mbc.after (m .core .cartridge) (m .core .mapper) k v = ap (λ (w : WriteByte). w .mapper) e ∙ a in
+    rw (f, q) (joins (withMapper m (mbc.after (m .core .cartridge) (m .core .mapper) k v)) (mapper-kept m (p .0) k v) (p .1))
 
 -- a fresh bus that was begun
 pub fresh-storable : (kind banks code : ℕ) (colour : Bool) (rom v w save log sound : List ℕ) {b : Begun}
@@ -154,4 +137,4 @@ fresh-storable kind banks code colour rom v w save log sound e z =
     let s = started l (sym (ap (λ (a : Begun). a .number) e) ∙ z) in
     let u = start l .state in
     ap (λ (a : Begun). storable (a .state)) e
-    ∙ joins u (s .good .holds .state) (wider (u .used) (length log) (s .good .holds .log) (s .good .used))
+    ∙ joins u (s .good .holds .state) (use-wider (u .core .used) (length log) logLimit (s .good .holds .log) (s .good .used))

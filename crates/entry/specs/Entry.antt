@@ -2,7 +2,7 @@
 -- byte slices": the state as an image, the memories lent, a number answered). A refusal leaves image and memories as they are and gives 0.
 use mathlib.Core.Bool.{cond}
 use mathlib.Core.List.{List, []}
-use Prim.Native.Nat.{ℕ, _+_, _*_, _%_}
+use Prim.Native.Nat.{ℕ, _%_}
 use lib.Dec.{eqb}
 use lib.ListN.{length}
 use Rattle.bus.specs.Calls.{Outcome}
@@ -21,6 +21,7 @@ use Rattle.mbc.specs.declared.mbc.WriteByte.{WriteByte}
 use Rattle.memory.specs.World.{World, world, Fixed, withMapper}
 use Rattle.memory.specs.declared.Memory.{Memory}
 use Rattle.numbers.specs.Numbers.{done, wrongLength}
+use Rattle.savelog.specs.Log.{addressEnd, recordNumber}
 
 -- An entry that changes the state alone: the number, and the image as it is then
 
@@ -55,7 +56,7 @@ askEntry i c =
 
 -- how many bytes of the log are used; the all-zero state of a refused image uses none
 abbrev pub usedEntry : List ℕ → Given
-usedEntry i = given (loadCall i .number) (loadCall i .state .used)
+usedEntry i = given (loadCall i .number) (loadCall i .state .core .used)
 
 -- a call that reads what is lent; no log is
 unfoldable pub readEntry : Fixed → List ℕ → List ℕ → List ℕ → List ℕ → Call → Given
@@ -114,13 +115,13 @@ freshEntry i v w b =
 unfoldable pub mapperReadEntry : List ℕ → List ℕ → List ℕ → ℕ → Given
 mapperReadEntry i rom save k =
     cond (eqb (loadCall i .number) done)
-    (given (readByte (loadCall i .state .cartridge) (loadCall i .state .mapper) rom save k .number)
-    (readByte (loadCall i .state .cartridge) (loadCall i .state .mapper) rom save k .value))
+    (given (readByte (loadCall i .state .core .cartridge) (loadCall i .state .core .mapper) rom save k .number)
+    (readByte (loadCall i .state .core .cartridge) (loadCall i .state .core .mapper) rom save k .value))
     (given (loadCall i .number) 0)
 
--- a mapper's answer as the record that the bus would log: bit 1, address 15 bits, value 8 bits; 0 for "not stored"
+-- a mapper's answer as the record that the bus would log; 0 for "not stored"
 abbrev pub answerNumber : Answer → ℕ
-answerNumber (Stored at v) = 0x800000 + at % 32768 * 256 + v
+answerNumber (Stored at v) = recordNumber (at % addressEnd) v
 answerNumber NotStored = 0
 
 pub record Mapped : Type 0 where
@@ -138,5 +139,5 @@ encodedMapper i m w =
 unfoldable pub mapperWriteEntry : List ℕ → ℕ → ℕ → Mapped
 mapperWriteEntry i k v =
     cond (eqb (loadCall i .number) done)
-    (encodedMapper i (loadCall i .state) (writeByte (loadCall i .state .cartridge) (loadCall i .state .mapper) k v))
+    (encodedMapper i (loadCall i .state) (writeByte (loadCall i .state .core .cartridge) (loadCall i .state .core .mapper) k v))
     (mapped (loadCall i .number) 0 i)

@@ -18,7 +18,7 @@ pub fn on_state(image: &mut [u8], call: StateCall) -> u8
     ensures { λ r. ⌜ changed r (now (image .exit)) ≡ stateEntry (now (image .entry)) call ⌝ }
 {
     let loaded = image::decode(image);
-    if loaded.number != 0 {
+    if loaded.number != numbers::DONE {
         return loaded.number;
     }
     let memory = loaded.state;
@@ -36,7 +36,7 @@ pub fn ask(image: &[u8], call: StateCall) -> Given
     ensures { λ r. ⌜ given (r .number) (r .value) ≡ askEntry (now (image .entry)) call ⌝ }
 {
     let loaded = image::decode(image);
-    if loaded.number != 0 {
+    if loaded.number != numbers::DONE {
         return Given {
             number: loaded.number,
             value: 0,
@@ -64,7 +64,7 @@ pub fn on_bus(
     ensures { λ r. ⌜ left (r .number) (r .value) (now (image .exit)) (now (vram .exit)) (now (wram .exit)) (now (save .exit)) (now (log .exit)) ≡ worldEntry (fixed (now (rom .entry)) (now (sound .entry))) (now (image .entry)) (now (vram .entry)) (now (wram .entry)) (now (save .entry)) (now (log .entry)) call ⌝ }
 {
     let loaded = image::decode(image);
-    if loaded.number != 0 {
+    if loaded.number != numbers::DONE {
         return Given {
             number: loaded.number,
             value: 0,

@@ -1,17 +1,19 @@
 -- What the proofs here and the bus cite of the definitions: addresses stay multiples of 16, bytes stay bytes, a block lands in video memory;
 -- and document 01's corners 5, 7, 8, computed.
-use mathlib.Core.Bool.{Bool, true, false, cond}
+use mathlib.Core.Bool.{Bool, true, false}
 use mathlib.Core.Path.{_≡_, refl}
-use Prim.Native.Nat.{ℕ, _+_, _*_, _/_, _%_, _<_, _≤_}
+use Prim.Native.Nat.{ℕ, _+_, _/_, _%_, _<_, _≤_}
 use native.Mathlib.Omega.{arith}
 use lib.Dec.{eqb, ltb}
 use Rattle.bit_utils.specs.Bits.{isSet}
-use Rattle.hdma.specs.PanDocs.{sourceOf, destinationOf, lengthOf, hblank}
+use Rattle.rules.proofs.Tests.{cond-both}
+use Rattle.hdma.specs.PanDocs.{sourceOf, destinationOf, lengthOf, hblank, general}
 use Rattle.hdma.specs.Hdma.{Address, InRange, keptBelow, sourceHigh, sourceLow, destinationHigh, destinationLow}
-use Rattle.hdma.specs.Hdma.{stored55, firstBlock, starts, started, sourceUsed, destinationUsed, risen, stepped}
+use Rattle.hdma.specs.Hdma.{running, stopped, firstBlock, starts, sourceUsed, destinationUsed, risen, stepped}
 use Rattle.hdma.specs.Hdma.{stillOn, blockEnded, generalEnded, startOf}
 use Rattle.hdma.specs.declared.Hdma.{Hdma}
-use Rattle.hdma.specs.declared.Start.the-variants.{Nothing, Block, General}
+use Rattle.hdma.specs.declared.Start.{Start}
+use Rattle.hdma.specs.declared.Start.the-variants.{Set, Block, General}
 use Rattle.hdma.specs.declared.Ended.{Ended}
 
 -- the upper four bits of a byte
@@ -21,10 +23,14 @@ upper-bits v h = omega arith
 abbrev Byte : ℕ → Type 0
 Byte x = x < 256
 
--- what holds of both cases
-either : (P : ℕ → Type 0) (b : Bool) (x y : ℕ) → P x → P y → P (cond b x y)
-either P true x y p q = p
-either P false x y p q = q
+-- What holds of each thing that a write of FF55 may do holds of what it does
+
+pub by-start : (P : Start → Type 0) (h : Hdma) (mode v : ℕ) → P (Set (running h v)) → P (Block (running h v)) → P (Set (stopped h))
+    → P General → P (starts h mode v)
+unfolding starts firstBlock
+by-start P h mode v s b t g =
+    cond-both P (general (h .on) v) g
+    (cond-both P (hblank v) (cond-both P (h .on) s (cond-both P (eqb mode 0) b s)) t)
 
 -- Addresses
 
@@ -40,12 +46,12 @@ risen-address a n h k = (omega arith, omega arith)
 pub stepped-address : (edge past a : ℕ) → Address past → Address a → Address (stepped edge past a)
 unfolding stepped
 stepped-address edge past a p h =
-    either Address (eqb (risen a 16) edge) past (risen a 16) p (risen-address a 16 (h .0) refl)
+    cond-both Address (eqb (risen a 16) edge) p (risen-address a 16 (h .0) refl)
 
 pub kept-byte : (limit v : ℕ) → v < 256 → keptBelow limit v < 256
 unfolding keptBelow
 kept-byte limit v h =
-    either Byte (ltb v 0x80) v _ h (either Byte (ltb v limit) 0 v (omega arith) h)
+    cond-both Byte (ltb v 0x80) h (cond-both Byte (ltb v limit) (omega arith) h)
 
 -- In range stays in range, through every function
 
@@ -64,15 +70,6 @@ destination-high-range h v r = (r .0, destination-address v (h .destination))
 pub destination-low-range : (h : Hdma) (v : ℕ) → InRange h → InRange (destinationLow h v .hdma)
 unfolding destinationLow
 destination-low-range h v r = (r .0, destination-address (h .destination / 256) v)
-
-pub started-range : (h : Hdma) (mode v old : ℕ) → InRange h → InRange (started h mode v old .hdma)
-unfolding started
-started-range h mode v old r = r
-
-pub started-addresses : (h : Hdma) (mode v old : ℕ)
-    → (started h mode v old .hdma .source ≡ h .source) × (started h mode v old .hdma .destination ≡ h .destination)
-unfolding started
-started-addresses h mode v old = (refl, refl)
 
 pub block-range : (h : Hdma) (r55 : ℕ) → InRange h → InRange (blockEnded h r55 .hdma)
 unfolding blockEnded
@@ -106,11 +103,6 @@ destination-high-byte h v = omega arith
 pub destination-low-byte : (h : Hdma) (v : ℕ) → v < 256 → destinationLow h v .byte < 256
 unfolding destinationLow
 destination-low-byte h v b = omega arith
-
-pub started-byte : (h : Hdma) (mode v old : ℕ) → old < 256 → started h mode v old .byte < 256
-unfolding started stored55
-started-byte h mode v old b =
-    either Byte (hblank v) (v % 128) _ (omega arith) (either Byte (h .on) 255 old (omega arith) b)
 
 abbrev pub Bytes : Ended → Type 0
 Bytes e = (e .r51 < 256) × (e .r52 < 256) × (e .r53 < 256) × (e .r54 < 256) × (e .r55 < 256)
@@ -173,8 +165,8 @@ pub fresh-colour : startOf 0xFF 0xFF 0xFF 0xFF ≡ off 0xFFF0 0x9FF0
 unfolding startOf keptBelow
 fresh-colour = refl
 
-pub corner-8-starts : (mode : ℕ) → started (off 0xFFF0 0x9FF0) mode 0 0xFF ≡ record { hdma = off 0xFFF0 0x9FF0; byte = 0xFF; start = General }
-unfolding started isSet stored55 starts
+pub corner-8-starts : (mode : ℕ) → starts (off 0xFFF0 0x9FF0) mode 0 ≡ General
+unfolding isSet starts
 corner-8-starts mode = refl
 
 pub corner-8-ends : (generalEnded (off 0xFFF0 0x9FF0) 0 .hdma ≡ off 0 0xA000) × (lengthOf 0 ≡ 16)
@@ -198,7 +190,7 @@ unfolding generalEnded blockEnded stepped
 runs-on = (refl, refl)
 
 -- in LCD mode 0, FF55 given 80 copies a block at once
-pub first-at-once : started (off 0 0x8000) 0 0x80 0xFF
-    ≡ record { hdma = record { on = true; source = 0; destination = 0x8000 }; byte = 0; start = Block }
-unfolding started isSet stored55 firstBlock starts
+pub first-at-once : starts (off 0 0x8000) 0 0x80
+    ≡ Block (record { hdma = record { on = true; source = 0; destination = 0x8000 }; byte = 0 })
+unfolding isSet firstBlock starts
 first-at-once = refl

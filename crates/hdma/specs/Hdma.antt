@@ -1,6 +1,6 @@
 -- The colour transfers' registers and addresses (document 01, "The bus": FF51, "HDMA block", "FF55"; the masks F0 and 1F are the Rust's),
 -- built from Pan Docs where the Rust follows them. Pan Docs make FF51..FF54 write-only; here they read what was stored.
-use mathlib.Core.Bool.{Bool, false, cond}
+use mathlib.Core.Bool.{Bool, true, false, cond}
 use mathlib.Core.Path.{_≡_}
 use Prim.Native.Nat.{ℕ, _+_, _*_, _/_, _%_, _<_}
 use lib.Dec.{eqb, ltb}
@@ -8,8 +8,7 @@ use Rattle.hdma.specs.PanDocs.{sourceOf, destinationOf, lengthOf, hblank
 use Rattle.hdma.specs.declared.Hdma.{Hdma}
 use Rattle.hdma.specs.declared.Written.{Written}
 use Rattle.hdma.specs.declared.Start.{Start}
-use Rattle.hdma.specs.declared.Start.the-variants.{Nothing, Block, General}
-use Rattle.hdma.specs.declared.Started.{Started}
+use Rattle.hdma.specs.declared.Start.the-variants.{Set, Block, General}
 use Rattle.hdma.specs.declared.Ended.{Ended}
 
 -- an address is of 16 bits and a multiple of 16 (document 01, "State ranges")
@@ -24,9 +23,6 @@ with-source h s = record { on = h .on; source = s; destination = h .destination 
 
 abbrev pub with-destination : Hdma → ℕ → Hdma
 with-destination h d = record { on = h .on; source = h .source; destination = d }
-
-abbrev pub switched : Hdma → Bool → Hdma
-switched h on = record { on = on; source = h .source; destination = h .destination }
 
 -- a source's high byte from 80 to below the limit becomes 0
 unfoldable pub keptBelow : ℕ → ℕ → ℕ
@@ -55,26 +51,28 @@ unfoldable pub destinationLow : Hdma → ℕ → Written
 destinationLow h value =
     record { hdma = with-destination h (destinationOf (h .destination / 256) value); byte = value / 16 * 16 }
 
--- FF55 after a write: bit 7 set stores the low 7 bits; clear stores FF where it stops a transfer (Pan Docs: 80 and what is left),
--- and a general transfer stores later
-unfoldable pub stored55 : Bool → ℕ → ℕ → ℕ
-stored55 runs value old = cond (hblank value) (value % 128) (cond runs 255 old)
+-- FF55 switches HDMA on or off and stores a byte
+abbrev pub switched : Hdma → Bool → ℕ → Written
+switched h on byte = record { hdma = record { on = on; source = h .source; destination = h .destination }; byte = byte }
+
+-- bit 7 set: HDMA is on, and the low 7 bits are stored
+abbrev pub running : Hdma → ℕ → Written
+running h value = switched h true (value % 128)
+
+-- bit 7 clear stops it and stores FF (Pan Docs: 80 and what is left)
+abbrev pub stopped : Hdma → Written
+stopped h = switched h false 255
 
 -- an HBlank transfer that begins in LCD mode 0 copies its first block at once
-unfoldable pub firstBlock : ℕ → Start
-firstBlock mode = cond (eqb mode 0) Block Nothing
+unfoldable pub firstBlock : ℕ → Written → Start
+firstBlock mode w = cond (eqb mode 0) (Block w) (Set w)
 
--- what a write of FF55 starts
-unfoldable pub starts : Bool → ℕ → ℕ → Start
-starts runs mode value = cond (general runs value) General (cond runs Nothing (firstBlock mode))
-
-unfoldable pub started : Hdma → ℕ → ℕ → ℕ → Started
-started h mode value old =
-    record {
-      hdma = switched h (hblank value);
-      byte = stored55 (h .on) value old;
-      start = starts (h .on) mode value;
-    }
+-- what a write of FF55 does
+unfoldable pub starts : Hdma → ℕ → ℕ → Start
+starts h mode value =
+    cond (general (h .on) value) General
+    (cond (hblank value) (cond (h .on) (Set (running h value)) (firstBlock mode (running h value)))
+    (Set (stopped h)))
 
 -- where a transfer's bytes come from, and where the first lands: video memory, wherever the hidden destination stands
 unfoldable pub sourceUsed : Hdma → ℕ

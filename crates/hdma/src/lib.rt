@@ -4,7 +4,7 @@ ghost use mathlib.Core.Path.{_≡_};
 ghost use Prim.Native.Nat.{_*_, _/_, _%_, _<_, _≤_};
 ghost use Rattle.hdma.specs.PanDocs.{lengthOf};
 ghost use Rattle.hdma.specs.Hdma.{switched, keptBelow, firstBlock, shownIn, fallen, stillOn, sourceHigh, sourceLow, destinationHigh, destinationLow};
-ghost use Rattle.hdma.specs.Hdma.{started, sourceUsed, destinationUsed, stepped, blockEnded, generalEnded, startOf};
+ghost use Rattle.hdma.specs.Hdma.{starts, sourceUsed, destinationUsed, stepped, blockEnded, generalEnded, startOf};
 
 // Whether an HBlank transfer runs, and the two addresses, which the registers do not always show.
 pub struct Hdma {
@@ -19,18 +19,11 @@ pub struct Written {
     pub byte: u8,
 }
 
-// What a write of FF55 starts.
+// What a write of FF55 does: it sets HDMA and the page's byte, and may have a block copied at once; or all is copied at once, and set at the end.
 pub enum Start {
-    Nothing,
-    Block,
+    Set(Written),
+    Block(Written),
     General,
-}
-
-// A write of FF55: the byte is what the page stores.
-pub struct Started {
-    pub hdma: Hdma,
-    pub byte: u8,
-    pub start: Start,
 }
 
 // After a transfer: the addresses, and FF51..FF55.
@@ -133,58 +126,45 @@ pub fn write_destination_low(h: Hdma, value: u8) -> Written
     }
 }
 
-fn switch(h: Hdma, on: bool) -> Hdma
-    ensures { λ r. ⌜ r ≡ switched h on ⌝ }
+// HDMA on or off, and what FF55 then holds.
+fn switch(h: Hdma, on: bool, byte: u8) -> Written
+    ensures { λ r. ⌜ r ≡ switched h on byte ⌝ }
 {
-    Hdma {
-        on: on,
-        source: h.source,
-        destination: h.destination,
+    Written {
+        hdma: Hdma {
+            on: on,
+            source: h.source,
+            destination: h.destination,
+        },
+        byte: byte,
     }
 }
 
-// The first block is copied at once in LCD mode 0.
-fn first_block(mode: u8) -> Start
-    ensures { λ r. ⌜ r ≡ firstBlock mode ⌝ }
+// HDMA that begins in LCD mode 0 copies its first block at once.
+fn first_block(mode: u8, written: Written) -> Start
+    ensures { λ r. ⌜ r ≡ firstBlock mode written ⌝ }
 {
     if mode == 0 {
-        return Start::Block;
+        return Start::Block(written);
     }
-    Start::Nothing
+    Start::Set(written)
 }
 
-// FF55, which holds `old`, in LCD mode `mode`. What a general transfer stores there, it stores at its end.
-pub fn do_cgb_dma(h: Hdma, mode: u8, value: u8, old: u8) -> Started
-    ensures { λ r. ⌜ r ≡ started h mode value old ⌝ }
+// FF55, in LCD mode `mode`.
+pub fn do_cgb_dma(h: Hdma, mode: u8, value: u8) -> Start
+    ensures { λ r. ⌜ r ≡ starts h mode value ⌝ }
 {
     let hblank = bit_utils::within::is_set(value, 7);
-    let hdma = switch(h, hblank);
     if h.on {
         if hblank {
-            return Started {
-                hdma: hdma,
-                byte: value % 128,
-                start: Start::Nothing,
-            };
+            return Start::Set(switch(h, true, value % 128));
         }
-        return Started {
-            hdma: hdma,
-            byte: 0xFF,
-            start: Start::Nothing,
-        };
+        return Start::Set(switch(h, false, 0xFF));
     }
     if hblank {
-        return Started {
-            hdma: hdma,
-            byte: value % 128,
-            start: first_block(mode),
-        };
+        return first_block(mode, switch(h, true, value % 128));
     }
-    Started {
-        hdma: hdma,
-        byte: old,
-        start: Start::General,
-    }
+    Start::General
 }
 
 // The bytes that a general transfer copies.

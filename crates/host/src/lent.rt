@@ -59,7 +59,7 @@ pub extern "C" fn pouch_read_cgb_lcd_ram(
     ensures { λ r. ⌜ given r (now (value .exit)) ≡ readEntry (fixed [] []) (now (image .entry)) (now (vram .entry)) [] [] (ReadCgbLcdRam index bank) ⌝ }
 {
     let loaded = image::decode(image);
-    if loaded.number != 0 {
+    if loaded.number != numbers::DONE {
         *value = 0;
         return loaded.number;
     }
@@ -166,11 +166,11 @@ pub extern "C" fn pouch_fresh(
 ) -> u8
     ensures { λ r. ⌜ fresh r (now (image .exit)) (now (vram .exit)) (now (wram .exit)) ≡ freshEntry (now (image .entry)) (now (vram .entry)) (now (wram .entry)) (freshCall kind banks code colour (length (now (rom .entry))) (now (vram .entry)) (now (wram .entry)) (length (now (save .entry))) (length (now (log .entry))) (length (now (sound .entry)))) ⌝ }
 {
-    if image.len() != 665 {
+    if image.len() != image::LENGTH {
         return numbers::WRONG_LENGTH;
     }
     let done = bus::fresh::fresh(kind, banks, code, colour, rom, vram, wram, save, log, sound);
-    if done.number != 0 {
+    if done.number != numbers::DONE {
         return done.number;
     }
     let memory = done.memory;

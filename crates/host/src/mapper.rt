@@ -15,13 +15,14 @@ pub extern "C" fn pouch_mapper_read(
     ensures { λ r. ⌜ given r (now (value .exit)) ≡ mapperReadEntry (now (image .entry)) (now (rom .entry)) (now (save .entry)) index ⌝ }
 {
     let loaded = image::decode(image);
-    if loaded.number != 0 {
+    if loaded.number != numbers::DONE {
         *value = 0;
         return loaded.number;
     }
     let memory = loaded.state;
-    let mapper = memory.mapper;
-    let cartridge = memory.cartridge;
+    let core = memory.core;
+    let mapper = core.mapper;
+    let cartridge = core.cartridge;
     let read = mapper.read_byte(cartridge, rom, save, index);
     *value = read.value;
     read.number
@@ -34,7 +35,7 @@ fn answer_number(answer: Answer) -> u32
     let Answer::Stored { at, value } = answer else {
         return 0;
     };
-    0x800000 + (at % 32768) as u32 * 256 + value as u32
+    savelog::record_number(at % savelog::ADDRESS_END, value)
 }
 
 // What the mapper answers, and its registers in the image.
@@ -43,15 +44,16 @@ pub extern "C" fn pouch_mapper_write(image: &mut [u8], index: u16, byte: u8, val
     ensures { λ r. ⌜ mapped r (now (value .exit)) (now (image .exit)) ≡ mapperWriteEntry (now (image .entry)) index byte ⌝ }
 {
     let loaded = image::decode(image);
-    if loaded.number != 0 {
+    if loaded.number != numbers::DONE {
         *value = 0;
         return loaded.number;
     }
     let memory = loaded.state;
-    let mapper = memory.mapper;
-    let cartridge = memory.cartridge;
+    let core = memory.core;
+    let mapper = core.mapper;
+    let cartridge = core.cartridge;
     let written = mapper.write_byte(cartridge, index, byte);
-    if written.number != 0 {
+    if written.number != numbers::DONE {
         *value = 0;
         return written.number;
     }

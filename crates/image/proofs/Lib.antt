@@ -1,6 +1,6 @@
-pub mod FieldLaws
 pub mod ColorLaws
 pub mod Parts
+pub mod FieldLaws
 pub mod StateLaws
 pub mod LoadLaws
 pub mod Round

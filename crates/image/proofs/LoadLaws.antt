@@ -4,67 +4,54 @@ use mathlib.Core.Path.{_≡_, refl, sym, ap, _∙_}
 use mathlib.Core.List.{List, [], _∷_, _++_, append-assoc}
 use Prim.Native.Nat.{ℕ, zero, suc, _+_, _*_, _^_, _<_, _≤_}
 use native.Mathlib.Omega.{arith}
-use native.Mathlib.Numerals.{add-one}
 use lib.Dec.{eqb}
 use lib.ListN.{length, take, drop, getD, length-append, length-drop, take-append-drop, replicate-append-replicate}
 use lib.Seq.{take-at, drop-at, take-take, drop-drop, length-take-le, take-add, drop-cons, getD-take, take-all}
 use borrow.Author.Tests.{eq-eqb}
 use Rattle.numbers.specs.Numbers.{done, outOfRange}
-use Rattle.packing.specs.Packing.{Below, bits, packed, unpacked, repacked, eights, fives}
-use Rattle.packing.proofs.Laws.{Fit, below-fit, below-drop, pack-append, bits-replicate}
-use Rattle.hdma.specs.declared.Hdma.{Hdma}
-use Rattle.joypad.specs.declared.Controller.{Controller}
-use Rattle.lcd.specs.declared.Lcd.{Lcd}
+use Rattle.packing.specs.Packing.{Fit, Below, bits, packed, unpacked, repacked, eights, fives}
+use Rattle.packing.proofs.Laws.{below-fit, below-take, below-drop, fit-below}
 use Rattle.palette.specs.declared.Color.{Color}
-use Rattle.mbc.specs.declared.cartridge.Cartridge.{Cartridge}
-use Rattle.mbc.specs.declared.mbc.Mapper.{Mapper}
-use Rattle.memory.specs.declared.Banks.{Banks}
-use Rattle.memory.specs.declared.Clock.{Clock}
 use Rattle.memory.specs.declared.Core.{Core}
 use Rattle.memory.specs.declared.Memory.{Memory}
-use Rattle.memory.specs.Ranges.{coreOf, coreInRange}
+use Rattle.memory.specs.Ranges.{coreInRange}
 use Rattle.memory.specs.Start.{zeroed}
 use Rattle.memory.proofs.Laws.{core-range}
 use Rattle.palette.specs.Palette.{colorsInRange}
 use Rattle.savelog.specs.Log.{logLimit}
-use Rattle.image.specs.Layout.{fieldWidths, widths}
-use Rattle.image.specs.Load.{bytesIn, colorsIn, fieldsIn, valuesOf, stateFrom, stateOf, colorsOf, banksOf, lcdOf, hdmaOf, joypadOf, clockOf, cartridgeOf, mapperOf, at, sound, storable, loaded, loadCall}
+use Rattle.image.specs.Layout.{imageLen, fieldWidths, widths}
+use Rattle.image.specs.Load.{bytesIn, colorsIn, fieldsIn, valuesOf, stateFrom, stateOf, colorsOf, coreFrom, sound, storable, loaded, loadCall}
 use Rattle.image.specs.declared.Loaded.{Loaded}
-use Rattle.image.specs.Words.{wordWidths, wordList, wordsIn, fieldsOf, coreFrom}
+use Rattle.image.specs.Patches.{fields}
 use Rattle.image.proofs.ColorLaws.{below-colors}
-use Rattle.image.proofs.Parts.{fit-below, values-parts, repacked-length, repacked-fit}
+use Rattle.image.proofs.FieldLaws.{fields-in}
+use Rattle.image.proofs.Parts.{fieldLen, values-parts, repacked-length, repacked-fit}
 
-pub below-take : (n m : ℕ) (l : List ℕ) → 0 < m → Below m l → Below m (take n l)
-below-take zero m l z h i = z
-below-take (suc n) m [] z h i = z
-below-take (suc n) m (a ∷ l) z h zero = h 0
-below-take (suc n) m (a ∷ l) z h (suc i) = below-take n m l z (λ k. h (suc k)) i
-
-module _ (l : List ℕ) (size : length l ≡ 665) (below : Below 256 l) where
-  part-fit : (n k : ℕ) → n + k ≤ 665 → Fit (eights k) (take k (drop n l))
+module _ (l : List ℕ) (size : length l ≡ imageLen) (below : Below 256 l) where
+  part-fit : (n k : ℕ) → n + k ≤ imageLen → Fit (eights k) (take k (drop n l))
   part-fit n k h =
       below-fit k 8 (take k (drop n l)) (length-take-le k (drop n l) (rw length-drop (omega arith)))
       (below-take k 256 (drop n l) (omega arith) (below-drop n 256 l below))
 
-  pub split-image : l ≡ take 512 l ++ ((take 60 (drop 512 l) ++ take 60 (drop 572 l)) ++ take 33 (drop 632 l))
+  pub split-image : l ≡ take 512 l ++ ((take 60 (drop 512 l) ++ take 60 (drop 572 l)) ++ take fieldLen (drop 632 l))
   split-image =
       let a : drop 512 l ≡ take 60 (drop 512 l) ++ drop 60 (drop 512 l) = sym (take-append-drop 60 (drop 512 l)) in
       let b : drop 572 l ≡ take 60 (drop 572 l) ++ drop 60 (drop 572 l) = sym (take-append-drop 60 (drop 572 l)) in
-      let c : take 33 (drop 632 l) ≡ drop 632 l = take-all 33 (drop 632 l) (rw length-drop (omega arith)) in
+      let c : take fieldLen (drop 632 l) ≡ drop 632 l = take-all fieldLen (drop 632 l) (rw length-drop (omega arith)) in
       sym (take-append-drop 512 l)
       ∙ ap (λ (x : List ℕ). take 512 l ++ x)
       (a ∙ ap (λ (x : List ℕ). take 60 (drop 512 l) ++ x)
       (drop-drop 60 512 l ∙ b ∙ ap (λ (x : List ℕ). take 60 (drop 572 l) ++ x) (drop-drop 60 572 l ∙ sym c))
-      ∙ sym (append-assoc (take 60 (drop 512 l)) (take 60 (drop 572 l)) (take 33 (drop 632 l))))
+      ∙ sym (append-assoc (take 60 (drop 512 l)) (take 60 (drop 572 l)) (take fieldLen (drop 632 l))))
 
   pub values-split : valuesOf l
       ≡ take 512 l
       ++ ((repacked (eights 60) (fives 96) (take 60 (drop 512 l)) ++ repacked (eights 60) (fives 96) (take 60 (drop 572 l)))
-      ++ repacked (eights 33) fieldWidths (take 33 (drop 632 l)))
+      ++ repacked (eights fieldLen) fieldWidths (take fieldLen (drop 632 l)))
   unfolding valuesOf
   values-split =
-      ap (repacked (eights 665) widths) split-image
-      ∙ values-parts (take 512 l) (take 60 (drop 512 l)) (take 60 (drop 572 l)) (take 33 (drop 632 l)) (part-fit 0 512 (omega arith)) (part-fit 512 60 (omega arith)) (part-fit 572 60 (omega arith)) (part-fit 632 33 (omega arith))
+      ap (repacked (eights imageLen) widths) split-image
+      ∙ values-parts (take 512 l) (take 60 (drop 512 l)) (take 60 (drop 572 l)) (take fieldLen (drop 632 l)) (part-fit 0 512 (omega arith)) (part-fit 512 60 (omega arith)) (part-fit 572 60 (omega arith)) (part-fit 632 fieldLen (omega arith))
 
   pub bytes-in : bytesIn (valuesOf l) ≡ take 512 l
   bytes-in = rw values-split (take-at (take 512 l) _ 512 (length-take-le 512 l (omega arith)))
@@ -81,7 +68,7 @@ module _ (l : List ℕ) (size : length l ≡ 665) (below : Below 256 l) where
         repacked-length (eights 60) (fives 96) (take 60 (drop 572 l)),
       )
 
-  rest-in : drop 512 (valuesOf l) ≡ two-colors ++ repacked (eights 33) fieldWidths (take 33 (drop 632 l))
+  rest-in : drop 512 (valuesOf l) ≡ two-colors ++ repacked (eights fieldLen) fieldWidths (take fieldLen (drop 632 l))
   unfolding two-colors
   rest-in = rw values-split (drop-at (take 512 l) _ 512 (length-take-le 512 l (omega arith)))
 
@@ -100,37 +87,6 @@ module _ (l : List ℕ) (size : length l ≡ 665) (below : Below 256 l) where
       drop-at (repacked (eights 60) (fives 96) (take 60 (drop 512 l))) (repacked (eights 60) (fives 96) (take 60 (drop 572 l))) 96
       (repacked-length (eights 60) (fives 96) (take 60 (drop 512 l)))
 
-  pub fields-drop : fieldsIn (valuesOf l) ≡ repacked (eights 33) fieldWidths (take 33 (drop 632 l))
-  fields-drop = sym (drop-drop 192 512 (valuesOf l)) ∙ rw rest-in (drop-at two-colors _ 192 two-colors-length)
-
-  -- the fields' bytes as the five numbers
-  eight-more : (k i : ℕ) → i + 8 + k ≤ 665
-      → packed (eights (8 + k)) (take (8 + k) (drop i l)) ≡ packed (eights 8) (take 8 (drop i l)) * 2 ^ (k * 8) + packed (eights k) (take k (drop (i + 8) l))
-  eight-more k i h =
-      let n : length (take 8 (drop i l)) ≡ 8 = length-take-le 8 (drop i l) (rw length-drop (omega arith)) in
-      ap (packed (eights (8 + k))) (take-add 8 k (drop i l) ∙ ap (λ (x : List ℕ). take 8 (drop i l) ++ take k x) (drop-drop 8 i l))
-      ∙ ap (λ (ws : List ℕ). packed ws (take 8 (drop i l) ++ take k (drop (i + 8) l))) (sym (replicate-append-replicate 8 k 8))
-      ∙ pack-append (eights 8) (eights k) (take 8 (drop i l)) (take k (drop (i + 8) l)) n
-      ∙ ap (λ (x : ℕ). packed (eights 8) (take 8 (drop i l)) * 2 ^ x + packed (eights k) (take k (drop (i + 8) l))) (bits-replicate k 8)
-
-  words-number : packed (eights 33) (take 33 (drop 632 l)) ≡ packed wordWidths (wordList (wordsIn l))
-  words-number =
-      let a : take 33 (drop 632 l) ≡ getD l 632 0 ∷ take 32 (drop 633 l) = ap (take 33) (drop-cons l 632 0 (omega arith)) in
-      let f = packed (eights 8) (take 8 (drop 657 l)) in
-      let z : f ≡ f * 2 ^ 0 + 0 = omega arith in
-      ap (packed (eights 33)) a
-      ∙ ap (λ (n : ℕ). getD l 632 0 * 2 ^ 256 + n)
-      (eight-more 24 633 (omega arith)
-      ∙ ap (λ (n : ℕ). packed (eights 8) (take 8 (drop 633 l)) * 2 ^ 192 + n)
-      (eight-more 16 641 (omega arith)
-      ∙ ap (λ (n : ℕ). packed (eights 8) (take 8 (drop 641 l)) * 2 ^ 128 + n)
-      (eight-more 8 649 (omega arith)
-      ∙ ap (λ (n : ℕ). packed (eights 8) (take 8 (drop 649 l)) * 2 ^ 64 + n) z)))
-
-  pub fields-in : fieldsIn (valuesOf l) ≡ fieldsOf (wordsIn l)
-  unfolding fieldsOf repacked
-  fields-in = fields-drop ∙ ap (unpacked fieldWidths) words-number
-
 neither : (b : Bool) (x y : Loaded) → cond (b && false) x y ≡ y
 neither true x y = refl
 neither false x y = refl
@@ -143,39 +99,22 @@ made o p b s fs =
       page = p;
       background = b;
       sprites = s;
-      banks = banksOf fs;
-      lcd = lcdOf fs;
-      hdma = hdmaOf fs;
-      joypad = joypadOf fs;
-      clock = clockOf fs;
-      cartridge = cartridgeOf fs;
-      mapper = mapperOf fs;
-      used = at fs 28;
+      core = coreFrom fs;
     }
 
 pub made-same : {o o' p p' b b' s s' f f' : List ℕ} → o ≡ o' → p ≡ p' → b ≡ b' → s ≡ s' → f ≡ f'
     → made o p (colorsOf b) (colorsOf s) f ≡ made o' p' (colorsOf b') (colorsOf s') f'
 made-same e₁ e₂ e₃ e₄ e₅ = rw (e₁, e₂, e₃, e₄, e₅)
 
-pub all-same : {o o' p p' : List ℕ} {b b' s s' : List Color} {k k' : Banks} {l l' : Lcd} {h h' : Hdma} {j j' : Controller} {c c' : Clock}
-    {g g' : Cartridge} {m m' : Mapper} {u u' : ℕ}
-    → o ≡ o' → p ≡ p' → b ≡ b' → s ≡ s' → k ≡ k' → l ≡ l' → h ≡ h' → j ≡ j' → c ≡ c' → g ≡ g' → m ≡ m' → u ≡ u'
-    → _≡_ {A = Memory}
-    (record { oam = o; page = p; background = b; sprites = s; banks = k; lcd = l; hdma = h; joypad = j; clock = c; cartridge = g; mapper = m; used = u })
-    (record { oam = o'; page = p'; background = b'; sprites = s'; banks = k'; lcd = l'; hdma = h'; joypad = j'; clock = c'; cartridge = g'; mapper = m'; used = u' })
-all-same e₁ e₂ e₃ e₄ e₅ e₆ e₇ e₈ e₉ e₁₀ e₁₁ e₁₂ = rw (e₁, e₂, e₃, e₄, e₅, e₆, e₇, e₈, e₉, e₁₀, e₁₁, e₁₂)
+pub all-same : {o o' p p' : List ℕ} {b b' s s' : List Color} {c c' : Core} → o ≡ o' → p ≡ p' → b ≡ b' → s ≡ s' → c ≡ c'
+    → _≡_ {A = Memory} (record { oam = o; page = p; background = b; sprites = s; core = c })
+    (record { oam = o'; page = p'; background = b'; sprites = s'; core = c' })
+all-same e₁ e₂ e₃ e₄ e₅ = rw (e₁, e₂, e₃, e₄, e₅)
 
-pub core-same : {k k' : Banks} {l l' : Lcd} {h h' : Hdma} {j j' : Controller} {c c' : Clock} {g g' : Cartridge} {m m' : Mapper} {u u' : ℕ}
-    → k ≡ k' → l ≡ l' → h ≡ h' → j ≡ j' → c ≡ c' → g ≡ g' → m ≡ m' → u ≡ u'
-    → _≡_ {A = Core}
-    (record { banks = k; lcd = l; hdma = h; joypad = j; clock = c; cartridge = g; mapper = m; used = u })
-    (record { banks = k'; lcd = l'; hdma = h'; joypad = j'; clock = c'; cartridge = g'; mapper = m'; used = u' })
-core-same e₁ e₂ e₃ e₄ e₅ e₆ e₇ e₈ = rw (e₁, e₂, e₃, e₄, e₅, e₆, e₇, e₈)
-
-module _ (l : List ℕ) (size : length l ≡ 665) (below : Below 256 l) where
+module _ (l : List ℕ) (size : length l ≡ imageLen) (below : Below 256 l) where
   pub state-read : stateOf l
       ≡ made (take 256 (drop 0 l)) (take 256 (drop 256 l)) (colorsOf (repacked (eights 60) (fives 96) (take 60 (drop 512 l))))
-      (colorsOf (repacked (eights 60) (fives 96) (take 60 (drop 572 l)))) (fieldsOf (wordsIn l))
+      (colorsOf (repacked (eights 60) (fives 96) (take 60 (drop 572 l)))) (fields l)
   unfolding stateOf
   state-read =
       let vs = valuesOf l in
@@ -184,10 +123,10 @@ module _ (l : List ℕ) (size : length l ≡ 665) (below : Below 256 l) where
       ap (drop 256) (bytes-in l size below ∙ take-add 256 256 l) ∙ drop-at (take 256 l) (take 256 (drop 256 l)) 256 (length-take-le 256 l (omega arith)) in
       let b : take 96 (colorsIn vs) ≡ repacked (eights 60) (fives 96) (take 60 (drop 512 l)) = ap (take 96) (colors-in l size below) ∙ first-colors l size below in
       let s : drop 96 (colorsIn vs) ≡ repacked (eights 60) (fives 96) (take 60 (drop 572 l)) = ap (drop 96) (colors-in l size below) ∙ second-colors l size below in
-      made-same o p b s (fields-in l size below)
+      made-same o p b s (fields-in l size)
 
-  pub state-core : coreOf (stateOf l) ≡ coreFrom (fieldsOf (wordsIn l))
-  state-core = ap coreOf state-read
+  pub state-core : stateOf l .core ≡ coreFrom (fields l)
+  state-core = ap (λ (m : Memory). m .core) state-read
 
   -- no colour of an image is out of range
   five-bits : (bytes : List ℕ) → colorsInRange (colorsOf (repacked (eights 60) (fives 96) bytes)) ≡ true
@@ -195,21 +134,21 @@ module _ (l : List ℕ) (size : length l ≡ 665) (below : Below 256 l) where
       below-colors (repacked (eights 60) (fives 96) bytes)
       (fit-below 96 5 (repacked (eights 60) (fives 96) bytes) (omega arith) (repacked-fit (eights 60) (fives 96) bytes))
 
-  pub core-storable : storable (stateOf l) ≡ coreInRange (coreFrom (fieldsOf (wordsIn l))) logLimit
+  pub core-storable : storable (stateOf l) ≡ coreInRange (coreFrom (fields l)) logLimit
   unfolding storable
   core-storable =
       core-range (stateOf l) logLimit (ap (λ (m : Memory). colorsInRange (m .background)) state-read ∙ five-bits (take 60 (drop 512 l)))
       (ap (λ (m : Memory). colorsInRange (m .sprites)) state-read ∙ five-bits (take 60 (drop 572 l)))
       ∙ ap (λ (c : Core). coreInRange c logLimit) state-core
 
-  pub load-unsound : sound (fieldsOf (wordsIn l)) ≡ false → loadCall l ≡ loaded outOfRange zeroed
+  pub load-unsound : sound (fields l) ≡ false → loadCall l ≡ loaded outOfRange zeroed
   unfolding loadCall
-  load-unsound h = rw (eq-eqb (length l) 665 size, fields-in l size below, h)
+  load-unsound h = rw (eq-eqb (length l) imageLen size, fields-in l size, h)
 
   pub load-outside : storable (stateOf l) ≡ false → loadCall l ≡ loaded outOfRange zeroed
   unfolding loadCall
-  load-outside h = rw (eq-eqb (length l) 665 size, h) (neither (sound (fieldsIn (valuesOf l))) (loaded done (stateOf l)) (loaded outOfRange zeroed))
+  load-outside h = rw (eq-eqb (length l) imageLen size, h) (neither (sound (fieldsIn (valuesOf l))) (loaded done (stateOf l)) (loaded outOfRange zeroed))
 
-  pub load-done : sound (fieldsOf (wordsIn l)) ≡ true → storable (stateOf l) ≡ true → loadCall l ≡ loaded done (stateOf l)
+  pub load-done : sound (fields l) ≡ true → storable (stateOf l) ≡ true → loadCall l ≡ loaded done (stateOf l)
   unfolding loadCall
-  load-done h k = rw (eq-eqb (length l) 665 size, fields-in l size below, h, k)
+  load-done h k = rw (eq-eqb (length l) imageLen size, fields-in l size, h, k)

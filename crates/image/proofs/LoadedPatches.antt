@@ -4,29 +4,28 @@ use mathlib.Core.Path.{_≡_, refl, sym, ap, _∙_}
 use mathlib.Core.List.{List, [], _∷_, _++_}
 use Prim.Native.Nat.{ℕ, _+_, _*_, _^_, _<_, _≤_}
 use native.Mathlib.Omega.{arith}
-use lib.ListN.{length, take, drop, set, length-drop}
+use lib.ListN.{length, take, drop, length-drop}
 use lib.Seq.{length-take-le}
 use mir.Syntax.{w32}
 use mir.Facts.{sfits-toZ}
 use Rattle.numbers.specs.Numbers.{done}
 use Rattle.packing.specs.Packing.{Below, packed, unpacked, repacked, eights, fives}
-use Rattle.packing.proofs.Laws.{below-drop, unpack-fit}
+use Rattle.packing.proofs.Laws.{below-take, below-drop, fit-at, unpack-fit}
+use Rattle.places.specs.Places.{number}
 use Rattle.palette.specs.declared.Color.{Color}
 use Rattle.mbc.specs.declared.mbc.Mapper.{Mapper}
-use Rattle.memory.specs.declared.Clock.{Clock}
 use Rattle.memory.specs.declared.Memory.{Memory}
-use Rattle.memory.specs.World.{withOam, withPage, withClock, withMapper, withUsed}
-use Rattle.image.specs.Layout.{fieldWidths, imageOf}
-use Rattle.image.specs.Load.{colorsOf, storable, stateOf, loadCall}
+use Rattle.memory.specs.World.{withMapper, withUsed}
+use Rattle.image.specs.Layout.{imageLen, fieldWidths, imageOf}
+use Rattle.image.specs.Load.{at, colorsOf, storable, stateOf, loadCall}
 use Rattle.image.specs.Laws.{Typed}
-use Rattle.image.specs.Words.{wordWidths, wordList, wordsIn, fieldsOf}
-use Rattle.image.specs.Patches.{mappingPut, clockPut}
+use Rattle.image.specs.Patches.{mappingPut}
 use Rattle.image.proofs.ColorLaws.{channels-length, channels-colors}
 use Rattle.image.proofs.Parts.{repacked-length}
-use Rattle.image.proofs.LoadLaws.{below-take, made, state-read}
-use Rattle.image.proofs.OpenLaws.{load-length, load-state, load-image}
-use Rattle.image.proofs.Round.{image-back}
-use Rattle.image.proofs.PatchLaws.{Bytes, mapping-image, clock-image, oam-image, page-image}
+use Rattle.image.proofs.FieldLaws.{fields-number}
+use Rattle.image.proofs.LoadLaws.{made, state-read}
+use Rattle.image.proofs.OpenLaws.{load-length, load-state, load-storable, load-image}
+use Rattle.image.proofs.PatchLaws.{Bytes, mapping-image}
 
 colors-length : (l : List ℕ) → length l ≡ 96 → length (colorsOf l) ≡ 32
 colors-length l h = omega (arith, channels-length (colorsOf l), ap length (channels-colors 32 l h))
@@ -34,40 +33,41 @@ colors-length l h = omega (arith, channels-length (colorsOf l), ap length (chann
 made-typed : (o p : List ℕ) (b s : List Color) (n : ℕ) → Bytes o → Bytes p → length b ≡ 32 → length s ≡ 32
     → Typed (made o p b s (unpacked fieldWidths n))
 made-typed o p b s n ho hp hb hs =
-    let f = unpack-fit fieldWidths n in
+    let fs = unpacked fieldWidths n in
+    let f : (k : ℕ) → at fs k < 2 ^ at fieldWidths k = λ k. fit-at fieldWidths fs k (unpack-fit fieldWidths n) in
     record {
       oam = ho;
       page = hp;
       background = hb;
       sprites = hs;
-      state = f .1 .1 .1 .1 .1 .1 .1 .0;
-      released = f .1 .1 .1 .1 .1 .1 .1 .1 .0;
-      line = f .1 .1 .1 .1 .1 .1 .1 .1 .1 .0;
-      signal = f .1 .1 .1 .1 .1 .1 .1 .1 .1 .1 .0;
-      mode = f .1 .1 .1 .1 .1 .1 .1 .1 .1 .1 .1 .0;
-      div = f .1 .1 .1 .1 .1 .1 .1 .1 .1 .1 .1 .1 .0;
-      source = f .1 .1 .1 .1 .1 .1 .1 .1 .1 .1 .1 .1 .1 .1 .0;
-      destination = f .1 .1 .1 .1 .1 .1 .1 .1 .1 .1 .1 .1 .1 .1 .1 .0;
-      delay = sfits-toZ {w = w32} (record { fits = f .1 .1 .1 .1 .1 .1 .1 .1 .1 .1 .1 .1 .1 .1 .1 .1 .0 });
-      counter = sfits-toZ {w = w32} (record { fits = f .1 .1 .1 .1 .1 .1 .1 .1 .1 .1 .1 .1 .1 .1 .1 .1 .1 .0 });
-      aux = sfits-toZ {w = w32} (record { fits = f .1 .1 .1 .1 .1 .1 .1 .1 .1 .1 .1 .1 .1 .1 .1 .1 .1 .1 .0 });
-      window = sfits-toZ {w = w32} (record { fits = f .1 .1 .1 .1 .1 .1 .1 .1 .1 .1 .1 .1 .1 .1 .1 .1 .1 .1 .1 .0 });
+      state = f 7;
+      released = f 8;
+      line = f 9;
+      signal = f 10;
+      mode = f 11;
+      div = f 12;
+      source = f 14;
+      destination = f 15;
+      delay = sfits-toZ {w = w32} (record { fits = f 16 });
+      counter = sfits-toZ {w = w32} (record { fits = f 17 });
+      aux = sfits-toZ {w = w32} (record { fits = f 18 });
+      window = sfits-toZ {w = w32} (record { fits = f 19 });
     }
 
-module _ (l : List ℕ) (size : length l ≡ 665) (below : Below 256 l) where
-  part-bytes : (k : ℕ) → k + 256 ≤ 665 → Bytes (take 256 (drop k l))
+module _ (l : List ℕ) (size : length l ≡ imageLen) (below : Below 256 l) where
+  part-bytes : (k : ℕ) → k + 256 ≤ imageLen → Bytes (take 256 (drop k l))
   part-bytes k h = (
     length-take-le 256 (drop k l) (rw length-drop (omega arith)),
     below-take 256 256 (drop k l) (omega arith) (below-drop k 256 l below),
   )
 
   state-typed : Typed (stateOf l)
-  unfolding fieldsOf repacked
   state-typed =
       let b = repacked (eights 60) (fives 96) (take 60 (drop 512 l)) in
       let s = repacked (eights 60) (fives 96) (take 60 (drop 572 l)) in
-      rw (state-read l size below)
-      (made-typed (take 256 (drop 0 l)) (take 256 (drop 256 l)) (colorsOf b) (colorsOf s) (packed wordWidths (wordList (wordsIn l)))
+      let e = state-read l size below ∙ ap (made (take 256 (drop 0 l)) (take 256 (drop 256 l)) (colorsOf b) (colorsOf s)) (fields-number l size) in
+      rw e
+      (made-typed (take 256 (drop 0 l)) (take 256 (drop 256 l)) (colorsOf b) (colorsOf s) (number l)
       (part-bytes 0 (omega arith)) (part-bytes 256 (omega arith))
       (colors-length b (repacked-length (eights 60) (fives 96) (take 60 (drop 512 l))))
       (colors-length s (repacked-length (eights 60) (fives 96) (take 60 (drop 572 l)))))
@@ -77,21 +77,9 @@ module _ (l : List ℕ) (below : Below 256 l) (h : loadCall l .number ≡ done) 
   loaded-typed = rw (load-state l h) (state-typed l (load-length l h) below)
 
   pub loaded-storable : storable (loadCall l .state) ≡ true
-  loaded-storable = image-back l below h .0
+  loaded-storable = load-storable l h
 
   pub loaded-mapping : (p : Mapper) (u : ℕ) → storable (withUsed (withMapper (loadCall l .state) p) u) ≡ true
       → mappingPut l p u ≡ imageOf (withUsed (withMapper (loadCall l .state) p) u)
   loaded-mapping p u k =
       ap (λ (x : List ℕ). mappingPut x p u) (sym (load-image l h below)) ∙ mapping-image (loadCall l .state) loaded-typed loaded-storable p u k
-
-  pub loaded-clock : (c : Clock) → c .div < 256 → storable (withClock (loadCall l .state) c (loadCall l .state .page)) ≡ true
-      → clockPut l c ≡ imageOf (withClock (loadCall l .state) c (loadCall l .state .page))
-  loaded-clock c d k = ap (λ (x : List ℕ). clockPut x c) (sym (load-image l h below)) ∙ clock-image (loadCall l .state) loaded-typed loaded-storable c d k
-
-  pub loaded-oam : (i v : ℕ) → i < 256 → v < 256 → set l i v ≡ imageOf (withOam (loadCall l .state) (set (loadCall l .state .oam) i v))
-  loaded-oam i v hi hv =
-      ap (λ (x : List ℕ). set x i v) (sym (load-image l h below)) ∙ sym (oam-image (loadCall l .state) loaded-typed loaded-storable i v hi hv)
-
-  pub loaded-page : (i v : ℕ) → i < 256 → v < 256 → set l (256 + i) v ≡ imageOf (withPage (loadCall l .state) (set (loadCall l .state .page) i v))
-  loaded-page i v hi hv =
-      ap (λ (x : List ℕ). set x (256 + i) v) (sym (load-image l h below)) ∙ sym (page-image (loadCall l .state) loaded-typed loaded-storable i v hi hv)

@@ -8,13 +8,14 @@ use lib.Dec.{eqb}
 use lib.ListN.{length, take, drop, getD}
 use lib.Seq.{getD-take, getD-drop}
 use borrow.Author.Tests.{eqb-true}
+use Rattle.rules.proofs.Tests.{both-true}
 use Rattle.numbers.specs.Numbers.{done, outOfRange, wrongLength}
 use Rattle.packing.specs.Packing.{Below}
 use Rattle.savelog.specs.Log.{logLimit}
 use Rattle.memory.specs.declared.Memory.{Memory}
-use Rattle.memory.specs.Ranges.{inRange, coreOf}
+use Rattle.memory.specs.Ranges.{inRange}
 use Rattle.memory.specs.Start.{zeroed}
-use Rattle.image.specs.Layout.{imageOf}
+use Rattle.image.specs.Layout.{imageLen, imageOf}
 use Rattle.image.specs.Load.{storable, sound, fieldsIn, valuesOf, stateOf, loaded, loadCall, openCall}
 use Rattle.image.specs.declared.Loaded.{Loaded}
 use Rattle.image.specs.declared.Opened.{Opened}
@@ -33,19 +34,23 @@ module _ (l : List ℕ) where
   -- a refused load gives the all-zero state
   pub load-refused : (loadCall l .number ≡ done → ⊥) → loaded (loadCall l .number) zeroed ≡ loadCall l
   unfolding loadCall
-  load-refused h = given-zero (eqb (length l) 665) (sound (fieldsIn (valuesOf l)) && storable (stateOf l)) (stateOf l) h
+  load-refused h = given-zero (eqb (length l) imageLen) (sound (fieldsIn (valuesOf l)) && storable (stateOf l)) (stateOf l) h
 
   module _ (h : loadCall l .number ≡ done) where
-    tests : (eqb (length l) 665 ≡ true) × ((sound (fieldsIn (valuesOf l)) && storable (stateOf l)) ≡ true)
+    tests : (eqb (length l) imageLen ≡ true) × ((sound (fieldsIn (valuesOf l)) && storable (stateOf l)) ≡ true)
     unfolding loadCall
-    tests = number-done (eqb (length l) 665) (sound (fieldsIn (valuesOf l)) && storable (stateOf l)) (stateOf l) h
+    tests = number-done (eqb (length l) imageLen) (sound (fieldsIn (valuesOf l)) && storable (stateOf l)) (stateOf l) h
 
-    pub load-length : length l ≡ 665
-    load-length = eqb-true (length l) 665 (tests .0)
+    pub load-length : length l ≡ imageLen
+    load-length = eqb-true (length l) imageLen (tests .0)
 
     pub load-state : loadCall l ≡ loaded done (stateOf l)
     unfolding loadCall
     load-state = rw (tests .0, tests .1)
+
+    pub load-storable : storable (loadCall l .state) ≡ true
+    load-storable =
+        ap (λ (r : Loaded). storable (r .state)) load-state ∙ both-true (sound (fieldsIn (valuesOf l))) (storable (stateOf l)) (tests .1) .1
 
     module _ (below : Below 256 l) where
       pub load-range : inRange (loadCall l .state) logLimit ≡ true
@@ -74,6 +79,6 @@ module _ (l : List ℕ) {o : Opened} (e : o ≡ openCall l) where
   unfolding openCall
   open-number = ap (λ (a : Opened). a .number) e
 
-  pub open-core : o .core ≡ coreOf (loadCall l .state)
+  pub open-core : o .core ≡ loadCall l .state .core
   unfolding openCall
   open-core = ap (λ (a : Opened). a .core) e

@@ -2,34 +2,22 @@
 use mathlib.Core.Bool.{true}
 use mathlib.Core.Path.{_≡_, refl, sym, ap, _∙_}
 use mathlib.Core.List.{List, [], _∷_, _++_, append-assoc}
-use Prim.Native.Nat.{ℕ, zero, suc, _+_, _*_, _^_, _<_, _≤_}
+use Prim.Native.Nat.{ℕ, _+_, _-_, _^_, _<_, _≤_}
 use native.Mathlib.Nat.{le-refl}
 use native.Mathlib.Omega.{arith}
 use lib.ListN.{length, take, drop, getD, replicate, length-append, length-drop, length-replicate, take-append-drop}
 use lib.Seq.{paste, take-paste, length-paste, take-all, take-at, drop-at, take-take, drop-drop, length-take-le, getD-take, getD-drop}
-use Rattle.packing.specs.Packing.{Below, bits, packed, unpacked, repacked, eights, fives}
-use Rattle.packing.proofs.Laws.{Fit, packed-lt, unpack-pack, unpack-length, unpack-fit, pack-unpack, regroup, below-fit, below-drop}
+use Rattle.packing.specs.Packing.{Fit, Below, bits, packed, unpacked, repacked, eights, fives}
+use Rattle.packing.proofs.Laws.{packed-lt, unpack-pack, unpack-length, unpack-fit, pack-unpack, regroup, fit-length, fit-append}
 use Rattle.image.specs.Layout.{imageLen, fieldWidths, widths}
 use Rattle.image.specs.Load.{valuesOf}
 
-pub fit-length : (ws vs : List ℕ) → Fit ws vs → length vs ≡ length ws
-fit-length [] [] h = refl
-fit-length [] (v ∷ vs) h = absurd (omega arith)
-fit-length (w ∷ ws) [] h = absurd (omega arith)
-fit-length (w ∷ ws) (v ∷ vs) h = ap suc (fit-length ws vs (h .1))
+-- the bytes of the fields
+abbrev pub fieldLen : ℕ
+fieldLen = imageLen - 632
 
-pub fit-append : (ws us vs xs : List ℕ) → Fit ws vs → Fit us xs → Fit (ws ++ us) (vs ++ xs)
-fit-append [] us [] xs h k = k
-fit-append [] us (v ∷ vs) xs h k = absurd (omega arith)
-fit-append (w ∷ ws) us [] xs h k = absurd (omega arith)
-fit-append (w ∷ ws) us (v ∷ vs) xs h k = (h .0, fit-append ws us vs xs (h .1) k)
-
-pub fit-below : (k w : ℕ) (l : List ℕ) → 0 < 2 ^ w → Fit (replicate k w) l → Below (2 ^ w) l
-fit-below zero w [] z h i = z
-fit-below zero w (v ∷ l) z h i = absurd (omega arith)
-fit-below (suc k) w [] z h i = z
-fit-below (suc k) w (v ∷ l) z h zero = h .0
-fit-below (suc k) w (v ∷ l) z h (suc i) = fit-below k w l z (h .1) i
+pub joined : {a b c d : List ℕ} → a ≡ b → c ≡ d → a ++ c ≡ b ++ d
+joined p q = cc
 
 pub two : (ws us bs cs vs xs : List ℕ) → Fit ws vs → Fit us xs → bits us ≡ bits cs
     → repacked (ws ++ us) (bs ++ cs) (vs ++ xs) ≡ repacked ws bs vs ++ repacked us cs xs
@@ -58,30 +46,30 @@ repacked-back us ws vs e h =
 -- the values of a state as bytes, part by part
 pub bytes-parts : (x b s f : List ℕ) → Fit (eights 512) x → Fit (fives 96) b → Fit (fives 96) s → Fit fieldWidths f
     → repacked widths (eights imageLen) (x ++ ((b ++ s) ++ f))
-    ≡ x ++ ((repacked (fives 96) (eights 60) b ++ repacked (fives 96) (eights 60) s) ++ repacked fieldWidths (eights 33) f)
+    ≡ x ++ ((repacked (fives 96) (eights 60) b ++ repacked (fives 96) (eights 60) s) ++ repacked fieldWidths (eights fieldLen) f)
 unfolding widths
 bytes-parts x b s f hx hb hs hf =
     let c = fit-append (fives 96) (fives 96) b s hb hs in
-    two (eights 512) (fives 192 ++ fieldWidths) (eights 512) (eights 120 ++ eights 33) x ((b ++ s) ++ f) hx
+    two (eights 512) (fives 192 ++ fieldWidths) (eights 512) (eights 120 ++ eights fieldLen) x ((b ++ s) ++ f) hx
     (fit-append (fives 192) fieldWidths (b ++ s) f c hf) refl
     ∙ rw (
       same (eights 512) x hx,
-      two (fives 192) fieldWidths (eights 120) (eights 33) (b ++ s) f c hf refl,
+      two (fives 192) fieldWidths (eights 120) (eights fieldLen) (b ++ s) f c hf refl,
       two (fives 96) (fives 96) (eights 60) (eights 60) b s hb hs refl,
     )
 
 -- and an image's bytes as values
-pub values-parts : (x y z f : List ℕ) → Fit (eights 512) x → Fit (eights 60) y → Fit (eights 60) z → Fit (eights 33) f
+pub values-parts : (x y z f : List ℕ) → Fit (eights 512) x → Fit (eights 60) y → Fit (eights 60) z → Fit (eights fieldLen) f
     → repacked (eights imageLen) widths (x ++ ((y ++ z) ++ f))
-    ≡ x ++ ((repacked (eights 60) (fives 96) y ++ repacked (eights 60) (fives 96) z) ++ repacked (eights 33) fieldWidths f)
+    ≡ x ++ ((repacked (eights 60) (fives 96) y ++ repacked (eights 60) (fives 96) z) ++ repacked (eights fieldLen) fieldWidths f)
 unfolding widths
 values-parts x y z f hx hy hz hf =
     let c = fit-append (eights 60) (eights 60) y z hy hz in
-    two (eights 512) (eights 120 ++ eights 33) (eights 512) (fives 192 ++ fieldWidths) x ((y ++ z) ++ f) hx
-    (fit-append (eights 120) (eights 33) (y ++ z) f c hf) refl
+    two (eights 512) (eights 120 ++ eights fieldLen) (eights 512) (fives 192 ++ fieldWidths) x ((y ++ z) ++ f) hx
+    (fit-append (eights 120) (eights fieldLen) (y ++ z) f c hf) refl
     ∙ rw (
       same (eights 512) x hx,
-      two (eights 120) (eights 33) (fives 192) fieldWidths (y ++ z) f c hf refl,
+      two (eights 120) (eights fieldLen) (fives 192) fieldWidths (y ++ z) f c hf refl,
       two (eights 60) (eights 60) (fives 96) (fives 96) y z hy hz refl,
     )
 
@@ -91,22 +79,24 @@ put-at d s at k r e n h = rw (e, n) (take-paste d at s k (omega arith) (omega ar
 pub put-kept : (d s : List ℕ) (at : ℕ) (r : List ℕ) → r ≡ paste d at s (length s) → at + length s ≤ length d → length r ≡ length d
 put-kept d s at r e h = rw e (length-paste d at s (length s) h (le-refl (length s)))
 
--- five parts stored one after the other make the whole
-module _ (l o p b s f : List ℕ) (n : length l ≡ 665) (ho : length o ≡ 256) (hp : length p ≡ 256) (hb : length b ≡ 60) (hs : length s ≡ 60) (hf : length f ≡ 33)
-    (l₁ l₂ l₃ l₄ l₅ : List ℕ) (e₁ : l₁ ≡ paste l 0 o (length o)) (e₂ : l₂ ≡ paste l₁ 256 p (length p)) (e₃ : l₃ ≡ paste l₂ 512 b (length b))
-    (e₄ : l₄ ≡ paste l₃ 572 s (length s)) (e₅ : l₅ ≡ paste l₄ 632 f (length f)) where
-  pub stored-parts : l₅ ≡ (o ++ p) ++ ((b ++ s) ++ f)
+-- four parts stored one after the other make the front
+module _ (l o p b s : List ℕ) (n : length l ≡ imageLen) (ho : length o ≡ 256) (hp : length p ≡ 256) (hb : length b ≡ 60) (hs : length s ≡ 60)
+    (l₁ l₂ l₃ l₄ : List ℕ) (e₁ : l₁ ≡ paste l 0 o (length o)) (e₂ : l₂ ≡ paste l₁ 256 p (length p)) (e₃ : l₃ ≡ paste l₂ 512 b (length b))
+    (e₄ : l₄ ≡ paste l₃ 572 s (length s)) where
+  pub stored-size : length l₄ ≡ imageLen
+  stored-size =
+      let n₁ : length l₁ ≡ imageLen = put-kept l o 0 l₁ e₁ (omega arith) ∙ n in
+      let n₂ : length l₂ ≡ imageLen = put-kept l₁ p 256 l₂ e₂ (omega arith) ∙ n₁ in
+      let n₃ : length l₃ ≡ imageLen = put-kept l₂ b 512 l₃ e₃ (omega arith) ∙ n₂ in
+      put-kept l₃ s 572 l₄ e₄ (omega arith) ∙ n₃
+
+  pub stored-parts : take 632 l₄ ≡ (o ++ p) ++ (b ++ s)
   stored-parts =
-      let n₁ : length l₁ ≡ 665 = put-kept l o 0 l₁ e₁ (omega arith) ∙ n in
-      let n₂ : length l₂ ≡ 665 = put-kept l₁ p 256 l₂ e₂ (omega arith) ∙ n₁ in
-      let n₃ : length l₃ ≡ 665 = put-kept l₂ b 512 l₃ e₃ (omega arith) ∙ n₂ in
-      let n₄ : length l₄ ≡ 665 = put-kept l₃ s 572 l₄ e₄ (omega arith) ∙ n₃ in
-      let n₅ : length l₅ ≡ 665 = put-kept l₄ f 632 l₅ e₅ (omega arith) ∙ n₄ in
+      let n₁ : length l₁ ≡ imageLen = put-kept l o 0 l₁ e₁ (omega arith) ∙ n in
+      let n₂ : length l₂ ≡ imageLen = put-kept l₁ p 256 l₂ e₂ (omega arith) ∙ n₁ in
+      let n₃ : length l₃ ≡ imageLen = put-kept l₂ b 512 l₃ e₃ (omega arith) ∙ n₂ in
       let t₁ : take 256 l₁ ≡ o = put-at l o 0 256 l₁ e₁ ho (omega arith) in
       let t₂ : take 512 l₂ ≡ take 256 l₁ ++ p = put-at l₁ p 256 256 l₂ e₂ hp (omega arith) in
       let t₃ : take 572 l₃ ≡ take 512 l₂ ++ b = put-at l₂ b 512 60 l₃ e₃ hb (omega arith) in
       let t₄ : take 632 l₄ ≡ take 572 l₃ ++ s = put-at l₃ s 572 60 l₄ e₄ hs (omega arith) in
-      let t₅ : take 665 l₅ ≡ take 632 l₄ ++ f = put-at l₄ f 632 33 l₅ e₅ hf (omega arith) in
-      sym (take-all 665 l₅ (omega arith)) ∙ t₅
-      ∙ ap (λ (x : List ℕ). x ++ f) (t₄ ∙ ap (λ (x : List ℕ). x ++ s) (t₃ ∙ ap (λ (x : List ℕ). x ++ b) (t₂ ∙ ap (λ (x : List ℕ). x ++ p) t₁)) ∙ append-assoc (o ++ p) b s)
-      ∙ append-assoc (o ++ p) (b ++ s) f
+      t₄ ∙ ap (λ (x : List ℕ). x ++ s) (t₃ ∙ ap (λ (x : List ℕ). x ++ b) (t₂ ∙ ap (λ (x : List ℕ). x ++ p) t₁)) ∙ append-assoc (o ++ p) b s

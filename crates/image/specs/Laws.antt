@@ -18,20 +18,20 @@ pub record Typed (m : Memory) : Type 0 where
   pub page : (length (m .page) ≡ 256) × Below 256 (m .page)
   pub background : length (m .background) ≡ 32
   pub sprites : length (m .sprites) ≡ 32
-  pub released : m .joypad .released < 256
-  pub state : m .joypad .state < 256
-  pub line : m .lcd .line < 256
-  pub signal : m .lcd .signal < 256
-  pub mode : m .lcd .mode < 256
-  pub delay : SFits w32 (m .lcd .delay)
-  pub counter : SFits w32 (m .lcd .counter)
-  pub aux : SFits w32 (m .lcd .aux)
-  pub window : SFits w32 (m .lcd .window)
-  pub div : m .clock .div < 256
-  pub source : m .hdma .source < 65536
-  pub destination : m .hdma .destination < 65536
+  pub released : m .core .joypad .released < 256
+  pub state : m .core .joypad .state < 256
+  pub line : m .core .lcd .line < 256
+  pub signal : m .core .lcd .signal < 256
+  pub mode : m .core .lcd .mode < 256
+  pub delay : SFits w32 (m .core .lcd .delay)
+  pub counter : SFits w32 (m .core .lcd .counter)
+  pub aux : SFits w32 (m .core .lcd .aux)
+  pub window : SFits w32 (m .core .lcd .window)
+  pub div : m .core .clock .div < 256
+  pub source : m .core .hdma .source < 65536
+  pub destination : m .core .hdma .destination < 65536
 
--- A state in range has an image of 665 bytes, and loading that gives the state back.
+-- A state in range has an image, and loading that gives the state back.
 abbrev pub StateBack : Type 0
 StateBack =
     (m : Memory) → Typed m → storable m ≡ true

@@ -3,33 +3,59 @@
 use mathlib.Core.Bool.{Bool, cond}
 use mathlib.Core.List.{List, [], _∷_, _++_}
 use Prim.Native.Nat.{ℕ}
-use lib.Dec.{eqb}
 use lib.IntN.{ℤ}
 use mir.Syntax.{w32}
 use mir.Val.{ofZ}
 use Rattle.packing.specs.Packing.{repacked, eights, fives}
 use Rattle.palette.specs.declared.Color.{Color}
-use Rattle.mbc.specs.Mbc.{romBank}
-use Rattle.mbc.specs.declared.mbc.Mapper.{Mapper}
-use Rattle.mbc.specs.declared.mbc.Mapper.the-variants.{RomOnly, Mbc1, Mbc2}
+use Rattle.mbc.specs.Mbc.{registersOf, log2}
+use Rattle.memory.specs.declared.Core.{Core}
 use Rattle.memory.specs.declared.Memory.{Memory}
 
 abbrev pub imageLen : ℕ
 imageLen = 665
 
--- the fields behind the colours
-abbrev pub fieldWidths : List ℕ
-fieldWidths =
+-- The fields behind the colours: first those before the mapper
+
+abbrev pub headWidths : List ℕ
+headWidths =
     -- colour, screen disabled, HDMA on, VRAM bank, WRAM bank, action mark
     1 ∷ 1 ∷ 1 ∷ 1 ∷ 3 ∷ 1 ∷
     -- direction mark, `joypad_state`, released, scan line, `irq48_signal`, LCD mode, `div_cycles`, `tima_cycles`
     1 ∷ 8 ∷ 8 ∷ 8 ∷ 8 ∷ 8 ∷ 8 ∷ 10 ∷
     -- HDMA source, destination; delay, counter, aux counter, window line
-    16 ∷ 16 ∷ 32 ∷ 32 ∷ 32 ∷ 32 ∷
-    -- mapper, log2 N, RAM code, ROM bank, RAM bank, mode, enabled, high bits
-    2 ∷ 3 ∷ 2 ∷ 7 ∷ 2 ∷ 1 ∷ 1 ∷ 2 ∷
-    -- log use, one 0 bit
-    16 ∷ 1 ∷ []
+    16 ∷ 16 ∷ 32 ∷ 32 ∷ 32 ∷ 32 ∷ []
+
+abbrev pub bit : Bool → ℕ
+bit b = cond b 1 0
+
+-- two's complement
+abbrev pub complement : ℤ → ℕ
+complement z = ofZ w32 z
+
+abbrev pub headValues : Core → List ℕ
+headValues c =
+    bit (c .banks .colour) ∷ bit (c .lcd .disabled) ∷ bit (c .hdma .on) ∷ c .banks .vram ∷ c .banks .wram ∷ bit (c .joypad .action) ∷
+    bit (c .joypad .direction) ∷ c .joypad .state ∷ c .joypad .released ∷ c .lcd .line ∷ c .lcd .signal ∷ c .lcd .mode ∷ c .clock .div ∷ c .clock .tima ∷
+    c .hdma .source ∷ c .hdma .destination ∷
+    complement (c .lcd .delay) ∷ complement (c .lcd .counter) ∷ complement (c .lcd .aux) ∷ complement (c .lcd .window) ∷ []
+
+-- then mapper, log2 N, RAM code, ROM bank, RAM bank, mode, enabled, high bits; log use, one 0 bit
+
+abbrev pub tailWidths : List ℕ
+tailWidths = 2 ∷ 3 ∷ 2 ∷ 7 ∷ 2 ∷ 1 ∷ 1 ∷ 2 ∷ 16 ∷ 1 ∷ []
+
+-- "Fields that a mapper lacks hold their starting values": `registersOf`
+abbrev pub tailValues : Core → List ℕ
+tailValues c =
+    registersOf (c .mapper) .kind ∷ log2 (c .cartridge .banks) ∷ c .cartridge .code ∷ registersOf (c .mapper) .rom ∷ registersOf (c .mapper) .ram ∷
+    registersOf (c .mapper) .mode ∷ registersOf (c .mapper) .enabled ∷ registersOf (c .mapper) .high ∷ c .used ∷ 0 ∷ []
+
+abbrev pub fieldWidths : List ℕ
+fieldWidths = headWidths ++ tailWidths
+
+abbrev pub fieldValues : Core → List ℕ
+fieldValues c = headValues c ++ tailValues c
 
 -- OAM and high page; red, green, blue of 32 background and 32 sprite colours; the fields
 unfoldable pub widths : List ℕ
@@ -39,65 +65,8 @@ abbrev pub channels : List Color → List ℕ
 channels [] = []
 channels (c ∷ colors) = c .red ∷ c .green ∷ c .blue ∷ channels colors
 
-abbrev pub bit : Bool → ℕ
-bit b = cond b 1 0
-
--- two's complement
-abbrev pub complement : ℤ → ℕ
-complement z = ofZ w32 z
-
--- 0 RomOnly, 1 Mbc1, 2 Mbc2
-abbrev pub kindOf : Mapper → ℕ
-kindOf RomOnly = 0
-kindOf (Mbc1 m) = 1
-kindOf (Mbc2 m) = 2
-
--- N is 2, 4 .. 128
-unfoldable pub log2 : ℕ → ℕ
-log2 n =
-    cond (eqb n 2) 1
-    (cond (eqb n 4) 2
-    (cond (eqb n 8) 3
-    (cond (eqb n 16) 4
-    (cond (eqb n 32) 5
-    (cond (eqb n 64) 6
-    (cond (eqb n 128) 7
-    0))))))
-
--- "Fields that a mapper lacks hold their starting values": ROM bank 1 (`romBank` of RomOnly), all else 0
-
-abbrev pub ramBank : Mapper → ℕ
-ramBank RomOnly = 0
-ramBank (Mbc1 m) = m .ram
-ramBank (Mbc2 m) = 0
-
-abbrev pub modeBit : Mapper → ℕ
-modeBit RomOnly = 0
-modeBit (Mbc1 m) = bit (m .mode)
-modeBit (Mbc2 m) = 0
-
-abbrev pub enabledBit : Mapper → ℕ
-enabledBit RomOnly = 0
-enabledBit (Mbc1 m) = bit (m .enabled)
-enabledBit (Mbc2 m) = bit (m .enabled)
-
-abbrev pub highBits : Mapper → ℕ
-highBits RomOnly = 0
-highBits (Mbc1 m) = m .high
-highBits (Mbc2 m) = 0
-
-abbrev pub fieldValues : Memory → List ℕ
-fieldValues m =
-    bit (m .banks .colour) ∷ bit (m .lcd .disabled) ∷ bit (m .hdma .on) ∷ m .banks .vram ∷ m .banks .wram ∷ bit (m .joypad .action) ∷
-    bit (m .joypad .direction) ∷ m .joypad .state ∷ m .joypad .released ∷ m .lcd .line ∷ m .lcd .signal ∷ m .lcd .mode ∷ m .clock .div ∷ m .clock .tima ∷
-    m .hdma .source ∷ m .hdma .destination ∷
-    complement (m .lcd .delay) ∷ complement (m .lcd .counter) ∷ complement (m .lcd .aux) ∷ complement (m .lcd .window) ∷
-    kindOf (m .mapper) ∷ log2 (m .cartridge .banks) ∷ m .cartridge .code ∷ romBank (m .mapper) ∷ ramBank (m .mapper) ∷ modeBit (m .mapper) ∷
-    enabledBit (m .mapper) ∷ highBits (m .mapper) ∷
-    m .used ∷ 0 ∷ []
-
 unfoldable pub values : Memory → List ℕ
-values m = (m .oam ++ m .page) ++ ((channels (m .background) ++ channels (m .sprites)) ++ fieldValues m)
+values m = (m .oam ++ m .page) ++ ((channels (m .background) ++ channels (m .sprites)) ++ fieldValues (m .core))
 
 unfoldable pub imageOf : Memory → List ℕ
 imageOf m = repacked widths (eights imageLen) (values m)

@@ -1,8 +1,8 @@
 -- The two calls on images: what a store gives, and the state that an image holds (document 01, "Save log and state image" and "Numbers a call gives back":
 -- the image's length, by 4, comes before the state, by 3; a refused store changes nothing, a refused load gives the all-zero state).
-use mathlib.Core.Bool.{Bool, true, false, cond, _&&_}
+use mathlib.Core.Bool.{Bool, cond, _&&_}
 use mathlib.Core.List.{List, [], _∷_}
-use Prim.Native.Nat.{ℕ, _^_}
+use Prim.Native.Nat.{ℕ}
 use lib.Dec.{eqb}
 use lib.IntN.{ℤ}
 use lib.ListN.{length, take, drop, getD}
@@ -14,19 +14,19 @@ use Rattle.hdma.specs.declared.Hdma.{Hdma}
 use Rattle.joypad.specs.declared.Controller.{Controller}
 use Rattle.lcd.specs.declared.Lcd.{Lcd}
 use Rattle.palette.specs.declared.Color.{Color}
+use Rattle.mbc.specs.Mbc as mbc
 use Rattle.mbc.specs.declared.cartridge.Cartridge.{Cartridge}
-use Rattle.mbc.specs.declared.mbc.Mapper.{Mapper}
-use Rattle.mbc.specs.declared.mbc.Mapper.the-variants.{RomOnly, Mbc1, Mbc2}
+use Rattle.mbc.specs.declared.registers.Registers.{Registers}
 use Rattle.savelog.specs.Log.{logLimit}
 use Rattle.memory.specs.declared.Banks.{Banks}
 use Rattle.memory.specs.declared.Clock.{Clock}
+use Rattle.memory.specs.declared.Core.{Core}
 use Rattle.memory.specs.declared.Memory.{Memory}
-use Rattle.memory.specs.Ranges.{inRange, coreOf}
+use Rattle.memory.specs.Ranges.{inRange}
 use Rattle.memory.specs.Start.{zeroed}
 use Rattle.image.specs.Layout.{imageLen, widths, imageOf}
 use Rattle.image.specs.declared.Loaded.{Loaded}
 use Rattle.image.specs.declared.Opened.{Opened}
-use Rattle.image.specs.declared.fields.Registers.{Registers}
 
 -- no log is lent: use is held to 65,535
 unfoldable pub storable : Memory → Bool
@@ -46,7 +46,7 @@ storeCall m l =
     (cond (storable m) (stored done (imageOf m)) (stored outOfRange l))
     (stored wrongLength l)
 
--- The state of an image's values, each taken from its place in `values`
+-- The state of an image's values
 
 abbrev pub colorsOf : List ℕ → List Color
 colorsOf [] = []
@@ -62,6 +62,8 @@ isOn fs k = eqb (at fs k) 1
 
 abbrev pub signed : List ℕ → ℕ → ℤ
 signed fs k = toZ w32 (at fs k)
+
+-- the fields by their numbers in `fieldWidths`
 
 abbrev pub banksOf : List ℕ → Banks
 banksOf fs = record { colour = isOn fs 0; vram = at fs 3; wram = at fs 4 }
@@ -88,15 +90,25 @@ joypadOf fs = record { released = at fs 8; action = isOn fs 5; direction = isOn 
 abbrev pub clockOf : List ℕ → Clock
 clockOf fs = record { div = at fs 12; tima = at fs 13 }
 
--- N is 2 ^ its logarithm
 abbrev pub cartridgeOf : List ℕ → Cartridge
-cartridgeOf fs = record { banks = 2 ^ at fs 21; code = at fs 22 }
+cartridgeOf fs = record { banks = mbc.banksOf (at fs 21); code = at fs 22 }
 
-unfoldable pub mapperOf : List ℕ → Mapper
-mapperOf fs =
-    cond (eqb (at fs 20) 0) RomOnly
-    (cond (eqb (at fs 20) 1) (Mbc1 (record { rom = at fs 23; ram = at fs 24; mode = isOn fs 25; enabled = isOn fs 26; high = at fs 27 }))
-    (Mbc2 (record { rom = at fs 23; enabled = isOn fs 26 })))
+abbrev pub registersIn : List ℕ → Registers
+registersIn fs = record { kind = at fs 20; rom = at fs 23; ram = at fs 24; mode = at fs 25; enabled = at fs 26; high = at fs 27 }
+
+-- all but the arrays
+abbrev pub coreFrom : List ℕ → Core
+coreFrom fs =
+    record {
+      banks = banksOf fs;
+      lcd = lcdOf fs;
+      hdma = hdmaOf fs;
+      joypad = joypadOf fs;
+      clock = clockOf fs;
+      cartridge = cartridgeOf fs;
+      mapper = mbc.mapperOf (registersIn fs);
+      used = at fs 28;
+    }
 
 abbrev pub stateFrom : List ℕ → List ℕ → List ℕ → Memory
 stateFrom bytes colors fs =
@@ -105,34 +117,12 @@ stateFrom bytes colors fs =
       page = drop 256 bytes;
       background = colorsOf (take 96 colors);
       sprites = colorsOf (drop 96 colors);
-      banks = banksOf fs;
-      lcd = lcdOf fs;
-      hdma = hdmaOf fs;
-      joypad = joypadOf fs;
-      clock = clockOf fs;
-      cartridge = cartridgeOf fs;
-      mapper = mapperOf fs;
-      used = at fs 28;
+      core = coreFrom fs;
     }
 
--- What is refused beside the state ranges: a field that the mapper lacks and that does not hold its starting value, mapper 3, a last bit 1
-
--- a mapper's kind, ROM bank, RAM bank, mode, enabled and high bits
-abbrev pub registers : List ℕ → Registers
-registers fs = record { kind = at fs 20; rom = at fs 23; ram = at fs 24; mode = at fs 25; enabled = at fs 26; high = at fs 27 }
-
-unfoldable pub romOnlyStarts : Registers → Bool
-romOnlyStarts r = eqb (r .rom) 1 && (eqb (r .ram) 0 && (eqb (r .mode) 0 && (eqb (r .enabled) 0 && eqb (r .high) 0)))
-
-unfoldable pub startsAs : Registers → Bool
-startsAs r =
-    cond (eqb (r .kind) 0) (romOnlyStarts r)
-    (cond (eqb (r .kind) 1) true
-    (cond (eqb (r .kind) 2) (eqb (r .ram) 0 && (eqb (r .mode) 0 && eqb (r .high) 0))
-    false))
-
+-- What is refused beside the state ranges: registers that no mapper has (mapper 3 among them), a last bit 1
 unfoldable pub sound : List ℕ → Bool
-sound fs = startsAs (registers fs) && eqb (at fs 29) 0
+sound fs = mbc.sound (registersIn fs) && eqb (at fs 29) 0
 
 abbrev pub loaded : ℕ → Memory → Loaded
 loaded n m = record { number = n; state = m }
@@ -161,7 +151,7 @@ loadCall l =
 
 -- a load without the state's arrays: its number, and the rest of the state that it gives
 abbrev pub openedOf : Loaded → Opened
-openedOf r = record { number = r .number; core = coreOf (r .state) }
+openedOf r = record { number = r .number; core = r .state .core }
 
 unfoldable pub openCall : List ℕ → Opened
 openCall l = openedOf (loadCall l)

@@ -1,42 +1,92 @@
--- Parts of an image changed in place. Nothing here need be believed: proofs/PatchLaws.antt has that the bytes are `imageOf` of the changed state.
-use mathlib.Core.List.{List, [], _∷_}
-use Prim.Native.Nat.{ℕ, _/_, _%_, _<_}
-use lib.ListN.{take, drop}
-use lib.Seq.{paste}
-use Rattle.packing.specs.Packing.{packed, unpacked, eights}
-use Rattle.mbc.specs.Mbc.{romBank}
+-- The fields of an image at their places, read and put there: how the code goes. Nothing here need be believed: proofs/FieldLaws.antt has that the fields
+-- read are those of specs/Load.antt, proofs/PatchLaws.antt that an image with fields put is `imageOf` of the changed state.
+use mathlib.Core.List.{List, [], _∷_, _++_}
+use Prim.Native.Nat.{ℕ}
+use Rattle.packing.specs.Packing.{repacked, eights, fives}
+use Rattle.places.specs.Places.{fieldsFrom, putFields, FitAll}
+use Rattle.hdma.specs.declared.Hdma.{Hdma}
+use Rattle.joypad.specs.declared.Controller.{Controller}
+use Rattle.lcd.specs.declared.Lcd.{Lcd}
+use Rattle.mbc.specs.Mbc.{registersOf, log2}
+use Rattle.mbc.specs.declared.cartridge.Cartridge.{Cartridge}
 use Rattle.mbc.specs.declared.mbc.Mapper.{Mapper}
+use Rattle.mbc.specs.declared.registers.Registers.{Registers}
+use Rattle.memory.specs.declared.Banks.{Banks}
 use Rattle.memory.specs.declared.Clock.{Clock}
-use Rattle.image.specs.Layout.{kindOf, ramBank, modeBit, enabledBit, highBits}
-use Rattle.image.specs.Words.{widths5, top}
+use Rattle.memory.specs.declared.Core.{Core}
+use Rattle.memory.specs.declared.Memory.{Memory}
+use Rattle.image.specs.Layout.{fieldWidths, bit, complement, channels}
 
--- the number in eight bytes, and the image with another number there
-abbrev pub numberIn : List ℕ → ℕ → ℕ
-numberIn l at = packed (eights 8) (take 8 (drop at l))
+-- the bytes before the fields
+unfoldable pub arraysOf : Memory → List ℕ
+arraysOf m =
+    (m .oam ++ m .page)
+    ++ (repacked (fives 96) (eights 60) (channels (m .background)) ++ repacked (fives 96) (eights 60) (channels (m .sprites)))
 
-abbrev pub withNumber : List ℕ → ℕ → ℕ → List ℕ
-withNumber l at n = paste l at (unpacked (eights 8) n) 8
+-- and their bits
+abbrev pub front : ℕ
+front = 5056
 
--- Mapper and log use lie in the last number
+abbrev pub fields : List ℕ → List ℕ
+fields l = fieldsFrom l front fieldWidths
+
+-- fields of an image put, and that each is within its width
+abbrev pub put : List (ℕ × ℕ) → List ℕ → List ℕ
+put ps l = putFields front fieldWidths ps l
+
+abbrev pub Fits : List (ℕ × ℕ) → Type 0
+Fits ps = FitAll fieldWidths ps
+
+-- Each group's fields: their numbers in `fieldWidths`, and their values
+
+abbrev pub banksFields : Banks → List (ℕ × ℕ)
+banksFields b = (0, bit (b .colour)) ∷ (3, b .vram) ∷ (4, b .wram) ∷ []
+
+abbrev pub linesFields : Lcd → List (ℕ × ℕ)
+linesFields l = (1, bit (l .disabled)) ∷ (9, l .line) ∷ (10, l .signal) ∷ (11, l .mode) ∷ []
+
+abbrev pub lcdFields : Lcd → List (ℕ × ℕ)
+lcdFields l =
+    linesFields l
+    ++ ((16, complement (l .delay)) ∷ (17, complement (l .counter)) ∷ (18, complement (l .aux)) ∷ (19, complement (l .window)) ∷ [])
+
+abbrev pub hdmaFields : Hdma → List (ℕ × ℕ)
+hdmaFields h = (2, bit (h .on)) ∷ (14, h .source) ∷ (15, h .destination) ∷ []
+
+abbrev pub joypadFields : Controller → List (ℕ × ℕ)
+joypadFields j = (5, bit (j .action)) ∷ (6, bit (j .direction)) ∷ (7, j .state) ∷ (8, j .released) ∷ []
+
+abbrev pub clockFields : Clock → List (ℕ × ℕ)
+clockFields c = (12, c .div) ∷ (13, c .tima) ∷ []
+
+abbrev pub cartridgeFields : Cartridge → List (ℕ × ℕ)
+cartridgeFields c = (21, log2 (c .banks)) ∷ (22, c .code) ∷ []
+
+abbrev pub numbersFields : Registers → List (ℕ × ℕ)
+numbersFields r = (20, r .kind) ∷ (23, r .rom) ∷ (24, r .ram) ∷ (27, r .high) ∷ []
+
+abbrev pub registersFields : Registers → List (ℕ × ℕ)
+registersFields r = numbersFields r ++ ((25, r .mode) ∷ (26, r .enabled) ∷ [])
+
+abbrev pub mappingFields : Mapper → ℕ → List (ℕ × ℕ)
+mappingFields p u = registersFields (registersOf p) ++ ((28, u) ∷ [])
+
+abbrev pub coreFields : Core → List (ℕ × ℕ)
+coreFields c =
+    banksFields (c .banks)
+    ++ (lcdFields (c .lcd)
+    ++ (hdmaFields (c .hdma)
+    ++ (joypadFields (c .joypad)
+    ++ (clockFields (c .clock) ++ (cartridgeFields (c .cartridge) ++ (mappingFields (c .mapper) (c .used) ++ ((29, 0) ∷ [])))))))
+
+-- For the callers who change an image in place
 
 -- what the mapper's ranges give
-pub record Slim (p : Mapper) : Type 0 where
-  pub rom : romBank p < 128
-  pub ram : ramBank p < 4
-  pub high : highBits p < 4
-
-abbrev pub remapped : ℕ → Mapper → ℕ → ℕ
-remapped n p u =
-    packed widths5
-    (n / 0x2000000000 % top ∷ kindOf p ∷ n / 0x100000000 % 8 ∷ n / 0x40000000 % 4 ∷ romBank p ∷ ramBank p ∷ modeBit p ∷ enabledBit p ∷ highBits p ∷ u ∷ 0 ∷ [])
+abbrev pub Slim : Mapper → Type 0
+Slim p = Fits (registersFields (registersOf p))
 
 unfoldable pub mappingPut : List ℕ → Mapper → ℕ → List ℕ
-mappingPut l p u = withNumber l 657 (remapped (numberIn l 657) p u)
-
--- `div_cycles` and `tima_cycles` lie in the number of the timer: 41 bits before them and 5 behind stay
-
-abbrev pub reclocked : ℕ → Clock → ℕ
-reclocked n c = packed (41 ∷ 8 ∷ 10 ∷ 5 ∷ []) (n / 0x800000 ∷ c .div ∷ c .tima ∷ n % 32 ∷ [])
+mappingPut l p u = put (mappingFields p u) l
 
 unfoldable pub clockPut : List ℕ → Clock → List ℕ
-clockPut l c = withNumber l 633 (reclocked (numberIn l 633) c)
+clockPut l c = put (clockFields c) l

@@ -1,29 +1,36 @@
-// The state image: a state as 665 bytes, and back. specs/Layout.antt has the bytes, specs/Load.antt the two calls, specs/Laws.antt that they
+// The state image: a state as bytes, and back. specs/Layout.antt has the bytes, specs/Load.antt the two calls, specs/Laws.antt that they
 // go round. Each part has its own function, so that a caller who needs one part takes that alone.
 ghost use mathlib.Core.Path.{_≡_};
 ghost use mathlib.Core.Bool.{true};
 ghost use Prim.Native.Nat.{_+_, _≤_};
-ghost use lib.ListN.{length};
-ghost use Rattle.image.specs.Layout.{imageOf};
+ghost use lib.ListN.{length, take};
+ghost use Rattle.image.specs.Layout.{imageLen, imageOf};
 ghost use Rattle.image.specs.Load.{storable, stored, storeCall, loaded, stateOf, loadCall, openedOf, openCall};
 ghost use Rattle.image.specs.Laws.{Typed, StateBack, ImageBack, ImageTyped};
-ghost use Rattle.memory.specs.Ranges.{coreOf};
+ghost use Rattle.image.specs.Patches.{arraysOf};
 ghost use Rattle.memory.specs.Start.{zeroed};
 
 mod colors;
 mod fields;
-mod patches;
+mod layout;
 
-pub use fields::Registers;
-pub use fields::Words;
+pub use fields::banks_at;
+pub use fields::cartridge_at;
+pub use fields::clock_at;
+pub use fields::hdma_at;
+pub use fields::joypad_at;
+pub use fields::lcd_at;
+pub use fields::put_banks;
+pub use fields::put_clock;
+pub use fields::put_hdma;
+pub use fields::put_joypad;
+pub use fields::put_lcd;
+pub use fields::put_mapping;
+pub use fields::registers_at;
+pub use fields::used_at;
+pub use layout::LENGTH;
 use memory::Core;
 use memory::Memory;
-pub use patches::put_clock;
-pub use patches::put_mapping;
-
-const LENGTH: usize = 665;
-
-const NO_LOG: usize = 65535;
 
 // The number, and the state that an image gave.
 pub struct Loaded {
@@ -42,10 +49,10 @@ fn typed(memory: Memory)
     ensures { λ _. ⌜ Typed memory ⌝ }
 {}
 
-// The image of a state in range, into the bytes of an image.
-pub fn store(memory: Memory, image: &mut [u8])
-    requires { ⌜ (length (now image) ≡ 665) × (storable memory ≡ true) ⌝ }
-    ensures { λ _. ⌜ now (image .exit) ≡ imageOf memory ⌝ }
+// OAM, page and colours, into the first bytes of an image.
+fn put_arrays(memory: Memory, image: &mut [u8])
+    requires { ⌜ (length (now image) ≡ imageLen) × (storable memory ≡ true) ⌝ }
+    ensures { λ _. ⌜ take 632 (now (image .exit)) ≡ arraysOf memory ⌝ }
 {
     typed(memory);
     let oam = memory.oam;
@@ -54,23 +61,31 @@ pub fn store(memory: Memory, image: &mut [u8])
     let background = colors::bytes_of(b);
     let s = memory.sprites;
     let sprites = colors::bytes_of(s);
-    let words = fields::words_of(memory);
-    let bytes = fields::bytes_of(words);
     packing::put(image, 0, &oam);
     packing::put(image, 256, &page);
     packing::put(image, 512, &background);
     packing::put(image, 572, &sprites);
-    packing::put(image, 632, &bytes);
 }
 
-// The state's image; 4 for a length other than 665, 3 for a state out of range, and then nothing is changed.
+// The image of a state in range, into the bytes of an image.
+pub fn store(memory: Memory, image: &mut [u8])
+    requires { ⌜ (length (now image) ≡ imageLen) × (storable memory ≡ true) ⌝ }
+    ensures { λ _. ⌜ now (image .exit) ≡ imageOf memory ⌝ }
+{
+    typed(memory);
+    put_arrays(memory, image);
+    let core = memory.core;
+    fields::put_core(image, core);
+}
+
+// The state's image; 4 for another length, 3 for a state out of range, and then nothing is changed.
 pub fn encode(memory: Memory, image: &mut [u8]) -> u8
     ensures { λ r. ⌜ stored r (now (image .exit)) ≡ storeCall memory (now (image .entry)) ⌝ }
 {
     if image.len() != LENGTH {
         return numbers::WRONG_LENGTH;
     }
-    if !memory::in_range(memory, NO_LOG) {
+    if !memory::in_range(memory, savelog::LOG_LIMIT) {
         return numbers::OUT_OF_RANGE;
     }
     store(memory, image);
@@ -81,14 +96,15 @@ pub fn encode(memory: Memory, image: &mut [u8]) -> u8
 fn closed(number: u8) -> Opened
     ensures { λ r. ⌜ r ≡ openedOf (loaded number zeroed) ⌝ }
 {
-    let core = memory::core_of(memory::zero());
+    let zero = memory::zero();
+    let core = zero.core;
     Opened {
         number: number,
         core: core,
     }
 }
 
-// What a load gives, without the arrays: 4 for a length other than 665, 3 for an image that no state in range has. The colours are not
+// What a load gives, without the arrays: 4 for another length, 3 for an image that no state in range has. The colours are not
 // looked at: a channel of five bits is in range.
 pub fn open(image: &[u8]) -> Opened
     ensures { λ r. ⌜ r ≡ openCall (now (image .entry)) ⌝ }
@@ -96,12 +112,11 @@ pub fn open(image: &[u8]) -> Opened
     if image.len() != LENGTH {
         return closed(numbers::WRONG_LENGTH);
     }
-    let words = fields::words_at(image);
-    if !fields::is_sound(words) {
+    if !fields::is_sound(image) {
         return closed(numbers::OUT_OF_RANGE);
     }
-    let core = fields::core_of(words);
-    if !memory::core_in_range(core, NO_LOG) {
+    let core = fields::core_at(image);
+    if !memory::core_in_range(core, savelog::LOG_LIMIT) {
         return closed(numbers::OUT_OF_RANGE);
     }
     Opened {
@@ -112,33 +127,19 @@ pub fn open(image: &[u8]) -> Opened
 
 // The state that an image's bytes hold.
 fn state_of(image: &[u8], core: Core) -> Memory
-    requires { ⌜ (length (now image) ≡ 665) × (core ≡ coreOf (stateOf (now image))) ⌝ }
+    requires { ⌜ (length (now image) ≡ imageLen) × (core ≡ stateOf (now image) .core) ⌝ }
     ensures { λ r. ⌜ r ≡ stateOf (now (image .entry)) ⌝ }
 {
     let oam = packing::part(image, 0);
     let page = packing::part(image, 256);
     let background = colors::colors_at(&image[512..572]);
     let sprites = colors::colors_at(&image[572..632]);
-    let banks = core.banks;
-    let lcd = core.lcd;
-    let hdma = core.hdma;
-    let joypad = core.joypad;
-    let clock = core.clock;
-    let cartridge = core.cartridge;
-    let mapper = core.mapper;
     Memory {
         oam: oam,
         page: page,
         background: background,
         sprites: sprites,
-        banks: banks,
-        lcd: lcd,
-        hdma: hdma,
-        joypad: joypad,
-        clock: clock,
-        cartridge: cartridge,
-        mapper: mapper,
-        used: core.used,
+        core: core,
     }
 }
 

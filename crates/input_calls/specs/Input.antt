@@ -11,7 +11,7 @@ use Rattle.registers.specs.State.{loaded, timerOf, withTimer, withController, p
 use Rattle.timer.specs.Timer.{updated}
 
 abbrev pub setJoypadStateCall : Memory → ℕ → Done
-setJoypadStateCall m s = changed (refusedState m) m (withController m (joypad.withState (m .joypad) s))
+setJoypadStateCall m s = changed (refusedState m) m (withController m (joypad.withState (m .core .joypad) s))
 
 abbrev pub actionKeysCall : Memory → Flag
 actionKeysCall m = flagGiven (refusedState m) (joypad.actionsAnswer (loaded m 0))
@@ -28,10 +28,10 @@ abbrev pub buttonCall : Memory → Pressed → Done
 buttonCall m p = changed (orElse (refusedState m) (p .number)) m (withController m (p .controller))
 
 abbrev pub pressCall : Memory → ℕ → Done
-pressCall m b = buttonCall m (joypad.pressCall (m .joypad) b)
+pressCall m b = buttonCall m (joypad.pressCall (m .core .joypad) b)
 
 abbrev pub releaseCall : Memory → ℕ → Done
-releaseCall m b = buttonCall m (joypad.releaseCall (m .joypad) b)
+releaseCall m b = buttonCall m (joypad.releaseCall (m .core .joypad) b)
 
 abbrev pub updateJoypadCall : Memory → Done
 updateJoypadCall m = changed (refusedState m) m (polledIn m)

@@ -1,8 +1,5 @@
 // Calls of the timer and the joypad on the bus: the Rust's `Timer::update`, `Controller::press`, `release` and `update`, and what FF00 selects.
 ghost use mathlib.Core.Path.{_≡_};
-ghost use Prim.Native.Nat.{_<_, _≤_};
-ghost use Rattle.registers.specs.State.{timerOf, withTimer};
-ghost use Rattle.timer.specs.Timer.{updated};
 ghost use Rattle.input_calls.specs.Input.{setJoypadStateCall, actionKeysCall, directionKeysCall, updateJoypadCall, updateTimerCall, pressCall, releaseCall};
 use memory::Memory;
 use refusals::Done;
@@ -11,138 +8,78 @@ use refusals::Flag;
 pub fn set_joypad_state(memory: Memory, state: u8) -> Done
     ensures { λ r. ⌜ r ≡ setJoypadStateCall memory state ⌝ }
 {
-    let number = refusals::refused(memory);
-    if number != 0 {
-        return Done {
-            number: number,
-            memory: memory,
-        };
-    }
-    let next = registers::interrupts::set_joypad_state(memory, state);
-    Done {
-        number: numbers::DONE,
-        memory: next,
-    }
+    refusals::changed(
+        refusals::refused(memory),
+        memory,
+        registers::interrupts::set_joypad_state(memory, state),
+    )
 }
 
 pub fn are_action_keys_enabled(memory: Memory) -> Flag
     ensures { λ r. ⌜ r ≡ actionKeysCall memory ⌝ }
 {
-    let number = refusals::refused(memory);
-    if number != 0 {
-        return Flag {
-            number: number,
-            value: false,
-        };
-    }
-    let value = registers::interrupts::are_action_keys_enabled(memory);
-    Flag {
-        number: numbers::DONE,
-        value: value,
-    }
+    refusals::flag_given(
+        refusals::refused(memory),
+        registers::interrupts::are_action_keys_enabled(memory),
+    )
 }
 
 pub fn are_direction_keys_enabled(memory: Memory) -> Flag
     ensures { λ r. ⌜ r ≡ directionKeysCall memory ⌝ }
 {
-    let number = refusals::refused(memory);
-    if number != 0 {
-        return Flag {
-            number: number,
-            value: false,
-        };
-    }
-    let value = registers::interrupts::are_direction_keys_enabled(memory);
-    Flag {
-        number: numbers::DONE,
-        value: value,
-    }
+    refusals::flag_given(
+        refusals::refused(memory),
+        registers::interrupts::are_direction_keys_enabled(memory),
+    )
 }
 
-// The timer taken out, updated and put back.
-fn timer_updated(memory: Memory, cycles: u32) -> Memory
-    requires { ⌜ (memory .clock .tima < 1024) × (cycles ≤ 65536) ⌝ }
-    ensures { λ r. ⌜ r ≡ withTimer memory (updated (timerOf memory) cycles) ⌝ }
-{
-    let timer = registers::interrupts::timer_of(memory);
-    let done = timer::update(timer, cycles);
-    let after = done.timer;
-    registers::interrupts::with_timer(memory, after)
-}
-
-// The Rust's Timer::update.
+// The Rust's Timer::update: the timer taken out, updated and put back.
 pub fn update_timer(memory: Memory, cycles: u32) -> Done
     ensures { λ r. ⌜ r ≡ updateTimerCall memory cycles ⌝ }
 {
-    let number = refusals::or_else(refusals::refused(memory), refusals::cycles_refused(cycles));
-    if number != 0 {
-        return Done {
-            number: number,
-            memory: memory,
-        };
-    }
-    let next = timer_updated(memory, cycles);
-    Done {
-        number: numbers::DONE,
-        memory: next,
-    }
+    let updated = timer::update(registers::interrupts::timer_of(memory), cycles);
+    let after = updated.timer;
+    refusals::changed(
+        refusals::or_else(refusals::refused(memory), refusals::cycles_refused(cycles)),
+        memory,
+        registers::interrupts::with_timer(memory, after),
+    )
 }
 
 // The joypad's own call on the state's controller.
 pub fn press(memory: Memory, button: u8) -> Done
     ensures { λ r. ⌜ r ≡ pressCall memory button ⌝ }
 {
-    let controller = memory.joypad;
+    let controller = memory.core.joypad;
     let pressed = controller.press(button);
-    let number = refusals::or_else(refusals::refused(memory), pressed.number);
-    if number != 0 {
-        return Done {
-            number: number,
-            memory: memory,
-        };
-    }
     let after = pressed.controller;
-    let next = registers::interrupts::with_controller(memory, after);
-    Done {
-        number: numbers::DONE,
-        memory: next,
-    }
+    refusals::changed(
+        refusals::or_else(refusals::refused(memory), pressed.number),
+        memory,
+        registers::interrupts::with_controller(memory, after),
+    )
 }
 
 pub fn release(memory: Memory, button: u8) -> Done
     ensures { λ r. ⌜ r ≡ releaseCall memory button ⌝ }
 {
-    let controller = memory.joypad;
+    let controller = memory.core.joypad;
     let released = controller.release(button);
-    let number = refusals::or_else(refusals::refused(memory), released.number);
-    if number != 0 {
-        return Done {
-            number: number,
-            memory: memory,
-        };
-    }
     let after = released.controller;
-    let next = registers::interrupts::with_controller(memory, after);
-    Done {
-        number: numbers::DONE,
-        memory: next,
-    }
+    refusals::changed(
+        refusals::or_else(refusals::refused(memory), released.number),
+        memory,
+        registers::interrupts::with_controller(memory, after),
+    )
 }
 
 // The Rust's Controller::update.
 pub fn update_joypad(memory: Memory) -> Done
     ensures { λ r. ⌜ r ≡ updateJoypadCall memory ⌝ }
 {
-    let number = refusals::refused(memory);
-    if number != 0 {
-        return Done {
-            number: number,
-            memory: memory,
-        };
-    }
-    let next = registers::interrupts::update_joypad(memory);
-    Done {
-        number: numbers::DONE,
-        memory: next,
-    }
+    refusals::changed(
+        refusals::refused(memory),
+        memory,
+        registers::interrupts::update_joypad(memory),
+    )
 }

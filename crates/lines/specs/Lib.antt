@@ -2,5 +2,4 @@ pub mod Text
 pub mod Contents
 pub mod Reader
 pub mod Answer
-pub mod Mapper
 pub mod Tally

@@ -3,7 +3,7 @@ ghost use mathlib.Core.Path.{_≡_};
 ghost use mathlib.Core.Bool.{_&&_};
 ghost use Prim.Native.Nat.{_<_, _*_};
 ghost use Rattle.mbc.specs.PanDocs.{masked};
-ghost use Rattle.mbc.specs.Mbc.{romLen, ramBanks, hasBanks, hasCode};
+ghost use Rattle.mbc.specs.Cartridge.{romLen, ramBanks, hasBanks, hasCode, log2, banksOf};
 
 // N, the ROM's banks of 16,384 bytes, and the header's RAM code.
 pub struct Cartridge {
@@ -12,6 +12,35 @@ pub struct Cartridge {
 }
 
 impl Cartridge {
+    // N's logarithm.
+    pub fn log(self) -> u8
+        ensures { λ r. ⌜ r ≡ log2 (self .banks) ⌝ }
+    {
+        let banks = self.banks;
+        match banks {
+            2 => 1,
+            4 => 2,
+            8 => 3,
+            16 => 4,
+            32 => 5,
+            64 => 6,
+            128 => 7,
+            256 => 8,
+            512 => 9,
+            _ => 0,
+        }
+    }
+
+    // N of its logarithm; 0, which no cartridge has, past 9.
+    pub fn banks_of(log: u8) -> u16
+        ensures { λ r. ⌜ r ≡ banksOf log ⌝ }
+    {
+        if 9 < log {
+            return 0;
+        }
+        1 << log
+    }
+
     pub fn rom_len(self) -> usize
         ensures { λ r. ⌜ r ≡ romLen self ⌝ }
     {
@@ -47,7 +76,7 @@ impl Cartridge {
             return false;
         }
         match banks {
-            2 | 4 | 8 | 16 | 32 | 64 | 128 => true,
+            2 | 4 | 8 | 16 | 32 | 64 | 128 | 256 | 512 => true,
             _ => false,
         }
     }
@@ -75,10 +104,10 @@ impl Cartridge {
     }
 
     // The Rust's `bank & (banks - 1)`: N is a power of two.
-    pub fn masked(self, bank: u8) -> u8
+    pub fn masked(self, bank: u16) -> u16
         requires { ⌜ 0 < self .banks ⌝ }
         ensures { λ r. ⌜ r ≡ masked (self .banks) bank ⌝ }
     {
-        (bank as u16 % self.banks) as u8
+        bank % self.banks
     }
 }

@@ -4,6 +4,7 @@ mod cartridge;
 mod mbc;
 mod mbc1;
 mod mbc2;
+mod registers;
 mod rom_only;
 
 pub use cartridge::Cartridge;
@@ -17,3 +18,4 @@ pub use mbc::Written;
 pub use mbc::is_mapped;
 pub use mbc1::Mbc1;
 pub use mbc2::Mbc2;
+pub use registers::Registers;

@@ -1,20 +1,27 @@
 // What is common to the mappers: the Rust's trait `Mbc` as an enum, and its two calls.
 use crate::cartridge::Cartridge;
+use crate::mbc1;
 use crate::mbc1::Mbc1;
+use crate::mbc2;
 use crate::mbc2::Mbc2;
+use crate::registers::Registers;
 use crate::rom_only;
 ghost use mathlib.Core.Path.{_≡_};
 ghost use mathlib.Core.Bool.{true};
 ghost use Prim.Native.Nat.{_≤_};
 ghost use lib.ListN.{length};
 ghost use Rattle.mbc.specs.PanDocs.{romAddress, ramAddress};
-ghost use Rattle.mbc.specs.Mbc.{romLen, ramLen, inRange, mapped, start, source, readAt, storedAt, after, written, fresh, lengths, readAs, readByte, writeByte};
+ghost use Rattle.mbc.specs.Mbc.{romLen, ramLen, inRange, behaviour, mapperOf, registersOf, mapped, start, ramSource, source, readAt, storedAt, after, written, fresh, lengths, readAs, readByte, writeByte};
 
+// Kinds are the state image's: each mapper's file has its own.
 pub enum Mapper {
     RomOnly,
     Mbc1(Mbc1),
     Mbc2(Mbc2),
 }
+
+// The last kind.
+const LAST: u8 = mbc2::KIND;
 
 // What a write asks of the save.
 pub enum Answer {
@@ -66,7 +73,7 @@ pub fn is_mapped(index: u16) -> bool
 }
 
 // The address in ROM of a place in 4000..7FFF.
-pub fn rom_address(bank: u8, index: u16) -> usize
+pub fn rom_address(bank: u16, index: u16) -> usize
     requires { ⌜ 0x4000 ≤ index ⌝ }
     ensures { λ r. ⌜ r ≡ romAddress bank index ⌝ }
 {
@@ -116,27 +123,55 @@ impl Source {
 }
 
 impl Mapper {
-    // Kinds are the state image's: 0 RomOnly, 1 Mbc1, 2 Mbc2.
+    // Its fields as numbers.
+    pub fn registers(self) -> Registers
+        ensures { λ r. ⌜ r ≡ registersOf self ⌝ }
+    {
+        match self {
+            Mapper::RomOnly => Registers::start(rom_only::KIND),
+            Mapper::Mbc1(m) => m.registers(),
+            Mapper::Mbc2(m) => m.registers(),
+        }
+    }
+
+    // The mapper that has these fields; a kind past the last counts as the last.
+    pub fn from_registers(r: Registers) -> Mapper
+        ensures { λ m. ⌜ m ≡ mapperOf r ⌝ }
+    {
+        if r.kind == rom_only::KIND {
+            return Mapper::RomOnly;
+        }
+        if r.kind == mbc1::KIND {
+            return Mapper::Mbc1(Mbc1::from_registers(r));
+        }
+        Mapper::Mbc2(Mbc2::from_registers(r))
+    }
+
     fn start(kind: u8) -> Mapper
         ensures { λ r. ⌜ r ≡ start kind ⌝ }
     {
-        if kind == 0 {
-            return Mapper::RomOnly;
+        Mapper::from_registers(Registers::start(kind))
+    }
+
+    // Bytes of RAM of its own; 0 where the RAM code says how many.
+    fn own_ram(self) -> usize
+        ensures { λ r. ⌜ r ≡ behaviour self .ownRam ⌝ }
+    {
+        match self {
+            Mapper::RomOnly => 0,
+            Mapper::Mbc1(_) => 0,
+            Mapper::Mbc2(_) => 512,
         }
-        if kind == 1 {
-            return Mapper::Mbc1(Mbc1::new());
-        }
-        Mapper::Mbc2(Mbc2::new())
     }
 
     pub fn ram_len(self, cartridge: Cartridge) -> usize
         ensures { λ r. ⌜ r ≡ ramLen cartridge self ⌝ }
     {
-        match self {
-            Mapper::RomOnly => cartridge.ram_len(),
-            Mapper::Mbc1(_) => cartridge.ram_len(),
-            Mapper::Mbc2(_) => 512,
+        let own = self.own_ram();
+        if own == 0 {
+            return cartridge.ram_len();
         }
+        own
     }
 
     // Whether a lent ROM and save have the lengths that they must have.
@@ -159,16 +194,31 @@ impl Mapper {
         }
     }
 
+    // Where a read at A000..BFFF finds its byte.
+    fn ram_source(self, cartridge: Cartridge, index: u16) -> Source
+        requires { ⌜ 0xA000 ≤ index ⌝ }
+        ensures { λ r. ⌜ r ≡ ramSource cartridge self index ⌝ }
+    {
+        match self {
+            Mapper::RomOnly => rom_only::ram_source(cartridge, index),
+            Mapper::Mbc1(m) => m.ram_source(index),
+            Mapper::Mbc2(m) => m.ram_source(index),
+        }
+    }
+
     // Where a read finds its byte.
     pub fn source(self, cartridge: Cartridge, index: u16) -> Source
         requires { ⌜ mapped index ≡ true ⌝ }
         ensures { λ r. ⌜ r ≡ source cartridge self index ⌝ }
     {
-        match self {
-            Mapper::RomOnly => rom_only::source(cartridge, index),
-            Mapper::Mbc1(m) => m.source(cartridge, index),
-            Mapper::Mbc2(m) => m.source(cartridge, index),
+        if index < 0x4000 {
+            return Source::Rom(index as usize);
         }
+        if index < 0x8000 {
+            let held = self.registers();
+            return Source::Rom(rom_address(held.rom, index));
+        }
+        self.ram_source(cartridge, index)
     }
 
     // The registers after a write.
@@ -214,7 +264,7 @@ impl Mapper {
     {
         let none = Cartridge { banks: 0, code: 0 };
         let cartridge = Cartridge { banks, code };
-        if 2 < kind {
+        if LAST < kind {
             return Fresh {
                 number: numbers::OUT_OF_RANGE,
                 cartridge: none,

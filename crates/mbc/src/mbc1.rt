@@ -2,17 +2,21 @@
 use crate::cartridge::Cartridge;
 use crate::mbc::Source;
 use crate::mbc::ram_address;
-use crate::mbc::rom_address;
+use crate::registers::Registers;
+use crate::registers::bit;
 ghost use mathlib.Core.Path.{_≡_};
 ghost use mathlib.Core.Bool.{true};
 ghost use Prim.Native.Nat.{_<_, _≤_};
 ghost use Rattle.mbc.specs.PanDocs.{mbc1Bank};
-ghost use Rattle.mbc.specs.Mbc.{start1, inRange, held, suits, mapped, ramBank1, source, enable1, low1, high1, mode1, after1};
+ghost use Rattle.mbc.specs.Mbc1.{held1, suits, ramBank1, enable1, low1, high1, mode1, after1, from1, numbers1, ramSource1};
+ghost use Rattle.mbc.specs.Mbc.{inRange};
 ghost use Rattle.mbc.specs.declared.mbc.Mapper.the-variants as mapper;
+
+pub const KIND: u8 = 1;
 
 pub struct Mbc1 {
     // The ROM bank at 4000..7FFF.
-    pub rom: u8,
+    pub rom: u16,
     pub ram: u8,
     // Banking mode.
     pub mode: bool,
@@ -22,11 +26,11 @@ pub struct Mbc1 {
 }
 
 // Five bits and the two above them, with the Rust's step from 00, 20, 40, 60: Pan Docs' rule on the five bits.
-fn combined(five: u8, two: u8) -> u8
+fn combined(five: u16, two: u8) -> u16
     requires { ⌜ two ≤ 3 ⌝ }
     ensures { λ r. ⌜ r ≡ mbc1Bank five two ⌝ }
 {
-    let bank = five % 32 + two * 32;
+    let bank = five % 32 + two as u16 * 32;
     match bank {
         0x00 | 0x20 | 0x40 | 0x60 => bank + 1,
         _ => bank,
@@ -34,15 +38,28 @@ fn combined(five: u8, two: u8) -> u8
 }
 
 impl Mbc1 {
-    pub fn new() -> Mbc1
-        ensures { λ r. ⌜ r ≡ start1 ⌝ }
+    pub fn from_registers(r: Registers) -> Mbc1
+        ensures { λ m. ⌜ m ≡ from1 r ⌝ }
     {
         Mbc1 {
-            rom: 1,
-            ram: 0,
-            mode: false,
-            enabled: false,
-            high: 0,
+            rom: r.rom,
+            ram: r.ram,
+            mode: r.mode == 1,
+            enabled: r.enabled == 1,
+            high: r.high,
+        }
+    }
+
+    pub fn registers(self) -> Registers
+        ensures { λ r. ⌜ r ≡ numbers1 self ⌝ }
+    {
+        Registers {
+            kind: KIND,
+            rom: self.rom,
+            ram: self.ram,
+            mode: bit(self.mode),
+            enabled: bit(self.enabled),
+            high: self.high,
         }
     }
 
@@ -67,9 +84,9 @@ impl Mbc1 {
 
     // The state ranges.
     fn held(self, cartridge: Cartridge) -> bool
-        ensures { λ r. ⌜ r ≡ held cartridge (mapper.Mbc1 self) ⌝ }
+        ensures { λ r. ⌜ r ≡ held1 cartridge self ⌝ }
     {
-        let rom = self.rom as u16;
+        let rom = self.rom;
         let ram = self.ram;
         let high = self.high;
         if cartridge.banks <= rom {
@@ -103,16 +120,11 @@ impl Mbc1 {
         0
     }
 
-    pub fn source(self, cartridge: Cartridge, index: u16) -> Source
-        requires { ⌜ mapped index ≡ true ⌝ }
-        ensures { λ r. ⌜ r ≡ source cartridge (mapper.Mbc1 self) index ⌝ }
+    // A000..BFFF
+    pub fn ram_source(self, index: u16) -> Source
+        requires { ⌜ 0xA000 ≤ index ⌝ }
+        ensures { λ r. ⌜ r ≡ ramSource1 self index ⌝ }
     {
-        if index < 0x4000 {
-            return Source::Rom(index as usize);
-        }
-        if index < 0x8000 {
-            return Source::Rom(rom_address(self.rom, index));
-        }
         if self.enabled {
             let bank = self.ram_bank();
             return Source::Save(ram_address(bank, index));
@@ -139,10 +151,10 @@ impl Mbc1 {
     {
         let mut next = self;
         if self.mode {
-            next.rom = cartridge.masked(combined(value, 0));
+            next.rom = cartridge.masked(combined(value as u16, 0));
             return next;
         }
-        next.rom = cartridge.masked(combined(value, self.high));
+        next.rom = cartridge.masked(combined(value as u16, self.high));
         next
     }
 

@@ -2,33 +2,50 @@
 use crate::cartridge::Cartridge;
 use crate::mbc::Source;
 use crate::mbc::ram_address;
-use crate::mbc::rom_address;
+use crate::registers::Registers;
+use crate::registers::bit;
 ghost use mathlib.Core.Path.{_≡_};
 ghost use mathlib.Core.Bool.{true};
-ghost use Prim.Native.Nat.{_<_};
-ghost use Rattle.mbc.specs.Mbc.{start2, inRange, mapped, source, enable2, select2, after2};
+ghost use Prim.Native.Nat.{_<_, _≤_};
+ghost use Rattle.mbc.specs.Mbc2.{enable2, select2, after2, from2, numbers2, ramSource2};
+ghost use Rattle.mbc.specs.Mbc.{inRange};
 ghost use Rattle.mbc.specs.declared.mbc.Mapper.the-variants as mapper;
+
+pub const KIND: u8 = 2;
 
 pub struct Mbc2 {
     // The ROM bank at 4000..7FFF.
-    pub rom: u8,
+    pub rom: u16,
     pub enabled: bool,
 }
 
 impl Mbc2 {
-    pub fn new() -> Mbc2
-        ensures { λ r. ⌜ r ≡ start2 ⌝ }
+    pub fn from_registers(r: Registers) -> Mbc2
+        ensures { λ m. ⌜ m ≡ from2 r ⌝ }
     {
         Mbc2 {
-            rom: 1,
-            enabled: false,
+            rom: r.rom,
+            enabled: r.enabled == 1,
+        }
+    }
+
+    pub fn registers(self) -> Registers
+        ensures { λ r. ⌜ r ≡ numbers2 self ⌝ }
+    {
+        Registers {
+            kind: KIND,
+            rom: self.rom,
+            ram: 0,
+            mode: 0,
+            enabled: bit(self.enabled),
+            high: 0,
         }
     }
 
     pub fn in_range(self, cartridge: Cartridge) -> bool
         ensures { λ r. ⌜ r ≡ inRange cartridge (mapper.Mbc2 self) ⌝ }
     {
-        let rom = self.rom as u16;
+        let rom = self.rom;
         if cartridge.has_banks(16) {
             if cartridge.code == 0 {
                 return rom < cartridge.banks;
@@ -37,16 +54,11 @@ impl Mbc2 {
         false
     }
 
-    pub fn source(self, cartridge: Cartridge, index: u16) -> Source
-        requires { ⌜ mapped index ≡ true ⌝ }
-        ensures { λ r. ⌜ r ≡ source cartridge (mapper.Mbc2 self) index ⌝ }
+    // A000..BFFF
+    pub fn ram_source(self, index: u16) -> Source
+        requires { ⌜ 0xA000 ≤ index ⌝ }
+        ensures { λ r. ⌜ r ≡ ramSource2 self index ⌝ }
     {
-        if index < 0x4000 {
-            return Source::Rom(index as usize);
-        }
-        if index < 0x8000 {
-            return Source::Rom(rom_address(self.rom, index));
-        }
         if 0xA200 <= index {
             return Source::Fixed(0x00);
         }
@@ -74,7 +86,7 @@ impl Mbc2 {
         ensures { λ r. ⌜ r ≡ select2 cartridge self index value ⌝ }
     {
         let mut next = self;
-        let bank = value % 16;
+        let bank = value as u16 % 16;
         if index / 256 % 2 == 1 {
             if bank == 0 {
                 next.rom = cartridge.masked(1);

@@ -3,9 +3,11 @@ use crate::cartridge::Cartridge;
 use crate::mbc::Source;
 use crate::mbc::ram_address;
 ghost use mathlib.Core.Path.{_≡_};
-ghost use mathlib.Core.Bool.{true};
-ghost use Rattle.mbc.specs.Mbc.{inRange, mapped, source};
+ghost use Prim.Native.Nat.{_≤_};
+ghost use Rattle.mbc.specs.Mbc.{inRange, ramSource};
 ghost use Rattle.mbc.specs.declared.mbc.Mapper.the-variants as mapper;
+
+pub const KIND: u8 = 0;
 
 pub fn in_range(cartridge: Cartridge) -> bool
     ensures { λ r. ⌜ r ≡ inRange cartridge mapper.RomOnly ⌝ }
@@ -13,13 +15,11 @@ pub fn in_range(cartridge: Cartridge) -> bool
     cartridge.describes(2)
 }
 
-pub fn source(cartridge: Cartridge, index: u16) -> Source
-    requires { ⌜ mapped index ≡ true ⌝ }
-    ensures { λ r. ⌜ r ≡ source cartridge mapper.RomOnly index ⌝ }
+// A000..BFFF
+pub fn ram_source(cartridge: Cartridge, index: u16) -> Source
+    requires { ⌜ 0xA000 ≤ index ⌝ }
+    ensures { λ r. ⌜ r ≡ ramSource cartridge mapper.RomOnly index ⌝ }
 {
-    if index < 0x8000 {
-        return Source::Rom(index as usize);
-    }
     if cartridge.code == 0 {
         return Source::Fixed(0xFF);
     }

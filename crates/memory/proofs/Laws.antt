@@ -19,9 +19,9 @@ use Rattle.palette.specs.Palette as palette
 use Rattle.palette.specs.Palette.{colorsInRange}
 use Rattle.palette.specs.declared.Color.{Color}
 use Rattle.savelog.specs.Log.{useInRange}
-use Rattle.memory.specs.Ranges.{vramLen, wramLen, banksInRange, hdmaInRange, groupsInRange, stateInRange, inRange, coreOf, coreInRange}
+use Rattle.memory.specs.Ranges.{vramLen, wramLen, banksInRange, hdmaInRange, groupsInRange, palettesInRange, stateInRange, inRange, coreInRange}
 use Rattle.memory.specs.Start.{startPage, startHdma, zeroed, started}
-use Rattle.memory.specs.World.{withOam, withBackground, withSprites, withBanks, withHdma, withClock, withMapper, withUsed}
+use Rattle.memory.specs.World.{withOam, withBoth, lcdIn, joypadIn, usedIn, withBackground, withSprites, withBanks, withHdma, withClock, withMapper, withUsed}
 use Rattle.memory.specs.declared.Banks.{Banks}
 use Rattle.memory.specs.declared.Clock.{Clock}
 use Rattle.memory.specs.declared.Memory.{Memory}
@@ -91,36 +91,37 @@ parts-hdma h colour f = rw (eq-eqb (h .source % 16) 0 (f .source), eq-eqb (h .de
 -- The whole state
 
 pub record Parts (m : Memory) : Type 0 where
-  pub banks : banksInRange (m .banks) ≡ true
-  pub hdma : hdmaInRange (m .hdma) (m .banks .colour) ≡ true
-  pub clock : m .clock .tima ≤ 1023
-  pub mapper : mbc.inRange (m .cartridge) (m .mapper) ≡ true
+  pub banks : banksInRange (m .core .banks) ≡ true
+  pub hdma : hdmaInRange (m .core .hdma) (m .core .banks .colour) ≡ true
+  pub clock : m .core .clock .tima ≤ 1023
+  pub mapper : mbc.inRange (m .core .cartridge) (m .core .mapper) ≡ true
   pub background : colorsInRange (m .background) ≡ true
   pub sprites : colorsInRange (m .sprites) ≡ true
 
 pub range-parts : (m : Memory) → stateInRange m ≡ true → Parts m
-unfolding stateInRange groupsInRange
+unfolding stateInRange groupsInRange palettesInRange
 range-parts m h =
-    let d = mbc.inRange (m .cartridge) (m .mapper) in
-    let c = leb (m .clock .tima) 1023 && d in
-    let b = hdmaInRange (m .hdma) (m .banks .colour) && c in
-    let r = both-true (groupsInRange (m .banks) (m .hdma) (m .clock) (m .cartridge) (m .mapper)) (colorsInRange (m .background) && colorsInRange (m .sprites)) h in
-    let s = both-true (banksInRange (m .banks)) b (r .0) in
-    let t = both-true (hdmaInRange (m .hdma) (m .banks .colour)) c (s .1) in
-    let u = both-true (leb (m .clock .tima) 1023) d (t .1) in
+    let d = mbc.inRange (m .core .cartridge) (m .core .mapper) in
+    let c = leb (m .core .clock .tima) 1023 && d in
+    let b = hdmaInRange (m .core .hdma) (m .core .banks .colour) && c in
+    let r = both-true (groupsInRange (m .core)) (palettesInRange m) h in
+    let s = both-true (banksInRange (m .core .banks)) b (r .0) in
+    let t = both-true (hdmaInRange (m .core .hdma) (m .core .banks .colour)) c (s .1) in
+    let u = both-true (leb (m .core .clock .tima) 1023) d (t .1) in
     let w = both-true (colorsInRange (m .background)) (colorsInRange (m .sprites)) (r .1) in
     record {
       banks = s .0;
       hdma = t .0;
-      clock = leb-true (m .clock .tima) 1023 (u .0);
+      clock = leb-true (m .core .clock .tima) 1023 (u .0);
       mapper = u .1;
       background = w .0;
       sprites = w .1;
     }
 
 pub parts-range : (m : Memory) → Parts m → stateInRange m ≡ true
-unfolding stateInRange groupsInRange
-parts-range m p = rw (p .banks, p .hdma, le-leb (m .clock .tima) 1023 (p .clock), p .mapper, p .background, p .sprites)
+unfolding stateInRange groupsInRange palettesInRange
+parts-range m p =
+    rw (p .banks, p .hdma, le-leb (m .core .clock .tima) 1023 (p .clock), p .mapper, p .background, p .sprites)
 
 -- A state is in range where it is so without its arrays and its colours are
 
@@ -135,27 +136,26 @@ and-true : (a : Bool) → (a && true) ≡ a
 and-true true = refl
 and-true false = refl
 
-pub core-colors : (m : Memory) (limit : ℕ)
-    → inRange m limit ≡ (coreInRange (coreOf m) limit && (colorsInRange (m .background) && colorsInRange (m .sprites)))
+pub core-colors : (m : Memory) (limit : ℕ) → inRange m limit ≡ (coreInRange (m .core) limit && palettesInRange m)
 unfolding inRange stateInRange coreInRange
-core-colors m limit =
-    apart (groupsInRange (m .banks) (m .hdma) (m .clock) (m .cartridge) (m .mapper)) (colorsInRange (m .background) && colorsInRange (m .sprites)) (useInRange (m .used) limit)
+core-colors m limit = apart (groupsInRange (m .core)) (palettesInRange m) (useInRange (m .core .used) limit)
 
 pub core-range : (m : Memory) (limit : ℕ) → colorsInRange (m .background) ≡ true → colorsInRange (m .sprites) ≡ true
-    → inRange m limit ≡ coreInRange (coreOf m) limit
-core-range m limit b s = core-colors m limit ∙ rw (b, s) (and-true (coreInRange (coreOf m) limit))
+    → inRange m limit ≡ coreInRange (m .core) limit
+unfolding palettesInRange
+core-range m limit b s = core-colors m limit ∙ rw (b, s) (and-true (coreInRange (m .core) limit))
 
 module _ (m : Memory) (h : stateInRange m ≡ true) where
-  pub range-banks : banksInRange (m .banks) ≡ true
+  pub range-banks : banksInRange (m .core .banks) ≡ true
   range-banks = range-parts m h .banks
 
-  pub range-hdma : hdmaInRange (m .hdma) (m .banks .colour) ≡ true
+  pub range-hdma : hdmaInRange (m .core .hdma) (m .core .banks .colour) ≡ true
   range-hdma = range-parts m h .hdma
 
-  pub range-clock : m .clock .tima ≤ 1023
+  pub range-clock : m .core .clock .tima ≤ 1023
   range-clock = range-parts m h .clock
 
-  pub range-mapper : mbc.inRange (m .cartridge) (m .mapper) ≡ true
+  pub range-mapper : mbc.inRange (m .core .cartridge) (m .core .mapper) ≡ true
   range-mapper = range-parts m h .mapper
 
   pub range-background : colorsInRange (m .background) ≡ true
@@ -168,41 +168,27 @@ module _ (m : Memory) (h : stateInRange m ≡ true) where
 
 -- no range reads OAM, the page, the screen, the joypad or the log use
 abbrev pub plain : Memory → List ℕ → List ℕ → Lcd → Controller → ℕ → Memory
-plain m o p l j u =
-    record {
-      oam = o;
-      page = p;
-      background = m .background;
-      sprites = m .sprites;
-      banks = m .banks;
-      lcd = l;
-      hdma = m .hdma;
-      joypad = j;
-      clock = m .clock;
-      cartridge = m .cartridge;
-      mapper = m .mapper;
-      used = u;
-    }
+plain m o p l j u = withOam (withBoth m (usedIn (joypadIn (lcdIn (m .core) l) j) u) p) o
 
 pub plain-range : (m : Memory) (o p : List ℕ) (l : Lcd) (j : Controller) (u : ℕ) → stateInRange (plain m o p l j u) ≡ stateInRange m
-unfolding stateInRange
+unfolding stateInRange groupsInRange palettesInRange
 plain-range m o p l j u = refl
 
 pub oam-range : (m : Memory) (o : List ℕ) → stateInRange (withOam m o) ≡ stateInRange m
-oam-range m o = plain-range m o (m .page) (m .lcd) (m .joypad) (m .used)
+oam-range m o = plain-range m o (m .page) (m .core .lcd) (m .core .joypad) (m .core .used)
 
 pub used-range : (m : Memory) (u : ℕ) → stateInRange (withUsed m u) ≡ stateInRange m
-used-range m u = plain-range m (m .oam) (m .page) (m .lcd) (m .joypad) u
+used-range m u = plain-range m (m .oam) (m .page) (m .core .lcd) (m .core .joypad) u
 
 module _ (m : Memory) (h : stateInRange m ≡ true) where
-  pub banks-range : (b : Banks) (p : List ℕ) → b .colour ≡ m .banks .colour → banksInRange b ≡ true
+  pub banks-range : (b : Banks) (p : List ℕ) → b .colour ≡ m .core .banks .colour → banksInRange b ≡ true
       → stateInRange (withBanks m b p) ≡ true
   banks-range b p e k =
       let s = range-parts m h in
       parts-range (withBanks m b p)
       (record { banks = k; hdma = rw e (s .hdma); clock = s .clock; mapper = s .mapper; background = s .background; sprites = s .sprites })
 
-  pub transfer-range : (x : Hdma) (p : List ℕ) → hdmaInRange x (m .banks .colour) ≡ true → stateInRange (withHdma m x p) ≡ true
+  pub transfer-range : (x : Hdma) (p : List ℕ) → hdmaInRange x (m .core .banks .colour) ≡ true → stateInRange (withHdma m x p) ≡ true
   transfer-range x p k =
       let s = range-parts m h in
       parts-range (withHdma m x p)
@@ -227,15 +213,15 @@ module _ (m : Memory) (h : stateInRange m ≡ true) where
       (record { banks = s .banks; hdma = s .hdma; clock = s .clock; mapper = s .mapper; background = s .background; sprites = k })
 
   -- a write to the mapper, wherever it goes
-  pub mapper-kept : (index value : ℕ) → stateInRange (withMapper m (mbc.after (m .cartridge) (m .mapper) index value)) ≡ true
+  pub mapper-kept : (index value : ℕ) → stateInRange (withMapper m (mbc.after (m .core .cartridge) (m .core .mapper) index value)) ≡ true
   mapper-kept index value =
       let s = range-parts m h in
-      parts-range (withMapper m (mbc.after (m .cartridge) (m .mapper) index value))
+      parts-range (withMapper m (mbc.after (m .core .cartridge) (m .core .mapper) index value))
       (record {
         banks = s .banks;
         hdma = s .hdma;
         clock = s .clock;
-        mapper = in-range-after (m .cartridge) (m .mapper) index value (s .mapper);
+        mapper = in-range-after (m .core .cartridge) (m .core .mapper) index value (s .mapper);
         background = s .background;
         sprites = s .sprites;
       })

@@ -4,12 +4,9 @@ use Prim.Native.Nat.{ℕ, _%_}
 use lib.Dec.{eqb, ltb, leb}
 use Rattle.hdma.specs.declared.Hdma.{Hdma}
 use Rattle.mbc.specs.Mbc as mbc
-use Rattle.mbc.specs.declared.cartridge.Cartridge.{Cartridge}
-use Rattle.mbc.specs.declared.mbc.Mapper.{Mapper}
 use Rattle.palette.specs.Palette.{colorsInRange}
 use Rattle.savelog.specs.Log.{useInRange}
 use Rattle.memory.specs.declared.Banks.{Banks}
-use Rattle.memory.specs.declared.Clock.{Clock}
 use Rattle.memory.specs.declared.Core.{Core}
 use Rattle.memory.specs.declared.Memory.{Memory}
 
@@ -34,23 +31,23 @@ unfoldable pub hdmaInRange : Hdma → Bool → Bool
 hdmaInRange h colour = eqb (h .source % 16) 0 && (eqb (h .destination % 16) 0 && (colour || not (h .on)))
 
 -- `tima_cycles` 0..1023 (`div_cycles` is a byte); the mapper's own ranges
-unfoldable pub groupsInRange : Banks → Hdma → Clock → Cartridge → Mapper → Bool
-groupsInRange b h c g m = banksInRange b && (hdmaInRange h (b .colour) && (leb (c .tima) 1023 && mbc.inRange g m))
+unfoldable pub groupsInRange : Core → Bool
+groupsInRange c =
+    banksInRange (c .banks)
+    && (hdmaInRange (c .hdma) (c .banks .colour) && (leb (c .clock .tima) 1023 && mbc.inRange (c .cartridge) (c .mapper)))
 
 -- colours 0..31
+unfoldable pub palettesInRange : Memory → Bool
+palettesInRange m = colorsInRange (m .background) && colorsInRange (m .sprites)
+
+-- all but the log use
 unfoldable pub stateInRange : Memory → Bool
-stateInRange m =
-    groupsInRange (m .banks) (m .hdma) (m .clock) (m .cartridge) (m .mapper)
-    && (colorsInRange (m .background) && colorsInRange (m .sprites))
+stateInRange m = groupsInRange (m .core) && palettesInRange m
 
--- log use: a multiple of 3 within the log
+-- log use: whole records within the log
 unfoldable pub inRange : Memory → ℕ → Bool
-inRange m limit = stateInRange m && useInRange (m .used) limit
+inRange m limit = stateInRange m && useInRange (m .core .used) limit
 
--- the state without its arrays, and its ranges, which are all but the colours'
-abbrev pub coreOf : Memory → Core
-coreOf m =
-    record { banks = m .banks; lcd = m .lcd; hdma = m .hdma; joypad = m .joypad; clock = m .clock; cartridge = m .cartridge; mapper = m .mapper; used = m .used }
-
+-- all but the colours
 unfoldable pub coreInRange : Core → ℕ → Bool
-coreInRange c limit = groupsInRange (c .banks) (c .hdma) (c .clock) (c .cartridge) (c .mapper) && useInRange (c .used) limit
+coreInRange c limit = groupsInRange c && useInRange (c .used) limit

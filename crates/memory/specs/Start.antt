@@ -81,14 +81,16 @@ zeroed =
       page = replicate 256 0;
       background = replicate 32 black;
       sprites = replicate 32 black;
-      banks = record { colour = false; vram = 0; wram = 0 };
-      lcd = lcdAt 0 0;
-      hdma = offHdma;
-      joypad = record { released = 0; action = false; direction = false; state = 0 };
-      clock = record { div = 0; tima = 0 };
-      cartridge = record { banks = 0; code = 0 };
-      mapper = RomOnly;
-      used = 0;
+      core = record {
+        banks = record { colour = false; vram = 0; wram = 0 };
+        lcd = lcdAt 0 0;
+        hdma = offHdma;
+        joypad = record { released = 0; action = false; direction = false; state = 0 };
+        clock = record { div = 0; tima = 0 };
+        cartridge = record { banks = 0; code = 0 };
+        mapper = RomOnly;
+        used = 0;
+      };
     }
 
 -- a fresh bus: scan line 144, LCD mode 1, WRAM bank 1, log use 0
@@ -99,12 +101,14 @@ started cartridge mapper colour =
       page = startPage colour;
       background = replicate 32 black;
       sprites = replicate 32 black;
-      banks = record { colour = colour; vram = 0; wram = 1 };
-      lcd = lcdAt 144 1;
-      hdma = startHdma colour (startPage colour);
-      joypad = joypad.fresh;
-      clock = record { div = 0; tima = 0 };
-      cartridge = cartridge;
-      mapper = mapper;
-      used = 0;
+      core = record {
+        banks = record { colour = colour; vram = 0; wram = 1 };
+        lcd = lcdAt 144 1;
+        hdma = startHdma colour (startPage colour);
+        joypad = joypad.fresh;
+        clock = record { div = 0; tima = 0 };
+        cartridge = cartridge;
+        mapper = mapper;
+        used = 0;
+      };
     }

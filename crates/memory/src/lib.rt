@@ -2,9 +2,9 @@
 // The groups are the records of the crates below; the lent memories are slices, which the calls take beside the state.
 ghost use mathlib.Core.Path.{_≡_};
 ghost use Prim.Native.Nat.{_<_};
-ghost use Rattle.memory.specs.Ranges.{banksInRange, hdmaInRange, groupsInRange, stateInRange, inRange, coreOf, coreInRange, vramLen, wramLen};
+ghost use Rattle.memory.specs.Ranges.{banksInRange, hdmaInRange, groupsInRange, palettesInRange, inRange, coreInRange, vramLen, wramLen};
 ghost use Rattle.memory.specs.Start.{zeroed, startHdma, started};
-ghost use Rattle.memory.specs.World.{withMapper, withUsed};
+ghost use Rattle.memory.specs.World.{mapperIn, withMapper, withUsed};
 
 mod start;
 
@@ -29,12 +29,8 @@ pub struct Clock {
     pub tima: u16,
 }
 
-pub struct Memory {
-    pub oam: [u8; 256],
-    // The Rust's `high_ram`: FF00..FFFF.
-    pub page: [u8; 256],
-    pub background: [Color; 32],
-    pub sprites: [Color; 32],
+// All of the state but its arrays: what the ranges read but for the colours, and what the lent lengths follow.
+pub struct Core {
     pub banks: Banks,
     pub lcd: Lcd,
     pub hdma: Hdma,
@@ -46,28 +42,25 @@ pub struct Memory {
     pub used: u16,
 }
 
-// The state without its four arrays: what the ranges read but for the colours, and what the lent lengths follow.
-pub struct Core {
-    pub banks: Banks,
-    pub lcd: Lcd,
-    pub hdma: Hdma,
-    pub joypad: Controller,
-    pub clock: Clock,
-    pub cartridge: Cartridge,
-    pub mapper: Mapper,
-    pub used: u16,
+pub struct Memory {
+    pub oam: [u8; 256],
+    // The Rust's `high_ram`: FF00..FFFF.
+    pub page: [u8; 256],
+    pub background: [Color; 32],
+    pub sprites: [Color; 32],
+    pub core: Core,
 }
 
-pub fn core_of(memory: Memory) -> Core
-    ensures { λ r. ⌜ r ≡ coreOf memory ⌝ }
+// Another mapper; a field that is an enum is not stored to, so the record is made anew.
+fn core_with_mapper(core: Core, mapper: Mapper) -> Core
+    ensures { λ r. ⌜ r ≡ mapperIn core mapper ⌝ }
 {
-    let banks = memory.banks;
-    let lcd = memory.lcd;
-    let hdma = memory.hdma;
-    let joypad = memory.joypad;
-    let clock = memory.clock;
-    let cartridge = memory.cartridge;
-    let mapper = memory.mapper;
+    let banks = core.banks;
+    let lcd = core.lcd;
+    let hdma = core.hdma;
+    let joypad = core.joypad;
+    let clock = core.clock;
+    let cartridge = core.cartridge;
     Core {
         banks: banks,
         lcd: lcd,
@@ -76,45 +69,23 @@ pub fn core_of(memory: Memory) -> Core
         clock: clock,
         cartridge: cartridge,
         mapper: mapper,
-        used: memory.used,
+        used: core.used,
     }
 }
 
-// The state with another mapper; a field that is an enum is not stored to, so the record is made anew.
 pub fn with_mapper(memory: Memory, mapper: Mapper) -> Memory
     ensures { λ r. ⌜ r ≡ withMapper memory mapper ⌝ }
 {
-    let oam = memory.oam;
-    let page = memory.page;
-    let background = memory.background;
-    let sprites = memory.sprites;
-    let banks = memory.banks;
-    let lcd = memory.lcd;
-    let hdma = memory.hdma;
-    let joypad = memory.joypad;
-    let clock = memory.clock;
-    let cartridge = memory.cartridge;
-    Memory {
-        oam: oam,
-        page: page,
-        background: background,
-        sprites: sprites,
-        banks: banks,
-        lcd: lcd,
-        hdma: hdma,
-        joypad: joypad,
-        clock: clock,
-        cartridge: cartridge,
-        mapper: mapper,
-        used: memory.used,
-    }
+    let mut next = memory;
+    next.core = core_with_mapper(memory.core, mapper);
+    next
 }
 
 pub fn with_used(memory: Memory, used: u16) -> Memory
     ensures { λ r. ⌜ r ≡ withUsed memory used ⌝ }
 {
     let mut next = memory;
-    next.used = used;
+    next.core.used = used;
     next
 }
 
@@ -166,15 +137,14 @@ fn hdma_in_range(hdma: Hdma, colour: bool) -> bool
 }
 
 // The ranges of the groups.
-fn groups_in_range(
-    banks: Banks,
-    hdma: Hdma,
-    clock: Clock,
-    cartridge: Cartridge,
-    mapper: Mapper,
-) -> bool
-    ensures { λ r. ⌜ r ≡ groupsInRange banks hdma clock cartridge mapper ⌝ }
+fn groups_in_range(core: Core) -> bool
+    ensures { λ r. ⌜ r ≡ groupsInRange core ⌝ }
 {
+    let banks = core.banks;
+    let hdma = core.hdma;
+    let clock = core.clock;
+    let cartridge = core.cartridge;
+    let mapper = core.mapper;
     if !banks_in_range(banks) {
         return false;
     }
@@ -187,18 +157,20 @@ fn groups_in_range(
     mapper.in_range(cartridge)
 }
 
-// The ranges of all but the log use.
-pub fn state_in_range(memory: Memory) -> bool
-    ensures { λ r. ⌜ r ≡ stateInRange memory ⌝ }
+// All ranges but the colours'; `limit` is the lent log's length, or 65,535 where none is lent.
+pub fn core_in_range(core: Core, limit: usize) -> bool
+    ensures { λ r. ⌜ r ≡ coreInRange core limit ⌝ }
 {
-    let banks = memory.banks;
-    let hdma = memory.hdma;
-    let clock = memory.clock;
-    let cartridge = memory.cartridge;
-    let mapper = memory.mapper;
-    if !groups_in_range(banks, hdma, clock, cartridge, mapper) {
+    if !groups_in_range(core) {
         return false;
     }
+    savelog::use_in_range(core.used, limit)
+}
+
+// The ranges of the colours.
+fn palettes_in_range(memory: Memory) -> bool
+    ensures { λ r. ⌜ r ≡ palettesInRange memory ⌝ }
+{
     let background = memory.background;
     if !palette::colors_in_range(background) {
         return false;
@@ -207,29 +179,15 @@ pub fn state_in_range(memory: Memory) -> bool
     palette::colors_in_range(sprites)
 }
 
-// All ranges; `limit` is the lent log's length, or 65,535 where none is lent.
+// All ranges.
 pub fn in_range(memory: Memory, limit: usize) -> bool
     ensures { λ r. ⌜ r ≡ inRange memory limit ⌝ }
 {
-    if !state_in_range(memory) {
+    let core = memory.core;
+    if !core_in_range(core, limit) {
         return false;
     }
-    savelog::use_in_range(memory.used, limit)
-}
-
-// All ranges but the colours'.
-pub fn core_in_range(core: Core, limit: usize) -> bool
-    ensures { λ r. ⌜ r ≡ coreInRange core limit ⌝ }
-{
-    let banks = core.banks;
-    let hdma = core.hdma;
-    let clock = core.clock;
-    let cartridge = core.cartridge;
-    let mapper = core.mapper;
-    if !groups_in_range(banks, hdma, clock, cartridge, mapper) {
-        return false;
-    }
-    savelog::use_in_range(core.used, limit)
+    palettes_in_range(memory)
 }
 
 // The state that a refused fresh start gives. It is out of range: it has no WRAM bank.
@@ -246,27 +204,29 @@ pub fn zero() -> Memory
         page: [0; 256],
         background: [black; 32],
         sprites: [black; 32],
-        banks: Banks {
-            colour: false,
-            vram: 0,
-            wram: 0,
+        core: Core {
+            banks: Banks {
+                colour: false,
+                vram: 0,
+                wram: 0,
+            },
+            lcd: lcd::host(false, 0, 0, 0, 0, 0, 0, 0),
+            hdma: Hdma {
+                on: false,
+                source: 0,
+                destination: 0,
+            },
+            joypad: Controller {
+                released: 0,
+                action: false,
+                direction: false,
+                state: 0,
+            },
+            clock: Clock { div: 0, tima: 0 },
+            cartridge: Cartridge { banks: 0, code: 0 },
+            mapper: Mapper::RomOnly,
+            used: 0,
         },
-        lcd: lcd::host(false, 0, 0, 0, 0, 0, 0, 0),
-        hdma: Hdma {
-            on: false,
-            source: 0,
-            destination: 0,
-        },
-        joypad: Controller {
-            released: 0,
-            action: false,
-            direction: false,
-            state: 0,
-        },
-        clock: Clock { div: 0, tima: 0 },
-        cartridge: Cartridge { banks: 0, code: 0 },
-        mapper: Mapper::RomOnly,
-        used: 0,
     }
 }
 
@@ -300,17 +260,19 @@ pub fn new(cartridge: Cartridge, mapper: Mapper, colour: bool) -> Memory
         page: page,
         background: [black; 32],
         sprites: [black; 32],
-        banks: Banks {
-            colour: colour,
-            vram: 0,
-            wram: 1,
+        core: Core {
+            banks: Banks {
+                colour: colour,
+                vram: 0,
+                wram: 1,
+            },
+            lcd: lcd::host(false, 144, 0, 1, 0, 0, 0, 0),
+            hdma: hdma,
+            joypad: Controller::new(),
+            clock: Clock { div: 0, tima: 0 },
+            cartridge: cartridge,
+            mapper: mapper,
+            used: 0,
         },
-        lcd: lcd::host(false, 144, 0, 1, 0, 0, 0, 0),
-        hdma: hdma,
-        joypad: Controller::new(),
-        clock: Clock { div: 0, tima: 0 },
-        cartridge: cartridge,
-        mapper: mapper,
-        used: 0,
     }
 }

@@ -1,14 +1,15 @@
 -- Every write leaves a world in which the next one can be made; and a copy and a write by cases, as the code makes them.
-use mathlib.Core.Path.{_≡_, refl, sym, ap, _∙_}
-use mathlib.Core.Bool.{true}
-use mathlib.Core.List.{List, []}
+use mathlib.Core.Path.{_≡_, refl, sym, ap, subst, _∙_}
+use mathlib.Core.Bool.{true, false, _||_}
+use mathlib.Core.List.{[]}
+use mathlib.Core.Logic.{⊎-elim}
 use Prim.Native.Nat.{ℕ, zero, suc, _+_, _-_, _/_, _%_, _≤_}
 use native.Mathlib.Numerals.{add-one, sub-one}
 use native.Mathlib.Omega.{arith}
-use lib.Dec.{eqb, ltb, leb}
-use lib.ListN.{length, set, length-set, length-append, length-take, length-drop}
-use borrow.Author.Tests.{ltb-false, eqb-true, eq-eqb, ne-eqb, le-leb}
-use Rattle.rules.proofs.Tests.{both-true, by-cond, cond-both}
+use lib.Dec.{eqb, ltb}
+use lib.ListN.{length, set, length-set}
+use borrow.Author.Tests.{eqb-true, eqb-false, ne-eqb, le-ltb}
+use Rattle.rules.proofs.Tests.{or-cases, by-cond, cond-both, neither}
 use Rattle.mbc.proofs.Laws.{ram-len-after}
 use Rattle.mbc.specs.Mbc.{answer}
 use Rattle.mbc.specs.declared.mbc.Answer.{Answer}
@@ -17,37 +18,23 @@ use Rattle.memory.proofs.Laws.{used-range, mapper-kept}
 use Rattle.memory.specs.World.{World, world, Fixed}
 use Rattle.memory.specs.declared.Memory.{Memory}
 use Rattle.registers.proofs.Kept.{Kept, oam-kept, write-kept, finished-kept}
+use Rattle.registers.specs.Page.{writeRegister}
 use Rattle.registers.specs.Transfers.{copyOf, finished}
 use Rattle.registers.specs.declared.transfers.Copy.{Copy}
 use Rattle.registers.specs.declared.transfers.Finish.{Finish}
-use Rattle.savelog.specs.Log.{width, bytesOf, recordBytes, appended, useInRange}
+use Rattle.savelog.proofs.Use.{has-room, use-more, appended-length}
+use Rattle.savelog.specs.Log.{width, useInRange, full}
 use Rattle.mmu.specs.PanDocs.{echo, vramAt, wramAt}
 use Rattle.mmu.specs.Access.{Holds, Ready, readIn, mapperPut, saved, savePut, inState, inVram, inWram, putAt, put}
-use Rattle.mmu.specs.Write.{copyBy, transferred, writeAt, wordAt}
-
--- a record is put over as many bytes
-record-length : (at v : ℕ) → length (recordBytes at v) ≡ width
-unfolding recordBytes bytesOf
-record-length at v = refl
-
-pub appended-length : (l : List ℕ) (used at v : ℕ) → used + width ≤ length l → length (appended l used at v) ≡ length l
-unfolding appended
-appended-length l used at v h =
-    rw (length-append, length-append, length-take, record-length, length-drop) (omega arith)
-
--- a use in range stays so with one record more, if there is room for it
-use-more : (used len : ℕ) → used + width ≤ len → useInRange used len ≡ true → useInRange (used + width) len ≡ true
-unfolding useInRange
-use-more used len room e =
-    let k = eqb-true (used % width) 0 (both-true (eqb (used % width) 0) (leb used len) e .0) in
-    rw (eq-eqb ((used + width) % width) 0 (omega arith), le-leb (used + width) len room)
+use Rattle.mmu.specs.Write.{copyBy, transferred, starting, writeAt, wordAt}
+use Rattle.mmu.proofs.Places.{put-register}
 
 -- what a write leaves: a world that holds, of the same kind and cartridge, with a log use in range where it was
 pub record Stays (w u : World) : Type 0 where
   pub holds : Holds u
-  pub colour : u .state .banks .colour ≡ w .state .banks .colour
-  pub cartridge : u .state .cartridge ≡ w .state .cartridge
-  pub used : useInRange (w .state .used) (length (w .log)) ≡ true → useInRange (u .state .used) (length (u .log)) ≡ true
+  pub colour : u .state .core .banks .colour ≡ w .state .core .banks .colour
+  pub cartridge : u .state .core .cartridge ≡ w .state .core .cartridge
+  pub used : useInRange (w .state .core .used) (length (w .log)) ≡ true → useInRange (u .state .core .used) (length (u .log)) ≡ true
 
 pub stays-refl : (w : World) → Holds w → Stays w w
 stays-refl w h = record { holds = h; colour = refl; cartridge = refl; used = λ e. e }
@@ -84,7 +71,7 @@ module _ (w : World) (h : Holds w) where
           state = mapper-kept (w .state) (h .state) i v;
           vram = h .vram;
           wram = h .wram;
-          save = h .save ∙ sym (ram-len-after (w .state .cartridge) (w .state .mapper) i v);
+          save = h .save ∙ sym (ram-len-after (w .state .core .cartridge) (w .state .core .mapper) i v);
           log = h .log;
         };
         colour = refl;
@@ -122,12 +109,12 @@ module _ (w : World) (h : Holds w) where
         used = λ e. e;
       }
 
-  saved-stays : (a : Answer) → w .state .used + width ≤ length (w .log) → Stays w (saved a w)
+  saved-stays : (a : Answer) → w .state .core .used + width ≤ length (w .log) → Stays w (saved a w)
   saved-stays (Stored at v) room =
-      let l = appended-length (w .log) (w .state .used) at v room in
+      let l = appended-length (w .log) (w .state .core .used) at v room in
       record {
         holds = record {
-          state = used-range (w .state) (w .state .used + width) ∙ h .state;
+          state = used-range (w .state) (w .state .core .used + width) ∙ h .state;
           vram = h .vram;
           wram = h .wram;
           save = length-set (w .save) at v ∙ h .save;
@@ -135,24 +122,24 @@ module _ (w : World) (h : Holds w) where
         };
         colour = refl;
         cartridge = refl;
-        used = λ e. rw l (use-more (w .state .used) (length (w .log)) room e);
+        used = λ e. rw l (use-more (w .state .core .used) (length (w .log)) room e);
       }
   saved-stays NotStored room = stays-refl w h
 
   save-stays : (i v : ℕ) → Stays w (savePut w i v)
   unfolding savePut
   save-stays i v =
-      let a = answer (w .state .cartridge) (w .state .mapper) i v in
-      by-cond (Stays w) (ltb (length (w .log)) (w .state .used + width)) w (saved a w) (λ t. stays-refl w h)
-      (λ f. saved-stays a (ltb-false (length (w .log)) (w .state .used + width) f))
+      let a = answer (w .state .core .cartridge) (w .state .core .mapper) i v in
+      by-cond (Stays w) (full (length (w .log)) (w .state .core .used) 1) w (saved a w) (λ t. stays-refl w h)
+      (λ f. saved-stays a (has-room (length (w .log)) (w .state .core .used) 1 f))
 
   put-at-stays : (i v : ℕ) → Stays w (putAt w i v)
   unfolding putAt
   put-at-stays i v =
       cond-both (Stays w) (ltb i 0x8000) (mapper-stays i v)
-      (cond-both (Stays w) (ltb i 0xA000) (vram-stays (vramAt (w .state .banks .vram) i) v)
+      (cond-both (Stays w) (ltb i 0xA000) (vram-stays (vramAt (w .state .core .banks .vram) i) v)
       (cond-both (Stays w) (ltb i 0xC000) (save-stays i v)
-      (cond-both (Stays w) (ltb i 0xE000) (wram-stays (wramAt (w .state .banks .wram) i) v)
+      (cond-both (Stays w) (ltb i 0xE000) (wram-stays (wramAt (w .state .core .banks .wram) i) v)
       (cond-both (Stays w) (ltb i 0xFF00) (kept-stays _ (oam-kept (w .state) (set (w .state .oam) (i - 0xFE00) v)))
       (kept-stays _ (write-kept (w .state) (i - 0xFF00) v))))))
 
@@ -249,27 +236,65 @@ module _ (x : Fixed) (f : World → ℕ → ℕ → World) where
   copy-more source destination n w u e =
       rw (add-one n) (ap (λ (u : World). f u (destination + n) (readIn x u ((source + n) % 65536))) e)
 
-  pub transfer-done : (c : Copy) (v : ℕ) (w : World) {k : Copy} {p u : World} {r : Memory} → k ≡ c → p ≡ w
-      → u ≡ copyBy x f (k .source) (k .destination) (k .count) p → r ≡ finished (u .state) (k .finish) v
-      → inState u r ≡ transferred x f c v w
-  transfer-done c v w a b e q = rw (q, e, a, b)
+  pub transfer-done : (c : Copy) (n v : ℕ) (w : World) {u : World} {r : Memory} → n ≡ c .count
+      → u ≡ copyBy x f (c .source) (c .destination) n w → r ≡ finished (u .state) (c .finish) v → inState u r ≡ transferred x f c v w
+  transfer-done c n v w a e q = rw (q, e, a)
+
+-- what starts a transfer
+
+starting-above : (d index : ℕ) → starting (suc d) index ≡ (eqb index 0xFF46 || eqb index 0xFF55)
+unfolding starting
+starting-above d index = rw (ne-eqb (suc d) 0 (λ z. omega arith))
+
+pub starting-depth : (d index : ℕ) → starting d index ≡ true → d ≡ 0 → ⊥
+unfolding starting
+starting-depth zero index e z = let z : _≡_ {A = ℕ} 0 1 = cc in absurd (omega arith)
+starting-depth (suc d) index e z = omega arith
+
+pub starting-index : (d index : ℕ) → starting d index ≡ true → (index ≡ 0xFF46 → ⊥) → index ≡ 0xFF55
+unfolding starting
+starting-index zero index e k = let z : _≡_ {A = ℕ} 0 1 = cc in absurd (omega arith)
+starting-index (suc d) index e k =
+    ⊎-elim (λ h. absurd (k (eqb-true index 0xFF46 h))) (λ h. eqb-true index 0xFF55 h)
+    (or-cases (eqb index 0xFF46) (eqb index 0xFF55) (sym (starting-above d index) ∙ e))
+
+pub starting-page : (d index : ℕ) → starting d index ≡ true → 0xFF00 ≤ index
+unfolding starting
+starting-page zero index e = let z : _≡_ {A = ℕ} 0 1 = cc in absurd (omega arith)
+starting-page (suc d) index e =
+    ⊎-elim (λ h. omega (arith, eqb-true index 0xFF46 h)) (λ h. omega (arith, eqb-true index 0xFF55 h))
+    (or-cases (eqb index 0xFF46) (eqb index 0xFF55) (sym (starting-above d index) ∙ e))
 
 -- a write by cases
 
 module _ (x : Fixed) (w : World) where
-  pub write-none : (d index v : ℕ) → d ≡ 0 → writeAt x d w index v ≡ put w index v
-  unfolding writeAt
-  write-none d index v e = rw e
-
   pub write-plain : (d index v : ℕ) → (index ≡ 0xFF46 → ⊥) → (index ≡ 0xFF55 → ⊥) → writeAt x d w index v ≡ put w index v
   unfolding writeAt copyOf copyBy finished
   write-plain zero index v a b = refl
   write-plain (suc d) index v a b = rw (ne-eqb index 0xFF46 a, ne-eqb index 0xFF55 b)
 
-  pub write-transfer : (d index v : ℕ) {k : Copy} {p u : World} {r : Memory} → (d ≡ 0 → ⊥) → k ≡ copyOf (w .state) index v
-      → p ≡ put w index v → u ≡ copyBy x (writeAt x (d - 1)) (k .source) (k .destination) (k .count) p
-      → r ≡ finished (u .state) (k .finish) v → inState u r ≡ writeAt x d w index v
+  pub write-alone : (d index v : ℕ) → starting d index ≡ false → writeAt x d w index v ≡ put w index v
   unfolding writeAt
-  write-transfer zero index v z a b e q = absurd (z refl)
-  write-transfer (suc d) index v z a b e q =
-      transfer-done x (writeAt x d) (copyOf (w .state) index v) v (put w index v) a b (rw sub-one at e) q
+  write-alone zero index v e = refl
+  write-alone (suc d) index v e =
+      let n = neither (eqb index 0xFF46) (eqb index 0xFF55) (sym (starting-above d index) ∙ e) in
+      write-plain (suc d) index v (eqb-false index 0xFF46 (n .0)) (eqb-false index 0xFF55 (n .1))
+
+  put-start : (d index v : ℕ) {n : Memory} → starting d index ≡ true → n ≡ writeRegister (w .state) (index - 0xFF00) v
+      → inState w n ≡ put w index v
+  unfolding echo
+  put-start d index v s e =
+      let a = starting-page d index s in
+      put-register w index index v (rw (le-ltb index 0xE000 (omega arith), le-ltb index 0xFE00 (omega arith))) a e
+
+  pub start-ready : (d index v : ℕ) {n : Memory} → Ready x w → starting d index ≡ true → n ≡ writeRegister (w .state) (index - 0xFF00) v
+      → Ready x (inState w n)
+  start-ready d index v r s e = subst (Ready x) (sym (put-start d index v s e)) (put-ready x w r index v)
+
+  pub write-transfer : (d index v : ℕ) {k : Copy} {n : Memory} {u : World} → starting d index ≡ true
+      → n ≡ writeRegister (w .state) (index - 0xFF00) v → k ≡ copyOf (w .state) index v
+      → u ≡ transferred x (writeAt x (d - 1)) k v (inState w n) → u ≡ writeAt x d w index v
+  unfolding writeAt
+  write-transfer zero index v s a b e = absurd (starting-depth zero index s refl)
+  write-transfer (suc d) index v s a b e =
+      rw (b, put-start (suc d) index v s a, sub-one) at e

@@ -19,24 +19,24 @@ use Rattle.memory.specs.World.{World, world, Fixed, withOam, withUsed}
 use Rattle.memory.specs.declared.Banks.{Banks}
 use Rattle.memory.specs.declared.Memory.{Memory}
 use Rattle.registers.specs.Page.{readRegister, writeRegister}
-use Rattle.savelog.specs.Log.{width, appended}
+use Rattle.savelog.specs.Log.{width, appended, full}
 use Rattle.mmu.specs.PanDocs.{echo, vramAt, wramAt}
 use Rattle.mmu.specs.Access.{Holds, Ready, Reaches, lentAt, byteAt, readByte, mapperPut, saved, savePut, inState, inVram, inWram, putAt, put}
 
 -- bounds: what a world that holds gives the regions
 
 module _ {w : World} (h : Holds w) where
-  pub holds-mapper : inRange (w .state .cartridge) (w .state .mapper) ≡ true
+  pub holds-mapper : inRange (w .state .core .cartridge) (w .state .core .mapper) ≡ true
   holds-mapper = range-mapper (w .state) (h .state)
 
-  pub holds-vram : w .state .banks .vram * 0x2000 + 0x2000 ≤ length (w .vram)
-  holds-vram = rw (h .vram) (vram-fits (w .state .banks) (range-banks (w .state) (h .state)))
+  pub holds-vram : w .state .core .banks .vram * 0x2000 + 0x2000 ≤ length (w .vram)
+  holds-vram = rw (h .vram) (vram-fits (w .state .core .banks) (range-banks (w .state) (h .state)))
 
-  pub holds-wram : (0x1000 ≤ length (w .wram)) × (w .state .banks .wram * 0x1000 + 0x1000 ≤ length (w .wram))
+  pub holds-wram : (0x1000 ≤ length (w .wram)) × (w .state .core .banks .wram * 0x1000 + 0x1000 ≤ length (w .wram))
   holds-wram =
       rw (h .wram) (
-        cond-both (λ (n : ℕ). 0x1000 ≤ n) (w .state .banks .colour) (lit≤ tt) (lit≤ tt),
-        wram-fits (w .state .banks) (range-banks (w .state) (h .state)),
+        cond-both (λ (n : ℕ). 0x1000 ≤ n) (w .state .core .banks .colour) (lit≤ tt) (lit≤ tt),
+        wram-fits (w .state .core .banks) (range-banks (w .state) (h .state)),
       )
 
 -- work memory: both banks lie within
@@ -49,7 +49,7 @@ wram-below bank i n a b p q =
 -- reads
 
 pub ready-reaches : {x : Fixed} {w : World} → Ready x w
-    → Reaches (w .state .cartridge) (w .state .mapper) (w .state .banks) (x .rom) (w .vram) (w .wram) (w .save)
+    → Reaches (w .state .core .cartridge) (w .state .core .mapper) (w .state .core .banks) (x .rom) (w .vram) (w .wram) (w .save)
 ready-reaches r =
     record {
       mapper = holds-mapper (r .holds);
@@ -80,12 +80,12 @@ module _ (x : Fixed) (m : Memory) (v w s : List ℕ) (index i : ℕ) (e : i ≡ 
   as-read : (b : ℕ) → byteAt x m v w s i ≡ b → b ≡ readByte x m v w s index
   as-read b p = sym p ∙ ap (byteAt x m v w s) e
 
-  pub read-lent : i < 0xE000 → lentAt (m .cartridge) (m .mapper) (m .banks) (x .rom) v w s i ≡ readByte x m v w s index
+  pub read-lent : i < 0xE000 → lentAt (m .core .cartridge) (m .core .mapper) (m .core .banks) (x .rom) v w s i ≡ readByte x m v w s index
   unfolding byteAt
   read-lent a = as-read _ (simp (lt-ltb i 0xE000 a))
 
-  pub read-wram : 0xC000 ≤ i → i < 0xE000 → getD w (wramAt (m .banks .wram) i) 0 ≡ readByte x m v w s index
-  read-wram a b = lent-wram (m .cartridge) (m .mapper) (m .banks) (x .rom) v w s i a ∙ read-lent b
+  pub read-wram : 0xC000 ≤ i → i < 0xE000 → getD w (wramAt (m .core .banks .wram) i) 0 ≡ readByte x m v w s index
+  read-wram a b = lent-wram (m .core .cartridge) (m .core .mapper) (m .core .banks) (x .rom) v w s i a ∙ read-lent b
 
   pub read-oam : 0xE000 ≤ i → i < 0xFF00 → getD (m .oam) (i - 0xFE00) 0 ≡ readByte x m v w s index
   unfolding byteAt
@@ -97,27 +97,27 @@ module _ (x : Fixed) (m : Memory) (v w s : List ℕ) (index i : ℕ) (e : i ≡ 
 
 -- the save: full, not stored, stored, of every state with this cartridge, mapper and log use; and that the rest of the world stays
 
-module _ (m : Memory) {c : Cartridge} {t : Mapper} {used : ℕ} (p : m .cartridge ≡ c) (q : m .mapper ≡ t) (e : m .used ≡ used) (s l : List ℕ)
+module _ (m : Memory) {c : Cartridge} {t : Mapper} {used : ℕ} (p : m .core .cartridge ≡ c) (q : m .core .mapper ≡ t) (e : m .core .used ≡ used) (s l : List ℕ)
     (i v : ℕ) where
-  pub save-full : ltb (length l) (used + width) ≡ true → world (withUsed m used) [] [] s l ≡ savePut (world m [] [] s l) i v
+  pub save-full : full (length l) used 1 ≡ true → world (withUsed m used) [] [] s l ≡ savePut (world m [] [] s l) i v
   unfolding savePut
   save-full a =
-      let b : ltb (length l) (m .used + width) ≡ true = rw e a in
+      let b : full (length l) (m .core .used) 1 ≡ true = rw e a in
       rw (← e) (sym (cond-true _ _ _ b))
 
-  save-answered : (k : Answer) → ltb (length l) (used + width) ≡ false → answer c t i v ≡ k
+  save-answered : (k : Answer) → full (length l) used 1 ≡ false → answer c t i v ≡ k
       → saved k (world m [] [] s l) ≡ savePut (world m [] [] s l) i v
   unfolding savePut
   save-answered k a n =
-      let b : ltb (length l) (m .used + width) ≡ false = rw e a in
-      let r : answer (m .cartridge) (m .mapper) i v ≡ k = rw (p, q) n in
+      let b : full (length l) (m .core .used) 1 ≡ false = rw e a in
+      let r : answer (m .core .cartridge) (m .core .mapper) i v ≡ k = rw (p, q) n in
       sym (cond-false _ _ _ b ∙ ap (λ (k : Answer). saved k (world m [] [] s l)) r)
 
-  pub save-none : ltb (length l) (used + width) ≡ false → answer c t i v ≡ NotStored
+  pub save-none : full (length l) used 1 ≡ false → answer c t i v ≡ NotStored
       → world (withUsed m used) [] [] s l ≡ savePut (world m [] [] s l) i v
   save-none a n = rw (← e) (save-answered NotStored a n)
 
-  pub save-stored : (at b : ℕ) {r : ℕ} {y z : List ℕ} → ltb (length l) (used + width) ≡ false → answer c t i v ≡ Stored at b
+  pub save-stored : (at b : ℕ) {r : ℕ} {y z : List ℕ} → full (length l) used 1 ≡ false → answer c t i v ≡ Stored at b
       → r ≡ used + width → y ≡ set s at b → z ≡ appended l used at b → world (withUsed m r) [] [] y z ≡ savePut (world m [] [] s l) i v
   save-stored at b a n x y z = rw (x, y, z, ← e) (save-answered (Stored at b) a n)
 
@@ -135,7 +135,7 @@ beside-cond false a w = refl
 save-apart : (w : World) (i v : ℕ) → beside w (savePut (alone w) i v) ≡ savePut w i v
 unfolding savePut
 save-apart w i v =
-    beside-cond (ltb (length (w .log)) (w .state .used + width)) (answer (w .state .cartridge) (w .state .mapper) i v) w
+    beside-cond (full (length (w .log)) (w .state .core .used) 1) (answer (w .state .core .cartridge) (w .state .core .mapper) i v) w
 
 -- writes
 
@@ -147,7 +147,7 @@ module _ (w : World) (index i v : ℕ) (e : i ≡ echo index) where
   unfolding putAt
   put-rom {r} a p = rw p (as-put _ (simp (lt-ltb i 0x8000 a)))
 
-  pub put-vram : {l : List ℕ} → 0x8000 ≤ i → i < 0xA000 → l ≡ set (w .vram) (vramAt (w .state .banks .vram) i) v
+  pub put-vram : {l : List ℕ} → 0x8000 ≤ i → i < 0xA000 → l ≡ set (w .vram) (vramAt (w .state .core .banks .vram) i) v
       → inVram w l ≡ put w index v
   unfolding putAt
   put-vram a b p = rw p (as-put _ (simp (le-ltb i 0x8000 a, lt-ltb i 0xA000 b)))
@@ -159,7 +159,7 @@ module _ (w : World) (index i v : ℕ) (e : i ≡ echo index) where
       ap (beside w) p
       ∙ (save-apart w i v ∙ as-put _ (simp (le-ltb i 0x8000 (omega arith), le-ltb i 0xA000 a, lt-ltb i 0xC000 b)))
 
-  pub put-wram : {l : List ℕ} → 0xC000 ≤ i → i < 0xE000 → l ≡ set (w .wram) (wramAt (w .state .banks .wram) i) v
+  pub put-wram : {l : List ℕ} → 0xC000 ≤ i → i < 0xE000 → l ≡ set (w .wram) (wramAt (w .state .core .banks .wram) i) v
       → inWram w l ≡ put w index v
   unfolding putAt
   put-wram a b p =

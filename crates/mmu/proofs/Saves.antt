@@ -3,17 +3,16 @@ use mathlib.Core.Path.{_≡_, refl, _∙_}
 use mathlib.Core.Bool.{cond}
 use Prim.Native.Nat.{ℕ, zero, suc, _+_, _-_, _<_, _≤_}
 use native.Mathlib.Omega.{arith}
-use lib.Dec.{eqb, ltb}
+use lib.Dec.{ltb}
 use lib.ListN.{set}
 use borrow.Author.Tests.{ltb-true, ltb-false}
-use Rattle.hdma.specs.Hdma.{destinationUsed, starts}
+use Rattle.hdma.specs.Hdma.{destinationUsed}
 use Rattle.hdma.specs.declared.Hdma.{Hdma}
-use Rattle.hdma.specs.declared.Start.{Start}
-use Rattle.hdma.specs.declared.Start.the-variants as start
 use Rattle.memory.specs.World.{World, Fixed}
 use Rattle.memory.specs.declared.Memory.{Memory}
 use Rattle.registers.proofs.Kept.{Kept, oam-kept, write-kept, finished-kept}
-use Rattle.registers.specs.Transfers.{oamCopy, blockCopy, generalCopy, startedCopy, startCopy, copyOf, nothing, finished}
+use Rattle.registers.proofs.Starts.{by-copy}
+use Rattle.registers.specs.Transfers.{oamCopy, blockCopy, generalCopy, copyOf, nothing, finished}
 use Rattle.registers.specs.declared.transfers.Copy.{Copy}
 use Rattle.rules.proofs.Tests.{by-cond, cond-both}
 use Rattle.mmu.specs.PanDocs.{echo}
@@ -23,7 +22,7 @@ use Rattle.mmu.specs.Write.{copyBy, transferred, writeAt}
 pub record Spares (w u : World) : Type 0 where
   pub save : u .save ≡ w .save
   pub log : u .log ≡ w .log
-  pub used : u .state .used ≡ w .state .used
+  pub used : u .state .core .used ≡ w .state .core .used
 
 pub spares-trans : {w u y : World} → Spares w u → Spares u y → Spares w y
 spares-trans s t = record { save = t .save ∙ s .save; log = t .log ∙ s .log; used = t .used ∙ s .used }
@@ -76,22 +75,13 @@ unfolding destinationUsed
 destination-most h = omega arith
 
 pub block-clear : (m : Memory) → Clear (blockCopy m)
-block-clear m k h a b = omega (arith, destination-most (m .hdma))
+block-clear m k h a b = omega (arith, destination-most (m .core .hdma))
 
 general-clear : (m : Memory) (v : ℕ) → Clear (generalCopy m v)
-general-clear m v k h a b = omega (arith, destination-most (m .hdma))
-
-started-clear : (m : Memory) (v : ℕ) (s : Start) → Clear (startedCopy m v s)
-started-clear m v start.Nothing = none-clear
-started-clear m v start.Block = block-clear m
-started-clear m v start.General = general-clear m v
+general-clear m v k h a b = omega (arith, destination-most (m .core .hdma))
 
 pub copy-clear : (m : Memory) (index v : ℕ) → Clear (copyOf m index v)
-unfolding copyOf startCopy
-copy-clear m index v =
-    cond-both Clear (eqb index 0xFF46) (oam-clear v)
-    (cond-both Clear (eqb index 0xFF55) (cond-both Clear (m .banks .colour) (started-clear m v (starts (m .hdma .on) (m .lcd .mode) v)) none-clear)
-    none-clear)
+copy-clear m index v = by-copy Clear m index v none-clear (oam-clear v) (block-clear m) (general-clear m v)
 
 -- so transfers and writes
 

@@ -16,20 +16,20 @@ use Rattle.memory.specs.World.{World, world, Fixed, withOam, withMapper, withUs
 use Rattle.memory.specs.declared.Banks.{Banks}
 use Rattle.memory.specs.declared.Memory.{Memory}
 use Rattle.registers.specs.Page.{readRegister, writeRegister}
-use Rattle.savelog.specs.Log.{width, logLimit, appended}
+use Rattle.savelog.specs.Log.{width, logLimit, appended, full}
 use Rattle.mmu.specs.PanDocs.{echo, vramAt, wramAt}
 
 -- a state in range, with memories of the lengths that it needs
 pub record Holds (w : World) : Type 0 where
   pub state : stateInRange (w .state) ≡ true
-  pub vram : length (w .vram) ≡ vramLen (w .state .banks .colour)
-  pub wram : length (w .wram) ≡ wramLen (w .state .banks .colour)
-  pub save : length (w .save) ≡ ramLen (w .state .cartridge) (w .state .mapper)
+  pub vram : length (w .vram) ≡ vramLen (w .state .core .banks .colour)
+  pub wram : length (w .wram) ≡ wramLen (w .state .core .banks .colour)
+  pub save : length (w .save) ≡ ramLen (w .state .core .cartridge) (w .state .core .mapper)
   pub log : length (w .log) ≤ logLimit
 
 pub record Ready (x : Fixed) (w : World) : Type 0 where
   pub holds : Holds w
-  pub rom : length (x .rom) ≡ romLen (w .state .cartridge)
+  pub rom : length (x .rom) ≡ romLen (w .state .core .cartridge)
   pub sound : length (x .sound) ≡ soundLen
 
 -- what a read of the lent memories needs of them: the mapper is in range, and they reach as far as it and the selected banks do
@@ -51,7 +51,7 @@ lentAt c m b r v w s i =
 -- the byte at an index that is no echo
 unfoldable pub byteAt : Fixed → Memory → List ℕ → List ℕ → List ℕ → ℕ → ℕ
 byteAt x m v w s i =
-    cond (ltb i 0xE000) (lentAt (m .cartridge) (m .mapper) (m .banks) (x .rom) v w s i)
+    cond (ltb i 0xE000) (lentAt (m .core .cartridge) (m .core .mapper) (m .core .banks) (x .rom) v w s i)
     (cond (ltb i 0xFF00) (getD (m .oam) (i - 0xFE00) 0)
     (readRegister m (x .sound) (i - 0xFF00)))
 
@@ -67,11 +67,11 @@ readIn x w index = readByte x (w .state) (w .vram) (w .wram) (w .save) index
 
 -- a write below 8000 changes the mapper's registers
 abbrev pub mapperPut : Memory → ℕ → ℕ → Memory
-mapperPut m i v = withMapper m (after (m .cartridge) (m .mapper) i v)
+mapperPut m i v = withMapper m (after (m .core .cartridge) (m .core .mapper) i v)
 
 -- what the mapper answers is done: a stored byte goes to the save and, as one record, to the log, whose use rises by the record
 abbrev pub savedState : Answer → Memory → Memory
-savedState (Stored at v) m = withUsed m (m .used + width)
+savedState (Stored at v) m = withUsed m (m .core .used + width)
 savedState NotStored m = m
 
 abbrev pub savedSave : Answer → List ℕ → List ℕ
@@ -84,12 +84,12 @@ savedLog NotStored used l = l
 
 abbrev pub saved : Answer → World → World
 saved a w =
-    world (savedState a (w .state)) (w .vram) (w .wram) (savedSave a (w .save)) (savedLog a (w .state .used) (w .log))
+    world (savedState a (w .state)) (w .vram) (w .wram) (savedSave a (w .save)) (savedLog a (w .state .core .used) (w .log))
 
 -- a write in A000..BFFF: without room in the log nothing is stored (a public call is then refused by 2)
 unfoldable pub savePut : World → ℕ → ℕ → World
 savePut w i v =
-    cond (ltb (length (w .log)) (w .state .used + width)) w (saved (answer (w .state .cartridge) (w .state .mapper) i v) w)
+    cond (full (length (w .log)) (w .state .core .used) 1) w (saved (answer (w .state .core .cartridge) (w .state .core .mapper) i v) w)
 
 -- the world with its state, its video memory or its work memory changed
 abbrev pub inState : World → Memory → World
@@ -105,9 +105,9 @@ inWram w l = world (w .state) (w .vram) l (w .save) (w .log)
 unfoldable pub putAt : World → ℕ → ℕ → World
 putAt w i v =
     cond (ltb i 0x8000) (inState w (mapperPut (w .state) i v))
-    (cond (ltb i 0xA000) (inVram w (set (w .vram) (vramAt (w .state .banks .vram) i) v))
+    (cond (ltb i 0xA000) (inVram w (set (w .vram) (vramAt (w .state .core .banks .vram) i) v))
     (cond (ltb i 0xC000) (savePut w i v)
-    (cond (ltb i 0xE000) (inWram w (set (w .wram) (wramAt (w .state .banks .wram) i) v))
+    (cond (ltb i 0xE000) (inWram w (set (w .wram) (wramAt (w .state .core .banks .wram) i) v))
     (cond (ltb i 0xFF00) (inState w (withOam (w .state) (set (w .state .oam) (i - 0xFE00) v)))
     (inState w (writeRegister (w .state) (i - 0xFF00) v))))))
 

@@ -1,5 +1,7 @@
 -- Byte write and transfer, which call each other (document 01, "What must change shape": a depth that falls from 2).
+use mathlib.Core.Bool.{Bool, false, cond, _||_}
 use Prim.Native.Nat.{ℕ, zero, suc, _+_, _/_, _%_}
+use lib.Dec.{eqb}
 use Rattle.memory.specs.World.{World, world, Fixed}
 use Rattle.registers.specs.Transfers.{copyOf, finished}
 use Rattle.registers.specs.declared.transfers.Copy.{Copy}
@@ -17,6 +19,10 @@ abbrev pub transferred : Fixed → (World → ℕ → ℕ → World) → Copy �
 transferred x f c v w =
     inState (copyBy x f (c .source) (c .destination) (c .count) w)
     (finished (copyBy x f (c .source) (c .destination) (c .count) w .state) (c .finish) v)
+
+-- whether a byte write starts a transfer: of FF46 or FF55, above depth 0
+unfoldable pub starting : ℕ → ℕ → Bool
+starting depth index = cond (eqb depth 0) false (eqb index 0xFF46 || eqb index 0xFF55)
 
 -- a byte write: the byte, and then the transfer that it starts from the state before it
 unfoldable pub writeAt : Fixed → ℕ → World → ℕ → ℕ → World

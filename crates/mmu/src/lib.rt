@@ -2,11 +2,11 @@
 // These are the calls within: the state is in range and the lengths are right. The crate bus has the public ones, which see to that.
 ghost use mathlib.Core.List.{[]};
 ghost use mathlib.Core.Path.{_≡_};
-ghost use Prim.Native.Nat.{_+_, _<_, _≤_};
+ghost use Prim.Native.Nat.{_<_};
 ghost use Rattle.memory.specs.World.{world, fixed};
 ghost use Rattle.registers.specs.Transfers.{oamCopy, blockCopy, Bounded};
 ghost use Rattle.mmu.specs.Access.{Holds, Ready, readByte, readWord, put};
-ghost use Rattle.mmu.specs.Write.{copyBy, transferred, writeAt, wordAt};
+ghost use Rattle.mmu.specs.Write.{transferred, starting, writeAt, wordAt};
 use memory::Memory;
 
 pub mod regions;
@@ -33,9 +33,10 @@ pub fn read_byte(
 {
     let at = lowered(index);
     if at < 0xE000 {
-        let banks = memory.banks;
-        let mapper = memory.mapper;
-        let cartridge = memory.cartridge;
+        let core = memory.core;
+        let banks = core.banks;
+        let mapper = core.mapper;
+        let cartridge = core.cartridge;
         return read_lent(cartridge, mapper, banks, rom, vram, wram, save, at);
     }
     if at < 0xFF00 {
@@ -59,7 +60,7 @@ pub fn put_byte(
     ensures { λ r. ⌜ world r (now (vram .exit)) (now (wram .exit)) (now (save .exit)) (now (log .exit)) ≡ put (world memory (now (vram .entry)) (now (wram .entry)) (now (save .entry)) (now (log .entry))) index value ⌝ }
 {
     let at = lowered(index);
-    let banks = memory.banks;
+    let banks = memory.core.banks;
     if at < 0x8000 {
         return put_mapper(memory, at, value);
     }
@@ -83,6 +84,19 @@ pub fn put_byte(
     registers::page::write(memory, (at - 0xFF00) as u8, value)
 }
 
+// Whether a byte write starts a transfer: of FF46 or FF55, above depth 0.
+fn starting(depth: u8, index: u16) -> bool
+    ensures { λ r. ⌜ r ≡ starting depth index ⌝ }
+{
+    if depth == 0 {
+        return false;
+    }
+    if index == 0xFF46 {
+        return true;
+    }
+    index == 0xFF55
+}
+
 // A byte write. The writes of a transfer that it starts stand one lower; at depth 0 none is started.
 pub fn write_byte(
     depth: u8,
@@ -99,17 +113,13 @@ pub fn write_byte(
     requires { ⌜ Ready (fixed (now rom) (now sound)) (world memory (now vram) (now wram) (now save) (now log)) ⌝ }
     ensures { λ r. ⌜ world r (now (vram .exit)) (now (wram .exit)) (now (save .exit)) (now (log .exit)) ≡ writeAt (fixed (now (rom .entry)) (now (sound .entry))) depth (world memory (now (vram .entry)) (now (wram .entry)) (now (save .entry)) (now (log .entry))) index value ⌝ }
 {
-    let next = put_byte(memory, vram, wram, save, log, index, value);
-    if depth == 0 {
-        return next;
+    if !starting(depth, index) {
+        return put_byte(memory, vram, wram, save, log, index, value);
     }
-    if index != 0xFF46 {
-        if index != 0xFF55 {
-            return next;
-        }
-    }
-    let copy = registers::transfers::copy_of(memory, index, value);
-    let moved = copy_bytes(
+    let started = registers::transfers::start_transfer(memory, index, value);
+    let next = started.memory;
+    let copy = started.copy;
+    do_dma_transfer(
         depth - 1,
         next,
         rom,
@@ -118,16 +128,14 @@ pub fn write_byte(
         save,
         log,
         sound,
-        copy.source,
-        copy.destination,
-        copy.count,
-    );
-    let finish = copy.finish;
-    registers::transfers::end_copy(moved, finish, value)
+        copy,
+        value,
+    )
 }
 
-// The bytes of a transfer in rising order, each by a byte write, so that later reads see earlier writes. The source wraps.
-pub fn copy_bytes(
+// A transfer: its bytes in rising order, each by a byte write, so that later reads see earlier writes; then its registers. The source wraps.
+// Of a general transfer `value` says the length.
+pub fn do_dma_transfer(
     depth: u8,
     memory: Memory,
     rom: &[u8],
@@ -136,17 +144,16 @@ pub fn copy_bytes(
     save: &mut [u8],
     log: &mut [u8],
     sound: &[u8],
-    source: u16,
-    destination: u16,
-    count: u16,
+    copy: Copy,
+    value: u8,
 ) -> Memory
-    requires { ⌜ Ready (fixed (now rom) (now sound)) (world memory (now vram) (now wram) (now save) (now log)) × (destination + count ≤ 0xFEA0) ⌝ }
-    ensures { λ r. ⌜ world r (now (vram .exit)) (now (wram .exit)) (now (save .exit)) (now (log .exit)) ≡ copyBy (fixed (now (rom .entry)) (now (sound .entry))) (writeAt (fixed (now (rom .entry)) (now (sound .entry))) depth) source destination count (world memory (now (vram .entry)) (now (wram .entry)) (now (save .entry)) (now (log .entry))) ⌝ }
+    requires { ⌜ Ready (fixed (now rom) (now sound)) (world memory (now vram) (now wram) (now save) (now log)) × Bounded copy ⌝ }
+    ensures { λ r. ⌜ world r (now (vram .exit)) (now (wram .exit)) (now (save .exit)) (now (log .exit)) ≡ transferred (fixed (now (rom .entry)) (now (sound .entry))) (writeAt (fixed (now (rom .entry)) (now (sound .entry))) depth) copy value (world memory (now (vram .entry)) (now (wram .entry)) (now (save .entry)) (now (log .entry))) ⌝ }
 {
     let mut next = memory;
     let mut i: u16 = 0;
-    while i < count {
-        let from = std::num::wrapping_add_u16(source, i);
+    while i < copy.count {
+        let from = std::num::wrapping_add_u16(copy.source, i);
         let byte = read_byte(next, rom, vram, wram, save, sound, from);
         next = write_byte(
             depth,
@@ -157,12 +164,13 @@ pub fn copy_bytes(
             save,
             log,
             sound,
-            destination + i,
+            copy.destination + i,
             byte,
         );
         i += 1;
     }
-    next
+    let finish = copy.finish;
+    registers::transfers::end_copy(next, finish, value)
 }
 
 // Low byte first; FFFF is followed by 0000.
@@ -206,39 +214,8 @@ pub fn write_word(
     write_byte(2, half, rom, vram, wram, save, log, sound, above, high)
 }
 
-// A transfer that no write starts: its bytes, and then its registers.
-fn transfer(
-    memory: Memory,
-    rom: &[u8],
-    vram: &mut [u8],
-    wram: &mut [u8],
-    save: &mut [u8],
-    log: &mut [u8],
-    sound: &[u8],
-    copy: Copy,
-) -> Memory
-    requires { ⌜ Ready (fixed (now rom) (now sound)) (world memory (now vram) (now wram) (now save) (now log)) × Bounded copy ⌝ }
-    ensures { λ r. ⌜ world r (now (vram .exit)) (now (wram .exit)) (now (save .exit)) (now (log .exit)) ≡ transferred (fixed (now (rom .entry)) (now (sound .entry))) (writeAt (fixed (now (rom .entry)) (now (sound .entry))) 1) copy 0 (world memory (now (vram .entry)) (now (wram .entry)) (now (save .entry)) (now (log .entry))) ⌝ }
-{
-    let moved = copy_bytes(
-        1,
-        memory,
-        rom,
-        vram,
-        wram,
-        save,
-        log,
-        sound,
-        copy.source,
-        copy.destination,
-        copy.count,
-    );
-    let finish = copy.finish;
-    registers::transfers::end_copy(moved, finish, 0)
-}
-
 // OAM DMA as the host calls it: FF46 stays as it is.
-pub fn do_dma_transfer(
+pub fn do_oam_dma(
     memory: Memory,
     rom: &[u8],
     vram: &mut [u8],
@@ -252,7 +229,7 @@ pub fn do_dma_transfer(
     ensures { λ r. ⌜ world r (now (vram .exit)) (now (wram .exit)) (now (save .exit)) (now (log .exit)) ≡ transferred (fixed (now (rom .entry)) (now (sound .entry))) (writeAt (fixed (now (rom .entry)) (now (sound .entry))) 1) (oamCopy page) 0 (world memory (now (vram .entry)) (now (wram .entry)) (now (save .entry)) (now (log .entry))) ⌝ }
 {
     let copy = registers::transfers::oam_copy(page);
-    transfer(memory, rom, vram, wram, save, log, sound, copy)
+    do_dma_transfer(1, memory, rom, vram, wram, save, log, sound, copy, 0)
 }
 
 // One HDMA block, enabled or not.
@@ -269,5 +246,5 @@ pub fn do_hdma(
     ensures { λ r. ⌜ world r (now (vram .exit)) (now (wram .exit)) (now (save .exit)) (now (log .exit)) ≡ transferred (fixed (now (rom .entry)) (now (sound .entry))) (writeAt (fixed (now (rom .entry)) (now (sound .entry))) 1) (blockCopy memory) 0 (world memory (now (vram .entry)) (now (wram .entry)) (now (save .entry)) (now (log .entry))) ⌝ }
 {
     let copy = registers::transfers::block_copy(memory);
-    transfer(memory, rom, vram, wram, save, log, sound, copy)
+    do_dma_transfer(1, memory, rom, vram, wram, save, log, sound, copy, 0)
 }

@@ -3,12 +3,11 @@ ghost use mathlib.Core.Bool.{true};
 ghost use mathlib.Core.List.{[]};
 ghost use mathlib.Core.Path.{_≡_};
 ghost use Prim.Native.Nat.{_+_, _*_, _<_, _≤_};
-ghost use lib.Dec.{ltb};
 ghost use lib.ListN.{length, getD, set};
 ghost use Rattle.mbc.specs.Mbc.{inRange, ramLen};
 ghost use Rattle.memory.specs.World.{world, withUsed};
 ghost use Rattle.memory.specs.declared.Memory.{Memory};
-ghost use Rattle.savelog.specs.Log.{width, logLimit};
+ghost use Rattle.savelog.specs.Log.{logLimit};
 ghost use Rattle.mmu.specs.PanDocs.{echo, vramAt, wramAt};
 ghost use Rattle.mmu.specs.Access.{Reaches, lentAt, mapperPut, savePut};
 use mbc::Answer;
@@ -116,21 +115,15 @@ pub fn read_lent(
 
 // A write below 8000: the mapper's registers.
 pub fn put_mapper(memory: Memory, index: u16, value: u8) -> Memory
-    requires { ⌜ (index < 0x8000) × (inRange (memory .cartridge) (memory .mapper) ≡ true) ⌝ }
+    requires { ⌜ (index < 0x8000) × (inRange (memory .core .cartridge) (memory .core .mapper) ≡ true) ⌝ }
     ensures { λ r. ⌜ r ≡ mapperPut memory index value ⌝ }
 {
-    let mapper = memory.mapper;
-    let cartridge = memory.cartridge;
+    let core = memory.core;
+    let mapper = core.mapper;
+    let cartridge = core.cartridge;
     let written = mapper.write(cartridge, index, value);
     let after = written.mapper;
     memory::with_mapper(memory, after)
-}
-
-// Whether a log of `len` bytes has no room for one more record.
-pub fn full(len: usize, used: u16) -> bool
-    ensures { λ r. ⌜ r ≡ ltb len (used + width) ⌝ }
-{
-    len < used as usize + 3
 }
 
 // A write in A000..BFFF: the mapper answers, the bus stores the byte and records it. A log without room records nothing, and nothing is stored.
@@ -145,9 +138,9 @@ pub fn store_save(
     value: u8,
 ) -> u16
     requires { ⌜ ((0xA000 ≤ index) × (index < 0xC000)) × ((inRange cartridge mapper ≡ true) × ((length (now save) ≡ ramLen cartridge mapper) × (length (now log) ≤ logLimit))) ⌝ }
-    ensures { λ r. ⌜ ((m : Memory) → m .cartridge ≡ cartridge → m .mapper ≡ mapper → m .used ≡ used → world (withUsed m r) [] [] (now (save .exit)) (now (log .exit)) ≡ savePut (world m [] [] (now (save .entry)) (now (log .entry))) index value) ⌝ }
+    ensures { λ r. ⌜ ((m : Memory) → m .core .cartridge ≡ cartridge → m .core .mapper ≡ mapper → m .core .used ≡ used → world (withUsed m r) [] [] (now (save .exit)) (now (log .exit)) ≡ savePut (world m [] [] (now (save .entry)) (now (log .entry))) index value) ⌝ }
 {
-    if full(log.len(), used) {
+    if savelog::full(log.len(), used, 1) {
         return used;
     }
     let written = mapper.write(cartridge, index, value);
@@ -160,11 +153,12 @@ pub fn store_save(
 }
 
 pub fn put_save(memory: Memory, save: &mut [u8], log: &mut [u8], index: u16, value: u8) -> Memory
-    requires { ⌜ ((0xA000 ≤ index) × (index < 0xC000)) × ((inRange (memory .cartridge) (memory .mapper) ≡ true) × ((length (now save) ≡ ramLen (memory .cartridge) (memory .mapper)) × (length (now log) ≤ logLimit))) ⌝ }
+    requires { ⌜ ((0xA000 ≤ index) × (index < 0xC000)) × ((inRange (memory .core .cartridge) (memory .core .mapper) ≡ true) × ((length (now save) ≡ ramLen (memory .core .cartridge) (memory .core .mapper)) × (length (now log) ≤ logLimit))) ⌝ }
     ensures { λ r. ⌜ world r [] [] (now (save .exit)) (now (log .exit)) ≡ savePut (world memory [] [] (now (save .entry)) (now (log .entry))) index value ⌝ }
 {
-    let cartridge = memory.cartridge;
-    let mapper = memory.mapper;
-    let used = store_save(cartridge, mapper, memory.used, save, log, index, value);
+    let core = memory.core;
+    let cartridge = core.cartridge;
+    let mapper = core.mapper;
+    let used = store_save(cartridge, mapper, core.used, save, log, index, value);
     memory::with_used(memory, used)
 }

@@ -6,7 +6,7 @@ use borrow.Author.Tests.{eq-eqb, le-leb}
 use Rattle.mbc.specs.Mbc as mbc
 use Rattle.memory.specs.Start.{started as startedWith}
 use Rattle.promise.specs.Promise.{Begins}
-use Rattle.promise.proofs.Bus.{orElse, lengthsRefused, lengthsFit, freshRefused, beginning, logRefused}
+use Rattle.promise.proofs.Bus.{orElse, lentRefused, lengthsRefused, lengthsFit, freshRefused, beginning, logRefused}
 
 fresh-accepted : (kind banks code : ℕ) → kind ≤ 2 → mbc.described (mbc.cartridgeOf banks code) (mbc.start kind) ≡ true
     → mbc.fresh kind banks code ≡ record { number = 0; cartridge = mbc.cartridgeOf banks code; mapper = mbc.start kind }
@@ -14,7 +14,7 @@ unfolding mbc.fresh
 fresh-accepted kind banks code k d = rw (le-leb kind 2 k, d)
 
 pub begins : Begins
-unfolding beginning freshRefused orElse lengthsRefused lengthsFit logRefused startedWith
+unfolding beginning freshRefused orElse lentRefused lengthsRefused lengthsFit logRefused startedWith
 begins l f =
     rw (
       fresh-accepted (l .kind) (l .banks) (l .code) (f .kind) (f .described),

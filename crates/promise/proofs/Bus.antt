@@ -5,5 +5,5 @@ pub use Rattle.dispatch.specs.Step.{inWorld}
 unfoldable pub use Rattle.dispatch.specs.Step.{stateStep}
 unfoldable pub use Rattle.refusals.specs.Answers.{changed}
 pub use Rattle.refusals.specs.Refusal.{refusedState, refusedWrite}
-unfoldable pub use Rattle.refusals.specs.Refusal.{orElse, lengthsFit, lengthsRefused, logRefused, eitherInSave}
+unfoldable pub use Rattle.refusals.specs.Refusal.{orElse, lengthsFit, lengthsRefused, logRefused, lentRefused, eitherInSave}
 unfoldable pub use Rattle.refusals.specs.Refusal.{byteRoom, wordRoom}

@@ -5,9 +5,8 @@ use mathlib.Core.Path.{_≡_, refl, ap, sym, _∙_}
 use Prim.Native.Nat.{ℕ, _*_, _%_, _<_, _≤_}
 use native.Mathlib.Omega.{arith}
 use lib.Dec.{eqb, ltb}
-use lib.ListN.{length, length-append}
-use lib.Seq.{take-at, drop-at, length-take-le}
-use borrow.Author.Tests.{eq-eqb, lt-ltb}
+use lib.ListN.{length}
+use lib.Seq.{length-take-le}
 use Rattle.dispatch.proofs.Open.{Good, good-use}
 use Rattle.mbc.proofs.Laws.{stored-within, ram-len-after}
 use Rattle.mbc.specs.Mbc.{ramBanks, ramLen, answer}
@@ -18,23 +17,24 @@ use Rattle.mbc.specs.declared.mbc.Answer.{Answer}
 use Rattle.mbc.specs.declared.mbc.Answer.the-variants.{Stored, NotStored}
 use Rattle.memory.specs.World.{World}
 use Rattle.rules.proofs.Tests.{both-true, cond-both}
-use Rattle.savelog.proofs.Laws.{round, records-cons, records-none}
+use Rattle.savelog.proofs.Laws.{stored-sound, records-none}
 use Rattle.savelog.proofs.Prefix.{records-append}
+use Rattle.savelog.proofs.Use.{record-first}
 use Rattle.savelog.specs.Laws.{Copies, none, more}
-use Rattle.savelog.specs.Log.{Rec, width, addressEnd, recordBytes, stored, records, soundRecord, allSound, joined, logLimit, saveLengths, oneOf}
+use Rattle.savelog.specs.Log.{width, addressEnd, stored, records, soundRecord, allSound, joined, logLimit, saveLengths, oneOf}
+use Rattle.savelog.specs.declared.Rec.{Rec}
 use Rattle.promise.specs.Bus.{Call, inSave, refused, Kind, Reading, Clearing, Other, kindOf}
 use Rattle.promise.specs.Calls.{ByteWrite}
 use Rattle.promise.specs.Admitted.{granted, grantedAll, mapperAfter, answered, letIn, letInAll, recordsOf}
 use Rattle.promise.specs.Promise.{Bytes, Typed}
 use Rattle.promise.specs.Runs.{Turn, made, usedBytes, copiedBefore, copiesFrom}
-use Rattle.promise.proofs.Writes.{record-length}
 use Rattle.promise.proofs.Runs.{made-moved}
 
 -- Records that a log for a save of `ram` bytes holds
 
 abbrev pub Fit : ℕ → List Rec → Type 0
 Fit ram [] = Unit {0}
-Fit ram (r ∷ rs) = ((r .mark ≡ 1) × (r .address < ram) × (r .value < 256)) × Fit ram rs
+Fit ram (r ∷ rs) = ((r ≡ stored (r .address) (r .value)) × (r .address < ram) × (r .value < 256)) × Fit ram rs
 
 fit-append : (ram : ℕ) (a b : List Rec) → Fit ram a → Fit ram b → Fit ram (a ++ b)
 fit-append ram [] b f g = g
@@ -43,13 +43,9 @@ fit-append ram (r ∷ a) b f g = (f .0, fit-append ram a b (f .1) g)
 pub fit-sound : (ram : ℕ) (rs : List Rec) → Fit ram rs → allSound ram rs ≡ true
 unfolding allSound
 fit-sound ram [] f = refl
-fit-sound ram (r ∷ rs) f = rw (eq-eqb (r .mark) 1 (f .0 .0), lt-ltb (r .address) ram (f .0 .1)) (fit-sound ram rs (f .1))
-
-record-first : (a v : ℕ) (l : List ℕ) → v < 256 → a < addressEnd → records (recordBytes a v ++ l) ≡ stored a v ∷ records l
-record-first a v l h k =
-    let b = record-length a v in
-    let n : width ≤ length (recordBytes a v ++ l) = rw length-append (omega arith) in
-    rw (records-cons (recordBytes a v ++ l) n, take-at (recordBytes a v) l width b, drop-at (recordBytes a v) l width b, round a v h k)
+fit-sound ram (r ∷ rs) f =
+    let e : soundRecord ram r ≡ true = ap (soundRecord ram) (f .0 .0) ∙ stored-sound ram (r .address) (r .value) (f .0 .1) in
+    rw e (fit-sound ram rs (f .1))
 
 pub fit-read : (ram : ℕ) → ram ≤ addressEnd → (rs : List Rec) → Fit ram rs → records (recordsOf rs) ≡ rs
 unfolding recordsOf
@@ -58,7 +54,7 @@ fit-read ram h (r ∷ rs) f =
     let a : r .address < addressEnd = omega (arith, f .0 .1) in
     record-first (r .address) (r .value) (recordsOf rs) (f .0 .2) a
     ∙ ap (λ (l : List Rec). stored (r .address) (r .value) ∷ l) (fit-read ram h rs (f .1))
-    ∙ ap (λ (k : ℕ). record { mark = k; address = r .address; value = r .value } ∷ rs) (sym (f .0 .0))
+    ∙ ap (λ (q : Rec). q ∷ rs) (sym (f .0 .0))
 
 -- what a mapper lets in fits, whatever was written before
 
@@ -115,7 +111,7 @@ Wholes (l ∷ ls) = WholeCopy l × Wholes ls
 used-whole : (w : World) → Good w → WholeCopy (usedBytes w)
 used-whole w g =
     let u = good-use g in
-    let e = length-take-le (w .state .used) (w .log) (u .1) in
+    let e = length-take-le (w .state .core .used) (w .log) (u .1) in
     (rw e (u .0), rw e (omega (arith, u .1, g .holds .log)))
 
 before-whole : (k : Kind) (n : ℕ) (w : World) (ls : List (List ℕ)) → WholeCopy (usedBytes w) → Wholes ls → Wholes (copiedBefore k n w ++ ls)

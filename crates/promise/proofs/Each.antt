@@ -1,6 +1,6 @@
 -- What holds of each call, on any world.
-use mathlib.Core.Bool.{Bool, true, false, _||_}
-use mathlib.Core.Path.{_≡_, refl, sym}
+use mathlib.Core.Bool.{false, _||_}
+use mathlib.Core.Path.{_≡_, refl}
 use Prim.Native.Nat.{ℕ, _/_, _%_}
 use lib.Dec.{eqb}
 use Rattle.dispatch.proofs.Numbered.{by-unless}
@@ -12,7 +12,7 @@ use Rattle.mmu.specs.Access.{put}
 use Rattle.mmu.specs.Write.{transferred, writeAt, wordAt}
 use Rattle.registers.specs.Transfers.{oamCopy, blockCopy}
 use Rattle.registers.specs.declared.transfers.Copy.{Copy}
-use Rattle.rules.proofs.Tests.{untrue, by-cond}
+use Rattle.rules.proofs.Tests.{by-cond, neither}
 use Rattle.promise.specs.Bus.{Outcome, outcome, step, inSave, nextIndex, Performed, Done, Kind, Reading, Clearing, Other, kindOf}
 use Rattle.promise.specs.Bus.call as call
 use Rattle.promise.specs.Calls.{writesOf}
@@ -49,7 +49,7 @@ transfer-promise x w = (
 -- Calls with no index in A000..BFFF
 
 abbrev Spared : Kind → World → World → Type 0
-Spared k w u = (u .save ≡ w .save) × (u .log ≡ w .log) × ((k ≡ Clearing → ⊥) → u .state .used ≡ w .state .used)
+Spared k w u = (u .save ≡ w .save) × (u .log ≡ w .log) × ((k ≡ Clearing → ⊥) → u .state .core .used ≡ w .state .core .used)
 
 spared : {w u : World} (k : Kind) → Untouched w u → Spared k w u
 spared k t = (t .save, t .log, λ h. t .used)
@@ -58,14 +58,10 @@ unless-spared : (k : Kind) (n : ℕ) (w : World) (m v : ℕ) (u : World) → Spa
 unless-spared k n w m v u s =
     by-unless (λ (o : Outcome). Spared k w (o .after)) n w _ (λ z. spared k (untouched w u s)) (λ h. spared k (same w))
 
-neither : (a b : Bool) → (a || b) ≡ false → (a ≡ false) × (b ≡ false)
-neither true b e = untrue (sym e)
-neither false b e = (refl, e)
-
-changed-used : (w : World) (n : ℕ) (next : Memory) → next .used ≡ w .state .used → changed n (w .state) next .memory .used ≡ w .state .used
+changed-used : (w : World) (n : ℕ) (next : Memory) → next .core .used ≡ w .state .core .used → changed n (w .state) next .memory .core .used ≡ w .state .core .used
 unfolding changed
 changed-used w n next e =
-    by-cond (λ (d : Done). d .memory .used ≡ w .state .used) (eqb n 0) _ _ (λ t. e) (λ f. refl)
+    by-cond (λ (d : Done). d .memory .core .used ≡ w .state .core .used) (eqb n 0) _ _ (λ t. e) (λ f. refl)
 
 state-spared : (w : World) {k : Kind} {p : Performed} → Answers (w .state) k p → Spared k w (inWorld w p .after)
 state-spared w (reads n v z) = spared Reading (same w)

@@ -9,7 +9,8 @@ use Rattle.mmu.proofs.Laws.{Stays, stays-refl, stays-trans}
 use Rattle.mmu.proofs.Saves.{Spares}
 use Rattle.mmu.specs.Access.{Holds}
 use Rattle.savelog.proofs.Prefix.{applyAll-append}
-use Rattle.savelog.specs.Log.{Rec, applyAll, joined}
+use Rattle.savelog.specs.Log.{applyAll, joined}
+use Rattle.savelog.specs.declared.Rec.{Rec}
 use Rattle.promise.specs.Calls.{ByteWrite}
 use Rattle.promise.specs.Admitted.{mapperAfter, letIn, letInAll, recordsOf}
 use Rattle.promise.specs.Runs.{usedBytes}
@@ -48,14 +49,14 @@ quiet-refl w h = record { stays = stays-refl w h; spares = record { save = refl;
 -- one byte write, and then a list of them
 pub record Made (b : ByteWrite) (w u : World) : Type 0 where
   pub stays : Stays w u
-  pub mapper : u .state .mapper ≡ mapperAfter (w .state .cartridge) (w .state .mapper) b
-  pub stores : Stores (letIn (w .state .cartridge) (w .state .mapper) b) w u
+  pub mapper : u .state .core .mapper ≡ mapperAfter (w .state .core .cartridge) (w .state .core .mapper) b
+  pub stores : Stores (letIn (w .state .core .cartridge) (w .state .core .mapper) b) w u
 
 pub record Left (bs : List ByteWrite) (w u : World) : Type 0 where
   pub stays : Stays w u
-  pub mapper : u .state .mapper ≡ mappersAfter (w .state .cartridge) (w .state .mapper) bs
-  pub save : u .save ≡ applyAll (w .save) (letInAll (w .state .cartridge) (w .state .mapper) bs)
-  pub log : usedBytes u ≡ usedBytes w ++ recordsOf (letInAll (w .state .cartridge) (w .state .mapper) bs)
+  pub mapper : u .state .core .mapper ≡ mappersAfter (w .state .core .cartridge) (w .state .core .mapper) bs
+  pub save : u .save ≡ applyAll (w .save) (letInAll (w .state .core .cartridge) (w .state .core .mapper) bs)
+  pub log : usedBytes u ≡ usedBytes w ++ recordsOf (letInAll (w .state .core .cartridge) (w .state .core .mapper) bs)
 
 pub left-none : (w u : World) → Quiet w u → Left [] w u
 unfolding mappersAfter letInAll applyAll recordsOf
@@ -70,10 +71,10 @@ left-none w u q =
 pub left-more : {b : ByteWrite} {bs : List ByteWrite} {w u y : World} → Made b w u → Left bs u y → Left (b ∷ bs) w y
 unfolding mappersAfter letInAll
 left-more {b} {bs} {w} {u} {y} m l =
-    let c = w .state .cartridge in
-    let k = letIn c (w .state .mapper) b in
-    let ks = letInAll c (mapperAfter c (w .state .mapper) b) bs in
-    let e : letInAll (u .state .cartridge) (u .state .mapper) bs ≡ ks = rw (m .stays .cartridge, m .mapper) in
+    let c = w .state .core .cartridge in
+    let k = letIn c (w .state .core .mapper) b in
+    let ks = letInAll c (mapperAfter c (w .state .core .mapper) b) bs in
+    let e : letInAll (u .state .core .cartridge) (u .state .core .mapper) bs ≡ ks = rw (m .stays .cartridge, m .mapper) in
     record {
       stays = stays-trans (m .stays) (l .stays);
       mapper = l .mapper ∙ rw (m .stays .cartridge, m .mapper);

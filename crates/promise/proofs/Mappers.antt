@@ -3,13 +3,11 @@ use mathlib.Core.Path.{_≡_, refl, _∙_}
 use mathlib.Core.Bool.{cond}
 use Prim.Native.Nat.{ℕ, zero, suc, _+_, _-_, _<_, _≤_}
 use native.Mathlib.Omega.{arith}
-use lib.Dec.{eqb, ltb}
+use lib.Dec.{ltb}
 use lib.ListN.{length, set}
 use borrow.Author.Tests.{ltb-true, ltb-false}
-use Rattle.hdma.specs.Hdma.{destinationUsed, starts}
+use Rattle.hdma.specs.Hdma.{destinationUsed}
 use Rattle.hdma.specs.declared.Hdma.{Hdma}
-use Rattle.hdma.specs.declared.Start.{Start}
-use Rattle.hdma.specs.declared.Start.the-variants as start
 use Rattle.mbc.specs.Mbc.{answer}
 use Rattle.mbc.specs.declared.mbc.Answer.{Answer}
 use Rattle.mbc.specs.declared.mbc.Answer.the-variants.{Stored, NotStored}
@@ -19,13 +17,14 @@ use Rattle.mmu.specs.PanDocs.{echo}
 use Rattle.mmu.specs.Access.{saved, savePut, putAt, put}
 use Rattle.mmu.specs.Write.{copyBy, transferred, writeAt}
 use Rattle.registers.proofs.Kept.{oam-kept, write-kept, finished-kept}
-use Rattle.registers.specs.Transfers.{oamCopy, blockCopy, generalCopy, startedCopy, startCopy, copyOf, nothing}
+use Rattle.registers.proofs.Starts.{by-copy}
+use Rattle.registers.specs.Transfers.{oamCopy, blockCopy, generalCopy, copyOf, nothing}
 use Rattle.registers.specs.declared.transfers.Copy.{Copy}
 use Rattle.rules.proofs.Tests.{by-cond, cond-both}
-use Rattle.savelog.specs.Log.{width}
+use Rattle.savelog.specs.Log.{full}
 
 abbrev pub SameMapper : World → World → Type 0
-SameMapper w u = u .state .mapper ≡ w .state .mapper
+SameMapper w u = u .state .core .mapper ≡ w .state .core .mapper
 
 -- one byte
 
@@ -43,8 +42,8 @@ saved-mapper w NotStored = refl
 pub save-mapper : (w : World) (i v : ℕ) → SameMapper w (savePut w i v)
 unfolding savePut
 save-mapper w i v =
-    cond-both (SameMapper w) (ltb (length (w .log)) (w .state .used + width)) refl
-    (saved-mapper w (answer (w .state .cartridge) (w .state .mapper) i v))
+    cond-both (SameMapper w) (full (length (w .log)) (w .state .core .used) 1) refl
+    (saved-mapper w (answer (w .state .core .cartridge) (w .state .core .mapper) i v))
 
 put-at-mapper : (w : World) (i v : ℕ) → 0x8000 ≤ i → SameMapper w (putAt w i v)
 unfolding putAt
@@ -78,22 +77,13 @@ unfolding destinationUsed
 destination-least h = omega arith
 
 pub block-high : (m : Memory) → High (blockCopy m)
-block-high m k h = omega (arith, destination-least (m .hdma))
+block-high m k h = omega (arith, destination-least (m .core .hdma))
 
 general-high : (m : Memory) (v : ℕ) → High (generalCopy m v)
-general-high m v k h = omega (arith, destination-least (m .hdma))
-
-started-high : (m : Memory) (v : ℕ) (s : Start) → High (startedCopy m v s)
-started-high m v start.Nothing = none-high
-started-high m v start.Block = block-high m
-started-high m v start.General = general-high m v
+general-high m v k h = omega (arith, destination-least (m .core .hdma))
 
 pub copy-high : (m : Memory) (index v : ℕ) → High (copyOf m index v)
-unfolding copyOf startCopy
-copy-high m index v =
-    cond-both High (eqb index 0xFF46) (oam-high v)
-    (cond-both High (eqb index 0xFF55) (cond-both High (m .banks .colour) (started-high m v (starts (m .hdma .on) (m .lcd .mode) v)) none-high)
-    none-high)
+copy-high m index v = by-copy High m index v none-high (oam-high v) (block-high m) (general-high m v)
 
 -- so transfers
 

@@ -1,7 +1,7 @@
 -- A bus on which every call can be made refuses a write whose lent lengths are right for want of room alone, and no clearing.
 use mathlib.Core.Bool.{Bool, true, false, cond, _&&_, _||_}
 use mathlib.Core.Path.{_≡_, refl}
-use Prim.Native.Nat.{ℕ, _+_}
+use Prim.Native.Nat.{ℕ, _+_, _*_}
 use native.Mathlib.Omega.{arith}
 use lib.Dec.{ltb}
 use lib.ListN.{length}
@@ -17,12 +17,12 @@ use Rattle.promise.specs.Promise.{free}
 use Rattle.promise.proofs.Bus.{orElse, eitherInSave, byteRoom, wordRoom, changed, unless, stateStep}
 
 -- what is free is what is not used
-free-room : (w : World) → Good w → (n : ℕ) → ltb (length (w .log)) (w .state .used + n) ≡ ltb (free w) n
+free-room : (w : World) → Good w → (n : ℕ) → ltb (length (w .log)) (w .state .core .used + n) ≡ ltb (free w) n
 free-room w g n = by-test (ltb (free w) n) refl
   where
-    by-test : (b : Bool) → ltb (free w) n ≡ b → ltb (length (w .log)) (w .state .used + n) ≡ b
-    by-test true e = lt-ltb (length (w .log)) (w .state .used + n) (omega (arith, ltb-true (free w) n e, good-use g .1))
-    by-test false e = le-ltb (length (w .log)) (w .state .used + n) (omega (arith, ltb-false (free w) n e, good-use g .1))
+    by-test : (b : Bool) → ltb (free w) n ≡ b → ltb (length (w .log)) (w .state .core .used + n) ≡ b
+    by-test true e = lt-ltb (length (w .log)) (w .state .core .used + n) (omega (arith, ltb-true (free w) n e, good-use g .1))
+    by-test false e = le-ltb (length (w .log)) (w .state .core .used + n) (omega (arith, ltb-false (free w) n e, good-use g .1))
 
 -- 4 comes before 2
 room-number : (f b : Bool) (w : World) (o : Outcome)
@@ -34,7 +34,7 @@ room-number false b w o = refl
 
 module _ (w : World) (g : Good w) (x : Fixed) where
   abbrev lentRight : Bool
-  lentRight = fits (w .state .cartridge) x
+  lentRight = fits (w .state .core .cartridge) x
 
   pub byte-number : (i v : ℕ)
       → step x w (call.WriteByte i v) .number ≡ cond lentRight (cond (inSave i && ltb (free w) width) noRoom (byteOwed i)) wrongLength
@@ -43,11 +43,11 @@ module _ (w : World) (g : Good w) (x : Fixed) where
 
   pub word-number : (i v : ℕ)
       → step x w (call.WriteWord i v) .number
-      ≡ cond lentRight (cond ((inSave i || inSave (nextIndex i)) && ltb (free w) (width + width)) noRoom (wordOwed i)) wrongLength
+      ≡ cond lentRight (cond ((inSave i || inSave (nextIndex i)) && ltb (free w) (2 * width)) noRoom (wordOwed i)) wrongLength
   unfolding step wordRoom eitherInSave
   word-number i v =
-      rw (write-number w g x, free-room w g (width + width))
-      (room-number lentRight ((inSave i || inSave (nextIndex i)) && ltb (free w) (width + width)) w _)
+      rw (write-number w g x, free-room w g (2 * width))
+      (room-number lentRight ((inSave i || inSave (nextIndex i)) && ltb (free w) (2 * width)) w _)
 
   pub clear-number : step x w (call.State on.ClearLog) .number ≡ done
   unfolding step stateStep changed

@@ -5,7 +5,8 @@ use Prim.Native.Nat.{ℕ}
 use Rattle.dispatch.proofs.Open.{Good}
 use Rattle.memory.specs.World.{World}
 use Rattle.savelog.proofs.Prefix.{applyAll-append}
-use Rattle.savelog.specs.Log.{Rec, applyAll, joined}
+use Rattle.savelog.specs.Log.{applyAll, joined}
+use Rattle.savelog.specs.declared.Rec.{Rec}
 use Rattle.promise.specs.Admitted.{granted, grantedAll, admittedBy, letInAll, recordsOf}
 use Rattle.promise.specs.Runs.{Turn, calls, made, run, usedBytes, numbers, copiedBefore, copiesFrom}
 use Rattle.promise.specs.Bus.{kindOf}
@@ -14,11 +15,11 @@ use Rattle.promise.proofs.Steps.{Moved, moved}
 
 -- the admitted writes on any bus
 abbrev pub admittedFrom : World → List Turn → List Rec
-admittedFrom w ts = admittedBy (w .state .cartridge) (w .state .mapper) (numbers w ts) (calls ts)
+admittedFrom w ts = admittedBy (w .state .core .cartridge) (w .state .core .mapper) (numbers w ts) (calls ts)
 
 -- what the first call stores
 abbrev pub first : World → Turn → List Rec
-first w t = letInAll (w .state .cartridge) (w .state .mapper) (granted (made w t .number) (t .call))
+first w t = letInAll (w .state .core .cartridge) (w .state .core .mapper) (granted (made w t .number) (t .call))
 
 pub made-moved : (w : World) → Good w → (t : Turn) → Moved w (t .call) (made w t)
 made-moved w g t = moved (t .read) w g (t .call)
@@ -28,7 +29,7 @@ unfolding run
 run-good w [] g = g
 run-good w (t ∷ ts) g = run-good (made w t .after) ts (made-moved w g t .good)
 
-pub run-cartridge : (w : World) (ts : List Turn) → Good w → run w ts .state .cartridge ≡ w .state .cartridge
+pub run-cartridge : (w : World) (ts : List Turn) → Good w → run w ts .state .core .cartridge ≡ w .state .core .cartridge
 unfolding run
 run-cartridge w [] g = refl
 run-cartridge w (t ∷ ts) g = let m = made-moved w g t in run-cartridge (made w t .after) ts (m .good) ∙ m .cartridge
@@ -37,7 +38,7 @@ pub admitted-more : (w : World) → Good w → (t : Turn) (ts : List Turn) → a
 unfolding numbers grantedAll
 admitted-more w g t ts =
     let m = made-moved w g t in
-    rw (let-append (w .state .cartridge) (w .state .mapper) (granted (made w t .number) (t .call)) _, ← m .mapper, m .cartridge)
+    rw (let-append (w .state .core .cartridge) (w .state .core .mapper) (granted (made w t .number) (t .call)) _, ← m .mapper, m .cartridge)
 
 pub run-save : (w : World) (ts : List Turn) → Good w → run w ts .save ≡ applyAll (w .save) (admittedFrom w ts)
 unfolding run numbers grantedAll letInAll applyAll

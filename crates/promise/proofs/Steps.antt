@@ -33,11 +33,11 @@ use Rattle.promise.proofs.Lists.{mappersAfter, Quiet, quiet-refl, Made,
 
 pub record Moved (w : World) (c : Call) (o : Outcome) : Type 0 where
   pub good : Good (o .after)
-  pub cartridge : o .after .state .cartridge ≡ w .state .cartridge
-  pub mapper : o .after .state .mapper ≡ mappersAfter (w .state .cartridge) (w .state .mapper) (granted (o .number) c)
-  pub save : o .after .save ≡ applyAll (w .save) (letInAll (w .state .cartridge) (w .state .mapper) (granted (o .number) c))
+  pub cartridge : o .after .state .core .cartridge ≡ w .state .core .cartridge
+  pub mapper : o .after .state .core .mapper ≡ mappersAfter (w .state .core .cartridge) (w .state .core .mapper) (granted (o .number) c)
+  pub save : o .after .save ≡ applyAll (w .save) (letInAll (w .state .core .cartridge) (w .state .core .mapper) (granted (o .number) c))
   pub log : joined (copiedBefore (kindOf c) (o .number) w) ++ usedBytes (o .after)
-      ≡ usedBytes w ++ recordsOf (letInAll (w .state .cartridge) (w .state .mapper) (granted (o .number) c))
+      ≡ usedBytes w ++ recordsOf (letInAll (w .state .core .cartridge) (w .state .core .mapper) (granted (o .number) c))
 
 -- a kind of call that clears nothing
 data NoClear : Kind → Type 0 where
@@ -144,20 +144,20 @@ module _ (w : World) (g : Good w) where
         moved-refused c n (rw (k, r)) r)
 
   -- a byte write
-  made-byte : (x : Fixed) (i v : ℕ) → (inSave i ≡ true → w .state .used + width ≤ length (w .log)) → Made (byte i v) w (writeAt x 2 w i v)
+  made-byte : (x : Fixed) (i v : ℕ) → (inSave i ≡ true → w .state .core .used + width ≤ length (w .log)) → Made (byte i v) w (writeAt x 2 w i v)
   made-byte x i v room =
       record { stays = write-stays x w holds 2 i v; mapper = write-after x w i v; stores = write-stores x w i v room }
 
 -- a word write: two byte writes
-left-word : (x : Fixed) (w : World) → Good w → (i v : ℕ) → wordRoom (w .state .used) (length (w .log)) i ≡ 0
+left-word : (x : Fixed) (w : World) → Good w → (i v : ℕ) → wordRoom (w .state .core .used) (length (w .log)) i ≡ 0
     → Left (byte i (v % 256) ∷ byte (nextIndex i) (v / 256) ∷ []) w (wordAt x w i v)
 unfolding wordAt
 left-word x w g i v room =
     let u = writeAt x 2 w i (v % 256) in
-    let a = made-byte w g x i (v % 256) (λ t. omega (arith, low-fits (w .state .used) (length (w .log)) i room t)) in
+    let a = made-byte w g x i (v % 256) (λ t. omega (arith, low-fits (w .state .core .used) (length (w .log)) i room t)) in
     let h = stays-good w u g (a .stays) in
     let b = made-byte u h x (nextIndex i) (v / 256)
-    (λ t. omega (arith, high-fits (w .state .used) (length (w .log)) i room t, a .stores .grown, a .stores .same)) in
+    (λ t. omega (arith, high-fits (w .state .core .used) (length (w .log)) i room t, a .stores .grown, a .stores .same)) in
     left-more a (left-more b (left-none _ _ (quiet-refl _ (b .stays .holds))))
 
 pub moved : (x : Fixed) (w : World) → Good w → (c : Call) → Moved w c (step x w c)
@@ -166,14 +166,14 @@ moved x w g (call.ReadByte i) = moved-read w g (call.ReadByte i) reading refl _ 
 moved x w g (call.ReadWord i) = moved-read w g (call.ReadWord i) reading refl _ _
 moved x w g (call.ReadCgbLcdRam i bank) = moved-read w g (call.ReadCgbLcdRam i bank) reading refl _ _
 moved x w g (call.WriteByte i v) =
-    let n = orElse (refusedWrite x w) (byteRoom (w .state .used) (length (w .log)) i) in
+    let n = orElse (refusedWrite x w) (byteRoom (w .state .core .used) (length (w .log)) i) in
     by-unless (Moved w (call.WriteByte i v)) n w _
     (λ z.
-    let a = made-byte w g x i v (byte-fits (w .state .used) (length (w .log)) i (both-pass (refusedWrite x w) _ z .1)) in
+    let a = made-byte w g x i v (byte-fits (w .state .core .used) (length (w .log)) i (both-pass (refusedWrite x w) _ z .1)) in
     moved-left w g (call.WriteByte i v) _ refl (rw (byte-done i)) (left-more a (left-none _ _ (quiet-refl _ (a .stays .holds)))))
     (λ h. moved-refused w g (call.WriteByte i v) n refl (byte-refusal x w i h))
 moved x w g (call.WriteWord i v) =
-    let n = orElse (refusedWrite x w) (wordRoom (w .state .used) (length (w .log)) i) in
+    let n = orElse (refusedWrite x w) (wordRoom (w .state .core .used) (length (w .log)) i) in
     by-unless (Moved w (call.WriteWord i v)) n w _
     (λ z. moved-left w g (call.WriteWord i v) _ refl (rw (word-done i)) (left-word x w g i v (both-pass (refusedWrite x w) _ z .1)))
     (λ h. moved-refused w g (call.WriteWord i v) n refl (word-refusal x w i h))

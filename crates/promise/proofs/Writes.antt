@@ -5,15 +5,13 @@ use mathlib.Core.Path.{_≡_, refl, ap, sym, _∙_}
 use Prim.Native.Nat.{ℕ, _+_, _<_, _≤_}
 use native.Mathlib.Omega.{arith}
 use lib.Dec.{ltb, leb}
-use lib.ListN.{length, take, drop, length-append}
-use lib.Seq.{take-at, length-take-le}
+use lib.ListN.{length}
 use borrow.Author.Tests.{ltb-true, ltb-false, leb-true, lt-ltb, le-ltb, le-leb}
 use Rattle.mbc.specs.Mbc.{answer}
 use Rattle.mbc.specs.declared.mbc.Mapper.{Mapper}
 use Rattle.mbc.specs.declared.mbc.Answer.{Answer}
 use Rattle.mbc.specs.declared.mbc.Answer.the-variants.{Stored, NotStored}
 use Rattle.memory.specs.World.{World, Fixed}
-use Rattle.mmu.proofs.Laws.{appended-length}
 use Rattle.mmu.proofs.Places.{put-rom}
 use Rattle.mmu.proofs.Saves.{Spares, put-spares, transfer-spares, copy-clear}
 use Rattle.mmu.specs.Access.{saved, savePut, put, putAt}
@@ -21,32 +19,21 @@ use Rattle.mmu.specs.PanDocs.{echo}
 use Rattle.mmu.specs.Write.{writeAt}
 use Rattle.registers.specs.Transfers.{copyOf}
 use Rattle.rules.proofs.Tests.{both-true, by-cond}
-use Rattle.savelog.specs.Log.{Rec, width, bytesOf, recordBytes, appended, applyAll}
+use Rattle.savelog.proofs.Use.{lacks-room, appended-length, used-more}
+use Rattle.savelog.specs.Log.{width, applyAll, full}
+use Rattle.savelog.specs.declared.Rec.{Rec}
 use Rattle.promise.specs.Bus.{inSave}
 use Rattle.promise.specs.Calls.{byte}
 use Rattle.promise.specs.Admitted.{mapperAfter, answered, letIn, recordsOf}
 use Rattle.promise.specs.Runs.{usedBytes}
 use Rattle.promise.proofs.Mappers.{put-mapper, transfer-mapper, copy-high}
 
--- A record more behind the used bytes
-
-pub record-length : (at v : ℕ) → length (recordBytes at v) ≡ width
-unfolding recordBytes bytesOf
-record-length at v = refl
-
-used-more : (l : List ℕ) (u at v : ℕ) → u + width ≤ length l → take (u + width) (appended l u at v) ≡ take u l ++ (recordBytes at v ++ [])
-unfolding appended
-used-more l u at v h =
-    let t : length (take u l) ≡ u = length-take-le u l (omega arith) in
-    let j : length (take u l ++ recordBytes at v) ≡ u + width = rw (length-append, t, record-length at v) in
-    rw (take-at (take u l ++ recordBytes at v) (drop (u + width) l) (u + width) j, append-nil)
-
 -- One byte write from w to u: `w` gives the mapper, `rs` is what it lets in
 
 pub record Stores (rs : List Rec) (w u : World) : Type 0 where
   pub save : u .save ≡ applyAll (w .save) rs
   pub log : usedBytes u ≡ usedBytes w ++ recordsOf rs
-  pub grown : u .state .used ≤ w .state .used + width
+  pub grown : u .state .core .used ≤ w .state .core .used + width
   pub same : length (u .log) ≡ length (w .log)
 
 stores-none : (w u : World) → Spares w u → Stores [] w u
@@ -59,14 +46,14 @@ stores-none w u s =
       same = rw (s .log);
     }
 
-saved-stores : (w : World) (a : Answer) → w .state .used + width ≤ length (w .log) → Stores (answered a) w (saved a w)
+saved-stores : (w : World) (a : Answer) → w .state .core .used + width ≤ length (w .log) → Stores (answered a) w (saved a w)
 unfolding applyAll recordsOf
 saved-stores w (Stored at v) h =
     record {
       save = refl;
-      log = used-more (w .log) (w .state .used) at v h;
+      log = rw append-nil (used-more (w .log) (w .state .core .used) at v h);
       grown = omega arith;
-      same = appended-length (w .log) (w .state .used) at v h;
+      same = appended-length (w .log) (w .state .core .used) at v h;
     }
 saved-stores w NotStored h = stores-none w w (record { save = refl; log = refl; used = refl })
 
@@ -107,30 +94,30 @@ echo-low i h = rw (lt-ltb i 0xE000 (omega arith))
 
 module _ (w : World) (i v : ℕ) where
   abbrev lets : List Rec
-  lets = letIn (w .state .cartridge) (w .state .mapper) (byte i v)
+  lets = letIn (w .state .core .cartridge) (w .state .core .mapper) (byte i v)
 
-  save-stores : w .state .used + width ≤ length (w .log)
-      → Stores (answered (answer (w .state .cartridge) (w .state .mapper) i v)) w (savePut w i v)
+  save-stores : w .state .core .used + width ≤ length (w .log)
+      → Stores (answered (answer (w .state .core .cartridge) (w .state .core .mapper) i v)) w (savePut w i v)
   unfolding savePut
   save-stores h =
-      let a = answer (w .state .cartridge) (w .state .mapper) i v in
-      by-cond (Stores (answered a) w) (ltb (length (w .log)) (w .state .used + width)) w (saved a w)
-      (λ t. absurd (omega (arith, ltb-true (length (w .log)) (w .state .used + width) t))) (λ f. saved-stores w a h)
+      let a = answer (w .state .core .cartridge) (w .state .core .mapper) i v in
+      by-cond (Stores (answered a) w) (full (length (w .log)) (w .state .core .used) 1) w (saved a w)
+      (λ t. absurd (omega (arith, lacks-room (length (w .log)) (w .state .core .used) 1 t))) (λ f. saved-stores w a h)
 
-  put-stores : (inSave i ≡ true → w .state .used + width ≤ length (w .log)) → Stores lets w (put w i v)
+  put-stores : (inSave i ≡ true → w .state .core .used + width ≤ length (w .log)) → Stores lets w (put w i v)
   unfolding letIn
   put-stores room =
       by-cond (λ (rs : List Rec). Stores rs w (put w i v)) (inSave i) _ []
       (λ t. let b = in-save-true i t in rw (put-in-save w i v (b .0) (b .1)) (save-stores (room t)))
       (λ f. stores-none w (put w i v) (put-spares w i v (in-save-false i f)))
 
-  put-after : put w i v .state .mapper ≡ mapperAfter (w .state .cartridge) (w .state .mapper) (byte i v)
+  put-after : put w i v .state .core .mapper ≡ mapperAfter (w .state .core .cartridge) (w .state .core .mapper) (byte i v)
   unfolding mapperAfter
   put-after =
-      by-cond (λ (m : Mapper). put w i v .state .mapper ≡ m) (ltb i 0x8000) _ _
+      by-cond (λ (m : Mapper). put w i v .state .core .mapper ≡ m) (ltb i 0x8000) _ _
       (λ t.
       let h = ltb-true i 0x8000 t in
-      ap (λ (u : World). u .state .mapper) (sym (put-rom w i i v (echo-low i h) h refl)))
+      ap (λ (u : World). u .state .core .mapper) (sym (put-rom w i i v (echo-low i h) h refl)))
       (λ f. put-mapper w i v (ltb-false i 0x8000 f))
 
 -- with it
@@ -140,9 +127,9 @@ module _ (x : Fixed) (w : World) (i v : ℕ) where
   unfolding writeAt
   write-spared = transfer-spares x 1 (copyOf (w .state) i v) (copy-clear (w .state) i v) v (put w i v)
 
-  pub write-stores : (inSave i ≡ true → w .state .used + width ≤ length (w .log)) → Stores (lets w i v) w (writeAt x 2 w i v)
+  pub write-stores : (inSave i ≡ true → w .state .core .used + width ≤ length (w .log)) → Stores (lets w i v) w (writeAt x 2 w i v)
   write-stores room = stores-spared _ _ _ _ (put-stores w i v room) write-spared
 
-  pub write-after : writeAt x 2 w i v .state .mapper ≡ mapperAfter (w .state .cartridge) (w .state .mapper) (byte i v)
+  pub write-after : writeAt x 2 w i v .state .core .mapper ≡ mapperAfter (w .state .core .cartridge) (w .state .core .mapper) (byte i v)
   unfolding writeAt
   write-after = transfer-mapper x 1 (copyOf (w .state) i v) (copy-high (w .state) i v) v (put w i v) ∙ put-after w i v

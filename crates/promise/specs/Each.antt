@@ -14,7 +14,7 @@ use Rattle.promise.specs.Calls.{ByteWrite, writesOf}
 pub record Untouched (w u : World) : Type 0 where
   pub save : u .save ≡ w .save
   pub log : u .log ≡ w .log
-  pub used : u .state .used ≡ w .state .used
+  pub used : u .state .core .used ≡ w .state .core .used
 
 -- No transfer writes a save byte or a log byte: not the two calls, and not what a byte write starts, wherever it is (`put` is the byte alone)
 abbrev pub TransferPromise : Type 0
@@ -35,4 +35,4 @@ OutsidePromise =
     → reaches (writesOf c) ≡ false
     → (step x w c .after .save ≡ w .save)
     × (step x w c .after .log ≡ w .log)
-    × ((kindOf c ≡ Clearing → ⊥) → step x w c .after .state .used ≡ w .state .used)
+    × ((kindOf c ≡ Clearing → ⊥) → step x w c .after .state .core .used ≡ w .state .core .used)

@@ -2,13 +2,13 @@
 use mathlib.Core.Bool.{cond, _&&_, _||_}
 use mathlib.Core.List.{List, [], _∷_, _++_}
 use mathlib.Core.Path.{_≡_}
-use Prim.Native.Nat.{ℕ, _-_, _/_, _%_, _<_, _≤_}
+use Prim.Native.Nat.{ℕ, _-_, _*_, _/_, _%_, _<_, _≤_}
 use lib.Dec.{ltb}
 use lib.ListN.{length, take}
 use Rattle.mbc.specs.Mbc.{cartridgeOf, start as mapperOf}
 use Rattle.memory.specs.World.{World, Fixed}
 use Rattle.numbers.specs.Numbers.{done, noRoom, wrongLength}
-use Rattle.savelog.specs.Log.{stored, records, applyAll, recovery, recoverAll, joined, cutCopies}
+use Rattle.savelog.specs.Log.{width, stored, records, applyAll, recovery, recoverAll, joined, cutCopies}
 use Rattle.promise.specs.Bus.{inSave, nextIndex, byteOwed, wordOwed, step, Call, Lent, start, fits}
 use Rattle.promise.specs.Bus.call as call
 use Rattle.promise.specs.Bus.on as on
@@ -32,7 +32,7 @@ Recovers save (c ∷ cs) = (recovery save c .number ≡ done) × Recovers (recov
 
 -- the bytes of the log that are free
 abbrev pub free : World → ℕ
-free w = length (w .log) - w .state .used
+free w = length (w .log) - w .state .core .used
 
 pub record Kept (l : Lent) (ts : List Turn) : Type 0 where
   -- "The save is that image with exactly those byte writes applied"
@@ -45,7 +45,7 @@ pub record Kept (l : Lent) (ts : List Turn) : Type 0 where
   pub first : (n : ℕ) → joined (cutCopies n (copies l ts)) ≡ take n (joined (copies l ts))
   -- "recovery over the image, copy by copy, gives the save as it stood right after the last write whose record is whole, or the image if none is"
   pub cut : Typed (calls ts) → (n : ℕ)
-      → recoverAll (l .image) (cutCopies n (copies l ts)) ≡ applyAll (l .image) (take (n / 3) (admitted l ts))
+      → recoverAll (l .image) (cutCopies n (copies l ts)) ≡ applyAll (l .image) (take (n / width) (admitted l ts))
   pub recovers : Typed (calls ts) → (n : ℕ) → Recovers (l .image) (cutCopies n (copies l ts))
   -- for so it stood: if other calls follow, the writes of these come first among the admitted ones
   pub stood : (later : List Turn) → after l ts .save ≡ applyAll (l .image) (take (length (admitted l ts)) (admitted l (ts ++ later)))
@@ -53,14 +53,14 @@ pub record Kept (l : Lent) (ts : List Turn) : Type 0 where
   -- A000..BFFF, under 3 log bytes free; word write with either index there, under 6 free"; and no clearing at all
   pub bytes : (x : Fixed) (i v : ℕ)
       → step x (after l ts) (call.WriteByte i v) .number
-      ≡ cond (fits (cartridgeOf (l .banks) (l .code)) x) (cond (inSave i && ltb (free (after l ts)) 3) noRoom (byteOwed i)) wrongLength
+      ≡ cond (fits (cartridgeOf (l .banks) (l .code)) x) (cond (inSave i && ltb (free (after l ts)) width) noRoom (byteOwed i)) wrongLength
   pub words : (x : Fixed) (i v : ℕ)
       → step x (after l ts) (call.WriteWord i v) .number
       ≡ cond (fits (cartridgeOf (l .banks) (l .code)) x)
-      (cond ((inSave i || inSave (nextIndex i)) && ltb (free (after l ts)) 6) noRoom (wordOwed i)) wrongLength
+      (cond ((inSave i || inSave (nextIndex i)) && ltb (free (after l ts)) (2 * width)) noRoom (wordOwed i)) wrongLength
   pub clears : (x : Fixed) → step x (after l ts) (call.State on.ClearLog) .number ≡ done
   -- what is used of the log is whole records, and lies within it
-  pub within : (after l ts .state .used % 3 ≡ 0) × (after l ts .state .used ≤ length (after l ts .log))
+  pub within : (after l ts .state .core .used % width ≡ 0) × (after l ts .state .core .used ≤ length (after l ts .log))
 
 -- "Take a fresh bus over a save image and any list of bus calls"
 abbrev pub Promise : Type 0

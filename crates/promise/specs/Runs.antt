@@ -8,7 +8,8 @@ use lib.ListN.{length, take}
 use Rattle.mbc.specs.Mbc.{romLen, ramLen, described, cartridgeOf, start as mapperOf}
 use Rattle.memory.specs.Ranges.{vramLen, wramLen}
 use Rattle.memory.specs.World.{World, Fixed}
-use Rattle.savelog.specs.Log.{Rec}
+use Rattle.savelog.specs.Log.{logLimit}
+use Rattle.savelog.specs.declared.Rec.{Rec}
 use Rattle.promise.specs.Bus.{Outcome, step, Call, refused, Kind, Reading, Clearing, Other, kindOf, Lent, begin}
 use Rattle.promise.specs.Admitted.{admittedBy}
 
@@ -20,7 +21,7 @@ pub record Fitting (l : Lent) : Type 0 where
   pub vram : length (l .vram) ≡ vramLen (l .colour)
   pub wram : length (l .wram) ≡ wramLen (l .colour)
   pub image : length (l .image) ≡ ramLen (cartridgeOf (l .banks) (l .code)) (mapperOf (l .kind))
-  pub log : length (l .log) ≤ 65535
+  pub log : length (l .log) ≤ logLimit
   pub sound : length (l .sound) ≡ 48
 
 -- "any list of bus calls, refused ones too, each on the state and buffers the last one left". Each call is lent its own ROM and sound window for reading,
@@ -55,7 +56,7 @@ admitted l ts = admittedBy (cartridgeOf (l .banks) (l .code)) (mapperOf (l .kind
 -- "The log's used bytes are copied off before each clearing and at the end": a clearing that is refused clears nothing, and nothing is copied
 
 abbrev pub usedBytes : World → List ℕ
-usedBytes w = take (w .state .used) (w .log)
+usedBytes w = take (w .state .core .used) (w .log)
 
 abbrev pub copiedBefore : Kind → ℕ → World → List (List ℕ)
 copiedBefore Reading n w = []

@@ -12,7 +12,6 @@ use Rattle.dispatch.specs.declared.Call.the-variants as call
 use Rattle.image.proofs.OpenLaws.{load-range, load-oam, load-page, open-number, open-core}
 use Rattle.image.specs.Load.{loadCall, openCall}
 use Rattle.image.specs.declared.Opened.{Opened}
-use Rattle.memory.specs.Ranges.{coreOf}
 use Rattle.memory.specs.World.{world, Fixed}
 use Rattle.memory.specs.declared.Core.{Core}
 use Rattle.mmu.proofs.Places.{ready-reaches, read-lent, read-oam, read-register}
@@ -21,7 +20,7 @@ use Rattle.mmu.specs.PanDocs.{echo}
 use Rattle.packing.specs.Packing.{Below}
 use Rattle.refusals.proofs.Answers.{both-pass, refused-byte, refused-word, accepted-byte, accepted-word}
 use Rattle.refusals.proofs.Core.{read-lengths}
-use Rattle.refusals.specs.Refusal.{orElse, readRefused, refusedRead, coreLengthsRefused}
+use Rattle.refusals.specs.Refusal.{orElse, readRefused, refusedRead, lengthsRefused}
 use Rattle.registers.specs.Page.{shownAs, readRegister}
 use Rattle.entry.specs.Entry.{given, readEntry}
 use Rattle.entry.proofs.Entries.{unloaded-read, byte-read, word-read}
@@ -38,18 +37,18 @@ module _ (i : List ℕ) {o : Opened} (e : o ≡ openCall i) where
     unfolding orElse
     number-closed h = open-number i e ∙ rw (ne-eqb (loadCall i .number) 0 (λ z. h (open-number i e ∙ z)))
 
-    pub number-lengths : o .number ≡ 0 → Below 256 i → {n : ℕ} → n ≡ coreLengthsRefused (o .core) rom vram wram save sound → Number n
+    pub number-lengths : o .number ≡ 0 → Below 256 i → {n : ℕ} → n ≡ lengthsRefused (o .core) rom vram wram save sound → Number n
     unfolding orElse
     number-lengths z b f =
         let k : loadCall i .number ≡ 0 = sym (open-number i e) ∙ z in
         f
-        ∙ ap (λ (c : Core). coreLengthsRefused c rom vram wram save sound) (open-core i e)
+        ∙ ap (λ (c : Core). lengthsRefused c rom vram wram save sound) (open-core i e)
         ∙ sym (read-lengths (loadCall i .state) (load-range i k b) rom vram wram save sound)
         ∙ rw k
 
 -- the byte
 
-module _ (x : Fixed) (i v w s : List ℕ) {c : Core} (e : c ≡ coreOf (loadCall i .state)) where
+module _ (x : Fixed) (i v w s : List ℕ) {c : Core} (e : c ≡ loadCall i .state .core) where
   pub core-reaches : Ready x (world (loadCall i .state) v w s []) → Reaches (c .cartridge) (c .mapper) (c .banks) (x .rom) v w s
   core-reaches r = rw e (ready-reaches r)
 

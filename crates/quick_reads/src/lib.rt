@@ -4,7 +4,6 @@ ghost use mathlib.Core.Path.{_≡_};
 ghost use lib.ListN.{length};
 ghost use Rattle.dispatch.specs.declared.Call.the-variants.{ReadByte, ReadWord};
 ghost use Rattle.image.specs.Load.{loadCall};
-ghost use Rattle.memory.specs.Ranges.{coreOf};
 ghost use Rattle.memory.specs.World.{world, fixed};
 ghost use Rattle.mmu.specs.Access.{Ready, readByte};
 ghost use Rattle.refusals.specs.Refusal.{orElse, readRefused};
@@ -23,14 +22,14 @@ fn open_lent(
     save: usize,
     sound: usize,
 ) -> Opened
-    ensures { λ r. ⌜ (r .number ≡ orElse (loadCall (now (image .entry)) .number) (readRefused (loadCall (now (image .entry)) .state) rom vram wram save sound)) × (r .core ≡ coreOf (loadCall (now (image .entry)) .state)) ⌝ }
+    ensures { λ r. ⌜ (r .number ≡ orElse (loadCall (now (image .entry)) .number) (readRefused (loadCall (now (image .entry)) .state) rom vram wram save sound)) × (r .core ≡ loadCall (now (image .entry)) .state .core) ⌝ }
 {
     let opened = image::open(image);
-    if opened.number != 0 {
+    if opened.number != numbers::DONE {
         return opened;
     }
     let core = opened.core;
-    let number = refusals::core_lengths_refused(core, rom, vram, wram, save, sound);
+    let number = refusals::lengths_refused(core, rom, vram, wram, save, sound);
     Opened {
         number: number,
         core: core,
@@ -48,7 +47,7 @@ fn byte_at(
     sound: &[u8],
     index: u16,
 ) -> u8
-    requires { ⌜ ((loadCall (now image) .number ≡ 0) × (core ≡ coreOf (loadCall (now image) .state))) × Ready (fixed (now rom) (now sound)) (world (loadCall (now image) .state) (now vram) (now wram) (now save) []) ⌝ }
+    requires { ⌜ ((loadCall (now image) .number ≡ 0) × (core ≡ loadCall (now image) .state .core)) × Ready (fixed (now rom) (now sound)) (world (loadCall (now image) .state) (now vram) (now wram) (now save) []) ⌝ }
     ensures { λ r. ⌜ r ≡ readByte (fixed (now (rom .entry)) (now (sound .entry))) (loadCall (now (image .entry)) .state) (now (vram .entry)) (now (wram .entry)) (now (save .entry)) index ⌝ }
 {
     let at = mmu::regions::lowered(index);
@@ -94,7 +93,7 @@ pub fn read_byte(
         save.len(),
         sound.len(),
     );
-    if opened.number != 0 {
+    if opened.number != numbers::DONE {
         return Byte {
             number: opened.number,
             value: 0,
@@ -128,7 +127,7 @@ pub fn read_word(
         save.len(),
         sound.len(),
     );
-    if opened.number != 0 {
+    if opened.number != numbers::DONE {
         return Word {
             number: opened.number,
             value: 0,

@@ -15,7 +15,7 @@ use Rattle.image.proofs.LoadedPatches.{loaded-typed}
 use Rattle.image.proofs.OpenLaws.{load-length, load-range, load-image, load-page, open-number, open-core}
 use Rattle.image.proofs.PatchLaws.{slim, mapping-image, page-image, clock-image, typed-bytes, storable-bytes, bytes-set}
 use Rattle.image.specs.Laws.{Typed}
-use Rattle.image.specs.Layout.{imageOf}
+use Rattle.image.specs.Layout.{imageLen, imageOf}
 use Rattle.image.specs.Load.{storable, loadCall, openCall}
 use Rattle.image.specs.Patches.{Slim, mappingPut, clockPut}
 use Rattle.image.specs.declared.Opened.{Opened}
@@ -26,7 +26,7 @@ use Rattle.interrupt.specs.declared.Interrupt.{Interrupt}
 use Rattle.interrupt.specs.declared.Pending.{Pending}
 use Rattle.interrupt.specs.declared.Pending.the-variants.{Some, None}
 use Rattle.memory.proofs.Laws.{clock-range, range-clock}
-use Rattle.memory.specs.Ranges.{stateInRange, inRange, coreOf}
+use Rattle.memory.specs.Ranges.{stateInRange, inRange}
 use Rattle.memory.specs.World.{withClock, withUsed}
 use Rattle.memory.specs.declared.Clock.{Clock}
 use Rattle.memory.specs.declared.Core.{Core}
@@ -60,7 +60,7 @@ timer-ready m t h =
 clock-storable : (m : Memory) → storable m ≡ true → (c : Clock) → c .tima ≤ 1023 → storable (withClock m c (m .page)) ≡ true
 unfolding storable inRange
 clock-storable m h c k =
-    let b = both-true (stateInRange m) (useInRange (m .used) logLimit) h in
+    let b = both-true (stateInRange m) (useInRange (m .core .used) logLimit) h in
     rw (clock-range m (b .0) c (m .page) k, b .1)
 
 module _ (m : Memory) (t : Typed m) (h : storable m ≡ true) where
@@ -124,10 +124,10 @@ module _ (i : List ℕ) {o : Opened} (opened : o ≡ openCall i) (taken : o .num
   z : loadCall i .number ≡ 0
   z = sym (open-number i opened) ∙ taken
 
-  pub open-length : length i ≡ 665
+  pub open-length : length i ≡ imageLen
   open-length = load-length i z
 
-  clock : o .core .clock ≡ state .clock
+  clock : o .core .clock ≡ state .core .clock
   clock = ap (λ (c : Core). c .clock) (open-core i opened)
 
   typed : Typed state
@@ -219,10 +219,10 @@ module _ (i : List ℕ) {o : Opened} (opened : o ≡ openCall i) (taken : o .num
   pub hdma-given : {v : ℕ} → v ≡ flagNumber (o .core .hdma .on) → given 0 v ≡ askEntry i on.IsHdmaEnabled
   unfolding stateStep answer.flagGiven
   hdma-given {v} e =
-      let h : o .core .hdma .on ≡ state .hdma .on = ap (λ (c : Core). c .hdma .on) (open-core i opened) in
+      let h : o .core .hdma .on ≡ state .core .hdma .on = ap (λ (c : Core). c .hdma .on) (open-core i opened) in
       asked i {d = loadCall i} refl z on.IsHdmaEnabled {p = performed 0 v state} (rw (e, h, passes))
 
-  mapper : o .core .mapper ≡ state .mapper
+  mapper : o .core .mapper ≡ state .core .mapper
   mapper = ap (λ (c : Core). c .mapper) (open-core i opened)
 
   pub mapper-slim : Slim (o .core .mapper)
@@ -231,6 +231,6 @@ module _ (i : List ℕ) {o : Opened} (opened : o ≡ openCall i) (taken : o .num
   pub log-cleared : {u : ℕ} → u ≡ clearedUse → {j : List ℕ} → j ≡ mappingPut i (o .core .mapper) u → changed 0 j ≡ stateEntry i on.ClearLog
   unfolding stateStep answer.changed
   log-cleared e {j} g =
-      let q : j ≡ mappingPut (imageOf state) (state .mapper) 0 = rw (load-image i z below, ← mapper, ← e) g in
+      let q : j ≡ mappingPut (imageOf state) (state .core .mapper) 0 = rw (load-image i z below, ← mapper, ← e) g in
       done-state i {d = loadCall i} refl z on.ClearLog {p = performed 0 0 (withUsed state 0)} (rw passes) (omega arith)
-      (q ∙ mapping-image state typed held (state .mapper) 0 (cleared state held))
+      (q ∙ mapping-image state typed held (state .core .mapper) 0 (cleared state held))

@@ -7,10 +7,11 @@ ghost use Prim.Native.Nat.{_<_};
 ghost use lib.ListN.{length};
 ghost use Rattle.dispatch.specs.declared.StateCall.the-variants.{UpdateTimer};
 ghost use Rattle.entry.specs.Entry.{changed, stateEntry};
+ghost use Rattle.image.specs.Layout.{imageLen};
 ghost use Rattle.quick_state.specs.InPlace.{timerIn, timerPut};
 
 fn timer_at(image: &[u8], clock: Clock) -> Timer
-    requires { ⌜ length (now image) ≡ 665 ⌝ }
+    requires { ⌜ length (now image) ≡ imageLen ⌝ }
     ensures { λ r. ⌜ r ≡ timerIn (now (image .entry)) clock ⌝ }
 {
     Timer {
@@ -25,7 +26,7 @@ fn timer_at(image: &[u8], clock: Clock) -> Timer
 }
 
 fn put_timer(image: &mut [u8], timer: Timer)
-    requires { ⌜ (length (now image) ≡ 665) × (timer .«tima_cycles» < 1024) ⌝ }
+    requires { ⌜ (length (now image) ≡ imageLen) × (timer .«tima_cycles» < 1024) ⌝ }
     ensures { λ _. ⌜ now (image .exit) ≡ timerPut (now (image .entry)) timer ⌝ }
 {
     image[0x104] = timer.div;
@@ -43,11 +44,11 @@ pub fn update_timer(image: &mut [u8], cycles: u32) -> u8
     ensures { λ r. ⌜ changed r (now (image .exit)) ≡ stateEntry (now (image .entry)) (UpdateTimer cycles) ⌝ }
 {
     let opened = image::open(image);
-    if opened.number != 0 {
+    if opened.number != numbers::DONE {
         return opened.number;
     }
     let number = refusals::cycles_refused(cycles);
-    if number != 0 {
+    if number != numbers::DONE {
         return number;
     }
     let core = opened.core;

@@ -15,7 +15,7 @@ pub fn is_hdma_enabled(image: &[u8]) -> Given
     ensures { λ r. ⌜ given (r .number) (r .value) ≡ askEntry (now (image .entry)) IsHdmaEnabled ⌝ }
 {
     let opened = image::open(image);
-    if opened.number != 0 {
+    if opened.number != numbers::DONE {
         return Given {
             number: opened.number,
             value: 0,
@@ -47,7 +47,7 @@ pub fn clear_log(image: &mut [u8]) -> u8
     ensures { λ r. ⌜ changed r (now (image .exit)) ≡ stateEntry (now (image .entry)) ClearLog ⌝ }
 {
     let opened = image::open(image);
-    if opened.number != 0 {
+    if opened.number != numbers::DONE {
         return opened.number;
     }
     let core = opened.core;

@@ -10,7 +10,7 @@ pub fn get_interrupts(image: &[u8]) -> Given
     ensures { λ r. ⌜ given (r .number) (r .value) ≡ askEntry (now (image .entry)) GetInterrupts ⌝ }
 {
     let opened = image::open(image);
-    if opened.number != 0 {
+    if opened.number != numbers::DONE {
         return Given {
             number: opened.number,
             value: 0,
@@ -29,7 +29,7 @@ pub fn request_interrupt(image: &mut [u8], interrupt: u8) -> u8
     ensures { λ r. ⌜ changed r (now (image .exit)) ≡ stateEntry (now (image .entry)) (RequestInterrupt interrupt) ⌝ }
 {
     let opened = image::open(image);
-    if opened.number != 0 {
+    if opened.number != numbers::DONE {
         return opened.number;
     }
     let named = interrupt::from_number(interrupt);
@@ -45,7 +45,7 @@ pub fn remove_interrupt(image: &mut [u8], interrupt: u8) -> u8
     ensures { λ r. ⌜ changed r (now (image .exit)) ≡ stateEntry (now (image .entry)) (RemoveInterrupt interrupt) ⌝ }
 {
     let opened = image::open(image);
-    if opened.number != 0 {
+    if opened.number != numbers::DONE {
         return opened.number;
     }
     let named = interrupt::from_number(interrupt);

@@ -26,7 +26,7 @@ use Rattle.registers.proofs.Rest.{rest-write, sound-write, high-write}
 use Rattle.registers.specs.Page.{plainWrite, writeRegister}
 use Rattle.registers.specs.State.{stored}
 use Rattle.rules.proofs.Tests.{by-cond, cond-both}
-use Rattle.savelog.specs.Log.{width}
+use Rattle.savelog.specs.Log.{width, full}
 use Rattle.entry.specs.Entry.{left}
 use Rattle.quick_writes.specs.Writes.{quick, leftBy, ownPut}
 
@@ -88,19 +88,19 @@ TypedIn w = Typed (w .state)
 module _ (w : World) (t : Typed (w .state)) (i v : ℕ) (hv : v < 256) where
   mapper-typed : Typed (mapperPut (w .state) i v)
   mapper-typed =
-      typed-with (w .state) t (w .state .oam) (w .state .page) (w .state .joypad) (w .state .clock) (after (w .state .cartridge) (w .state .mapper) i v)
-      (w .state .used) (t .oam) (t .page) (t .released) (t .state) (t .div)
+      typed-with (w .state) t (w .state .oam) (w .state .page) (w .state .core .joypad) (w .state .core .clock) (after (w .state .core .cartridge) (w .state .core .mapper) i v)
+      (w .state .core .used) (t .oam) (t .page) (t .released) (t .state) (t .div)
 
   saved-typed : (a : Answer) → TypedIn (saved a w)
   saved-typed (Stored at b) =
-      typed-with (w .state) t (w .state .oam) (w .state .page) (w .state .joypad) (w .state .clock) (w .state .mapper) (w .state .used + width) (t .oam)
+      typed-with (w .state) t (w .state .oam) (w .state .page) (w .state .core .joypad) (w .state .core .clock) (w .state .core .mapper) (w .state .core .used + width) (t .oam)
       (t .page) (t .released) (t .state) (t .div)
   saved-typed NotStored = t
 
   save-typed : TypedIn (savePut w i v)
   unfolding savePut
   save-typed =
-      cond-both TypedIn (ltb (length (w .log)) (w .state .used + width)) t (saved-typed (answer (w .state .cartridge) (w .state .mapper) i v))
+      cond-both TypedIn (full (length (w .log)) (w .state .core .used) 1) t (saved-typed (answer (w .state .core .cartridge) (w .state .core .mapper) i v))
 
   oam-typed : Typed (withOam (w .state) (set (w .state .oam) (i - 0xFE00) v))
   oam-typed =

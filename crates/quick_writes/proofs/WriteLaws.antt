@@ -19,13 +19,12 @@ use Rattle.image.proofs.OpenLaws.{load-length, load-range, load-image, open-num
 use Rattle.image.proofs.PatchLaws.{slim}
 use Rattle.image.proofs.Round.{state-back}
 use Rattle.image.specs.Laws.{Typed}
-use Rattle.image.specs.Layout.{imageOf}
+use Rattle.image.specs.Layout.{imageLen, imageOf}
 use Rattle.image.specs.Load.{storable, loaded, loadCall, openCall}
 use Rattle.image.specs.Patches.{Slim, mappingPut}
 use Rattle.image.specs.declared.Loaded.{Loaded}
 use Rattle.image.specs.declared.Opened.{Opened}
 use Rattle.mbc.specs.Mbc.{inRange, ramLen, after}
-use Rattle.memory.specs.Ranges.{coreOf}
 use Rattle.memory.specs.World.{World, world, Fixed, fixed, withUsed}
 use Rattle.memory.specs.declared.Core.{Core}
 use Rattle.memory.specs.declared.Memory.{Memory}
@@ -37,8 +36,8 @@ use Rattle.mmu.specs.Write.{writeAt, wordAt}
 use Rattle.numbers.specs.Numbers.{done}
 use Rattle.packing.specs.Packing.{Below}
 use Rattle.refusals.proofs.Answers.{both-pass}
-use Rattle.refusals.proofs.Core.{write-core}
-use Rattle.refusals.specs.Refusal.{orElse, writeRefused, coreWriteRefused, refusedWrite, inSound, nextIndex, byteRoom, wordRoom, byteOwed, wordOwed}
+use Rattle.refusals.proofs.Core.{write-lent}
+use Rattle.refusals.specs.Refusal.{orElse, useRefused, lentRefused, writeRefused, refusedWrite, inSound, nextIndex, byteRoom, wordRoom, byteOwed, wordOwed}
 use Rattle.rules.proofs.Tests.{by-cond}
 use Rattle.savelog.specs.Log.{logLimit, useInRange}
 use Rattle.entry.specs.Entry.{Left, left, leftIn, encodedIn, worldEntry}
@@ -69,11 +68,11 @@ module _ {i v w s l : List ℕ} (t : Taken i v w s l) where
   left-storable : (index b : ℕ) {u : World} → u ≡ put (worldOf i v w s l) index b → storable (u .state) ≡ true
   left-storable index b e = ap (λ (a : World). storable (a .state)) e ∙ put-storable index b
 
-  pub taken-length : length i ≡ 665
+  pub taken-length : length i ≡ imageLen
   taken-length = load-length i (t .number)
 
   -- what the parts ask for, of the state without its arrays
-  module _ {c : Core} (e : c ≡ coreOf (loadCall i .state)) where
+  module _ {c : Core} (e : c ≡ loadCall i .state .core) where
     pub taken-mapper : inRange (c .cartridge) (c .mapper) ≡ true
     taken-mapper = rw e (holds-mapper (t .holds))
 
@@ -102,7 +101,7 @@ module _ {i v w s l : List ℕ} (t : Taken i v w s l) where
           as-left (worldOf i v w s l) index b p
           (f
           ∙ ap (λ (d : Core). mappingPut i (after (d .cartridge) (d .mapper) k b) (d .used)) e
-          ∙ loaded-mapping i (t .bytes) (t .number) (after (m .cartridge) (m .mapper) k b) (m .used) (left-storable index b p))
+          ∙ loaded-mapping i (t .bytes) (t .number) (after (m .core .cartridge) (m .core .mapper) k b) (m .core .used) (left-storable index b p))
 
       pub left-vram : 0x8000 ≤ k → k < 0xA000 → {j : List ℕ} → j ≡ set v (vramAt (c .banks .vram) k) b
           → left 0 0 i j w s l ≡ leftBy (put (worldOf i v w s l) index b)
@@ -110,7 +109,7 @@ module _ {i v w s l : List ℕ} (t : Taken i v w s l) where
           as-left (worldOf i v w s l) index b (put-vram (worldOf i v w s l) index k b q g h (f ∙ ap (λ (d : Core). set v (vramAt (d .banks .vram) k) b) e)) taken-image
 
       pub left-save : 0xA000 ≤ k → k < 0xC000 → {r : ℕ} {j s' l' : List ℕ} → j ≡ mappingPut i (c .mapper) r
-          → ((m : Memory) → m .cartridge ≡ c .cartridge → m .mapper ≡ c .mapper → m .used ≡ c .used
+          → ((m : Memory) → m .core .cartridge ≡ c .cartridge → m .core .mapper ≡ c .mapper → m .core .used ≡ c .used
           → world (withUsed m r) [] [] s' l' ≡ savePut (world m [] [] s l) k b)
           → left 0 0 j v w s' l' ≡ leftBy (put (worldOf i v w s l) index b)
       left-save g h {r} f n =
@@ -120,7 +119,7 @@ module _ {i v w s l : List ℕ} (t : Taken i v w s l) where
           as-left (worldOf i v w s l) index b p
           (f
           ∙ ap (λ (d : Core). mappingPut i (d .mapper) r) e
-          ∙ loaded-mapping i (t .bytes) (t .number) (m .mapper) r (left-storable index b p))
+          ∙ loaded-mapping i (t .bytes) (t .number) (m .core .mapper) r (left-storable index b p))
 
       pub left-wram : 0xC000 ≤ k → k < 0xE000 → {j : List ℕ} → j ≡ set w (wramAt (c .banks .wram) k) b
           → left 0 0 i v j s l ≡ leftBy (put (worldOf i v w s l) index b)
@@ -147,7 +146,7 @@ module _ {i v w s l : List ℕ} (t : Taken i v w s l) where
           bytes = r .1 .0;
           number = ap (λ (d : Loaded). d .number) (r .1 .1);
           holds = subst (λ (m : Memory). Holds (world m (u .vram) (u .wram) (u .save) (u .log))) (sym n) (y .holds);
-          used = ap (λ (m : Memory). useInRange (m .used) (length (u .log))) n ∙ y .used (t .used);
+          used = ap (λ (m : Memory). useInRange (m .core .used) (length (u .log))) n ∙ y .used (t .used);
         },
         ap (λ (m : Memory). world m (u .vram) (u .wram) (u .save) (u .log)) n,
       )
@@ -199,7 +198,7 @@ module _ (x : Fixed) (i v w s l : List ℕ) (below : Below 256 i) (c : Call) (ro
 
 byte-call : (x : Fixed) (w : World) (index b : ℕ) → quick (echo index) ≡ true
     → step x w (call.WriteByte index b)
-    ≡ unless (orElse (refusedWrite x w) (byteRoom (w .state .used) (length (w .log)) index)) w (outcome (byteOwed index) 0 (put w index b))
+    ≡ unless (orElse (refusedWrite x w) (byteRoom (w .state .core .used) (length (w .log)) index)) w (outcome (byteOwed index) 0 (put w index b))
 unfolding step
 byte-call x w index b q = rw (quick-plain x w 2 index b q)
 
@@ -209,7 +208,7 @@ byte-owed index = by-cond (λ (n : ℕ). n ≤ 1) (inSound index) 1 0 (λ t. ome
 
 word-call : (x : Fixed) (w : World) (index b : ℕ) → quick (echo index) ≡ true → quick (echo (nextIndex index)) ≡ true
     → step x w (call.WriteWord index b)
-    ≡ unless (orElse (refusedWrite x w) (wordRoom (w .state .used) (length (w .log)) index)) w
+    ≡ unless (orElse (refusedWrite x w) (wordRoom (w .state .core .used) (length (w .log)) index)) w
     (outcome (wordOwed index) 0 (put (put w index (b % 256)) (nextIndex index) (b / 256)))
 unfolding step wordAt
 word-call x w index b q r =
@@ -221,7 +220,7 @@ word-owed index = by-cond (λ (n : ℕ). n ≤ 1) (inSound index || inSound (nex
 
 -- the number that the code finds: the image's, the lengths', the log's
 module _ (rom sound i v w s l : List ℕ) (below : Below 256 i) {o : Opened} (r : ℕ) {n : ℕ}
-    (p : (o .number ≡ orElse (loadCall i .number) (refusedWrite (fixed rom sound) (worldOf i v w s l))) × (o .core ≡ coreOf (loadCall i .state)))
+    (p : (o .number ≡ orElse (loadCall i .number) (refusedWrite (fixed rom sound) (worldOf i v w s l))) × (o .core ≡ loadCall i .state .core))
     (e : n ≡ orElse (o .number) r) where
   numbered : (room : ℕ) → r ≡ room → n ≡ orElse (orElse (loadCall i .number) (refusedWrite (fixed rom sound) (worldOf i v w s l))) room
   numbered room y = e ∙ ap (λ (a : ℕ). orElse (o .number) a) y ∙ ap (λ (a : ℕ). orElse a room) (p .0)
@@ -239,29 +238,29 @@ module _ (rom sound i v w s l : List ℕ) (below : Below 256 i) {o : Opened} (r 
 
   module _ (index b : ℕ) (q : quick (echo index) ≡ true) (y : r ≡ byteRoom (o .core .used) (length l) index) where
     byte-number : n
-        ≡ orElse (orElse (loadCall i .number) (refusedWrite (fixed rom sound) (worldOf i v w s l))) (byteRoom (loadCall i .state .used) (length l) index)
-    byte-number = numbered (byteRoom (loadCall i .state .used) (length l) index) (y ∙ ap (λ (d : Core). byteRoom (d .used) (length l) index) (p .1))
+        ≡ orElse (orElse (loadCall i .number) (refusedWrite (fixed rom sound) (worldOf i v w s l))) (byteRoom (loadCall i .state .core .used) (length l) index)
+    byte-number = numbered (byteRoom (loadCall i .state .core .used) (length l) index) (y ∙ ap (λ (d : Core). byteRoom (d .used) (length l) index) (p .1))
 
     pub byte-refused : (n ≡ 0 → ⊥) → left n 0 i v w s l ≡ worldEntry (fixed rom sound) i v w s l (call.WriteByte index b)
     byte-refused =
-        write-refused (fixed rom sound) i v w s l below (call.WriteByte index b) (byteRoom (loadCall i .state .used) (length l) index) (byteOwed index)
+        write-refused (fixed rom sound) i v w s l below (call.WriteByte index b) (byteRoom (loadCall i .state .core .used) (length l) index) (byteOwed index)
         (put (worldOf i v w s l) index b) (byte-call (fixed rom sound) (worldOf i v w s l) index b q) byte-number
 
     pub byte-done : n ≡ 0 → {k : ℕ} → k ≡ byteOwed index → {j v' w' s' l' : List ℕ} → left 0 0 j v' w' s' l' ≡ leftBy (put (worldOf i v w s l) index b)
         → left k 0 j v' w' s' l' ≡ worldEntry (fixed rom sound) i v w s l (call.WriteByte index b)
     byte-done z d g =
         rw d
-        (write-done (fixed rom sound) i v w s l below (call.WriteByte index b) (byteRoom (loadCall i .state .used) (length l) index) (byteOwed index)
+        (write-done (fixed rom sound) i v w s l below (call.WriteByte index b) (byteRoom (loadCall i .state .core .used) (length l) index) (byteOwed index)
         (put (worldOf i v w s l) index b) (byte-call (fixed rom sound) (worldOf i v w s l) index b q) byte-number z (byte-owed index) g)
 
   module _ (index b : ℕ) (q : (quick (echo index) ≡ true) × (quick (echo (nextIndex index)) ≡ true)) (y : r ≡ wordRoom (o .core .used) (length l) index) where
     word-number : n
-        ≡ orElse (orElse (loadCall i .number) (refusedWrite (fixed rom sound) (worldOf i v w s l))) (wordRoom (loadCall i .state .used) (length l) index)
-    word-number = numbered (wordRoom (loadCall i .state .used) (length l) index) (y ∙ ap (λ (d : Core). wordRoom (d .used) (length l) index) (p .1))
+        ≡ orElse (orElse (loadCall i .number) (refusedWrite (fixed rom sound) (worldOf i v w s l))) (wordRoom (loadCall i .state .core .used) (length l) index)
+    word-number = numbered (wordRoom (loadCall i .state .core .used) (length l) index) (y ∙ ap (λ (d : Core). wordRoom (d .used) (length l) index) (p .1))
 
     pub word-refused : (n ≡ 0 → ⊥) → left n 0 i v w s l ≡ worldEntry (fixed rom sound) i v w s l (call.WriteWord index b)
     word-refused =
-        write-refused (fixed rom sound) i v w s l below (call.WriteWord index b) (wordRoom (loadCall i .state .used) (length l) index) (wordOwed index)
+        write-refused (fixed rom sound) i v w s l below (call.WriteWord index b) (wordRoom (loadCall i .state .core .used) (length l) index) (wordOwed index)
         (put (put (worldOf i v w s l) index (b % 256)) (nextIndex index) (b / 256)) (word-call (fixed rom sound) (worldOf i v w s l) index b (q .0) (q .1))
         word-number
 
@@ -270,7 +269,7 @@ module _ (rom sound i v w s l : List ℕ) (below : Below 256 i) {o : Opened} (r 
         → left k 0 j v' w' s' l' ≡ worldEntry (fixed rom sound) i v w s l (call.WriteWord index b)
     word-done z d g =
         rw d
-        (write-done (fixed rom sound) i v w s l below (call.WriteWord index b) (wordRoom (loadCall i .state .used) (length l) index) (wordOwed index)
+        (write-done (fixed rom sound) i v w s l below (call.WriteWord index b) (wordRoom (loadCall i .state .core .used) (length l) index) (wordOwed index)
         (put (put (worldOf i v w s l) index (b % 256)) (nextIndex index) (b / 256)) (word-call (fixed rom sound) (worldOf i v w s l) index b (q .0) (q .1))
         word-number z (word-owed index) g)
 
@@ -281,12 +280,12 @@ module _ {o : Opened} (i : List ℕ) (e : o ≡ openCall i) where
   opened-refused h a = open-number i e ∙ rw (ne-eqb (loadCall i .number) 0 (λ z. h (open-number i e ∙ z)))
 
   pub opened-write : Below 256 i → o .number ≡ 0 → (rom vram wram save sound log : ℕ) {n : ℕ}
-      → n ≡ coreWriteRefused (o .core) rom vram wram save sound log
+      → n ≡ orElse (useRefused (o .core .used) log) (lentRefused (o .core) rom vram wram save sound log)
       → n ≡ orElse (loadCall i .number) (writeRefused (loadCall i .state) rom vram wram save sound log)
   opened-write below z rom vram wram save sound log f =
       let m = loadCall i .state in
       let y = sym (open-number i e) ∙ z in
       f
-      ∙ ap (λ (c : Core). coreWriteRefused c rom vram wram save sound log) (open-core i e)
-      ∙ sym (write-core m (load-range i y below) rom vram wram save sound log)
+      ∙ ap (λ (c : Core). orElse (useRefused (c .used) log) (lentRefused c rom vram wram save sound log)) (open-core i e)
+      ∙ sym (write-lent m (load-range i y below) rom vram wram save sound log)
       ∙ sym (ap (λ (a : ℕ). orElse a (writeRefused m rom vram wram save sound log)) y ∙ zero-else (writeRefused m rom vram wram save sound log))

@@ -28,7 +28,7 @@ pub record Taken (i v w s l : List ℕ) : Type 0 where
   pub bytes : Below 256 i
   pub number : loadCall i .number ≡ done
   pub holds : Holds (worldOf i v w s l)
-  pub used : useInRange (loadCall i .state .used) (length l) ≡ true
+  pub used : useInRange (loadCall i .state .core .used) (length l) ≡ true
 
 -- the image and the memories of a world
 abbrev pub leftBy : World → Left

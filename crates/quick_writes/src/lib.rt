@@ -6,10 +6,10 @@ ghost use mathlib.Core.Path.{_≡_};
 ghost use Prim.Native.Nat.{_/_, _%_, _<_, _≤_};
 ghost use lib.ListN.{length};
 ghost use Rattle.dispatch.specs.declared.Call.the-variants.{WriteByte, WriteWord};
+ghost use Rattle.image.specs.Layout.{imageLen};
 ghost use Rattle.image.specs.Load.{loadCall};
 ghost use Rattle.image.specs.Patches.{Slim, mappingPut};
 ghost use Rattle.mbc.specs.Mbc.{inRange, ramLen, after};
-ghost use Rattle.memory.specs.Ranges.{coreOf};
 ghost use Rattle.memory.specs.World.{world, fixed, withUsed};
 ghost use Rattle.memory.specs.declared.Memory.{Memory};
 ghost use Rattle.mmu.specs.Access.{savePut, put};
@@ -42,7 +42,7 @@ fn is_quick(index: u16) -> bool
 
 // Below 8000: the mapper's registers.
 fn put_mapper(core: Core, image: &mut [u8], at: u16, value: u8)
-    requires { ⌜ (length (now image) ≡ 665) × ((at < 0x8000) × ((inRange (core .cartridge) (core .mapper) ≡ true) × Slim (after (core .cartridge) (core .mapper) at value))) ⌝ }
+    requires { ⌜ (length (now image) ≡ imageLen) × ((at < 0x8000) × ((inRange (core .cartridge) (core .mapper) ≡ true) × Slim (after (core .cartridge) (core .mapper) at value))) ⌝ }
     ensures { λ _. ⌜ now (image .exit) ≡ mappingPut (now (image .entry)) (after (core .cartridge) (core .mapper) at value) (core .used) ⌝ }
 {
     let cartridge = core.cartridge;
@@ -61,8 +61,8 @@ fn put_save(
     at: u16,
     value: u8,
 ) -> u16
-    requires { ⌜ ((length (now image) ≡ 665) × Slim (core .mapper)) × (((0xA000 ≤ at) × (at < 0xC000)) × ((inRange (core .cartridge) (core .mapper) ≡ true) × ((length (now save) ≡ ramLen (core .cartridge) (core .mapper)) × (length (now log) ≤ logLimit)))) ⌝ }
-    ensures { λ r. ⌜ (now (image .exit) ≡ mappingPut (now (image .entry)) (core .mapper) r) × ((m : Memory) → m .cartridge ≡ core .cartridge → m .mapper ≡ core .mapper → m .used ≡ core .used → world (withUsed m r) [] [] (now (save .exit)) (now (log .exit)) ≡ savePut (world m [] [] (now (save .entry)) (now (log .entry))) at value) ⌝ }
+    requires { ⌜ ((length (now image) ≡ imageLen) × Slim (core .mapper)) × (((0xA000 ≤ at) × (at < 0xC000)) × ((inRange (core .cartridge) (core .mapper) ≡ true) × ((length (now save) ≡ ramLen (core .cartridge) (core .mapper)) × (length (now log) ≤ logLimit)))) ⌝ }
+    ensures { λ r. ⌜ (now (image .exit) ≡ mappingPut (now (image .entry)) (core .mapper) r) × ((m : Memory) → m .core .cartridge ≡ core .cartridge → m .core .mapper ≡ core .mapper → m .core .used ≡ core .used → world (withUsed m r) [] [] (now (save .exit)) (now (log .exit)) ≡ savePut (world m [] [] (now (save .entry)) (now (log .entry))) at value) ⌝ }
 {
     let cartridge = core.cartridge;
     let mapper = core.mapper;
@@ -73,7 +73,7 @@ fn put_save(
 
 // FE00..FEFF and the page.
 fn put_own(image: &mut [u8], at: u16, value: u8)
-    requires { ⌜ (length (now image) ≡ 665) × (0xFE00 ≤ at) ⌝ }
+    requires { ⌜ (length (now image) ≡ imageLen) × (0xFE00 ≤ at) ⌝ }
     ensures { λ _. ⌜ now (image .exit) ≡ ownPut (now (image .entry)) at value ⌝ }
 {
     let i = (at - 0xFE00) as usize;
@@ -98,7 +98,7 @@ fn put_quick(
     index: u16,
     value: u8,
 )
-    requires { ⌜ Taken (now image) (now vram) (now wram) (now save) (now log) × ((core ≡ coreOf (loadCall (now image) .state)) × (quick (echo index) ≡ true)) ⌝ }
+    requires { ⌜ Taken (now image) (now vram) (now wram) (now save) (now log) × ((core ≡ loadCall (now image) .state .core) × (quick (echo index) ≡ true)) ⌝ }
     ensures { λ _. ⌜ left 0 0 (now (image .exit)) (now (vram .exit)) (now (wram .exit)) (now (save .exit)) (now (log .exit)) ≡ leftBy (put (worldOf (now (image .entry)) (now (vram .entry)) (now (wram .entry)) (now (save .entry)) (now (log .entry))) index value) ⌝ }
 {
     let at = mmu::regions::lowered(index);
@@ -132,14 +132,16 @@ fn open_lent(
     sound: usize,
     log: usize,
 ) -> Opened
-    ensures { λ r. ⌜ (r .number ≡ orElse (loadCall (now (image .entry)) .number) (writeRefused (loadCall (now (image .entry)) .state) rom vram wram save sound log)) × (r .core ≡ coreOf (loadCall (now (image .entry)) .state)) ⌝ }
+    ensures { λ r. ⌜ (r .number ≡ orElse (loadCall (now (image .entry)) .number) (writeRefused (loadCall (now (image .entry)) .state) rom vram wram save sound log)) × (r .core ≡ loadCall (now (image .entry)) .state .core) ⌝ }
 {
     let opened = image::open(image);
-    if opened.number != 0 {
+    if opened.number != numbers::DONE {
         return opened;
     }
     let core = opened.core;
-    let number = refusals::core_write_refused(core, rom, vram, wram, save, sound, log);
+    let used = refusals::use_refused(core.used, log);
+    let lent = refusals::lent_refused(core, rom, vram, wram, save, sound, log);
+    let number = refusals::or_else(used, lent);
     Opened {
         number: number,
         core: core,
@@ -172,7 +174,7 @@ fn write_quick(
     let core = opened.core;
     let room = refusals::byte_room(core.used, log.len(), index);
     let number = refusals::or_else(opened.number, room);
-    if number != 0 {
+    if number != numbers::DONE {
         return number;
     }
     put_quick(core, image, vram, wram, save, log, index, value);
@@ -238,7 +240,7 @@ fn put_both(
     index: u16,
     value: u16,
 )
-    requires { ⌜ Taken (now image) (now vram) (now wram) (now save) (now log) × ((core ≡ coreOf (loadCall (now image) .state)) × ((quick (echo index) ≡ true) × (quick (echo (nextIndex index)) ≡ true))) ⌝ }
+    requires { ⌜ Taken (now image) (now vram) (now wram) (now save) (now log) × ((core ≡ loadCall (now image) .state .core) × ((quick (echo index) ≡ true) × (quick (echo (nextIndex index)) ≡ true))) ⌝ }
     ensures { λ _. ⌜ left 0 0 (now (image .exit)) (now (vram .exit)) (now (wram .exit)) (now (save .exit)) (now (log .exit)) ≡ leftBy (put (put (worldOf (now (image .entry)) (now (vram .entry)) (now (wram .entry)) (now (save .entry)) (now (log .entry))) index (value % 256)) (nextIndex index) (value / 256)) ⌝ }
 {
     let low = (value % 256) as u8;
@@ -274,7 +276,7 @@ fn write_both(
     let core = opened.core;
     let room = refusals::word_room(core.used, log.len(), index);
     let number = refusals::or_else(opened.number, room);
-    if number != 0 {
+    if number != numbers::DONE {
         return number;
     }
     put_both(core, image, vram, wram, save, log, index, value);

@@ -4,7 +4,7 @@ ghost use mathlib.Core.Path.{_≡_};
 ghost use Prim.Native.Nat.{_+_, _≤_, _<_};
 ghost use lib.ListN.{length};
 ghost use Rattle.io.specs.Counts.{Counts};
-ghost use Rattle.savelog.specs.Log.{outcome, recovery};
+ghost use Rattle.savelog.specs.Log.{saveLimit, outcome, recovery};
 ghost use Rattle.recover.specs.Files.{sizeOf};
 ghost use Rattle.recover.specs.Show.{shown};
 use libc::STDERR_FILENO;
@@ -177,9 +177,9 @@ fn write(save: &[u8]) {
 
 // Recovers `save` and, where OUT was given, writes it.
 fn finish(save: &mut [u8], log: &[u8], words: usize)
-    requires { ⌜ length (now save) ≤ 32769 ⌝ }
+    requires { ⌜ length (now save) ≤ saveLimit + 1 ⌝ }
 {
-    let mut old = [0u8; 32769];
+    let mut old = [0u8; savelog::SAVE_LIMIT + 1];
     let n = bytes::copy(save, &mut old);
     let number = recover(save, &old[..n], log);
     if number == numbers::DONE {
@@ -191,9 +191,9 @@ fn finish(save: &mut [u8], log: &[u8], words: usize)
 
 // Reads the log, with room for one byte more than a log may have: too long a file is refused, not cut.
 fn with_log(save: &mut [u8], words: usize)
-    requires { ⌜ length (now save) ≤ 32769 ⌝ }
+    requires { ⌜ length (now save) ≤ saveLimit + 1 ⌝ }
 {
-    let mut log = [0u8; 65536];
+    let mut log = [0u8; savelog::LOG_LIMIT + 1];
     let Got::Bytes(m) = read(2, b"LOG", &mut log) else {
         return;
     };
@@ -202,7 +202,7 @@ fn with_log(save: &mut [u8], words: usize)
 
 // Reads the save, with one byte more likewise.
 fn with_save(words: usize) {
-    let mut save = [0u8; 32769];
+    let mut save = [0u8; savelog::SAVE_LIMIT + 1];
     let Got::Bytes(n) = read(1, b"SAVE", &mut save) else {
         return;
     };

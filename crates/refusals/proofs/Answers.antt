@@ -1,24 +1,19 @@
--- How a call answers, by what its refusal is: one law for the refused and one for the done of each kind of answer.
+-- How a call answers, by what its refusal is: for a byte or a word that is read, one law for the refused and one for the done.
 use mathlib.Core.Bool.{Bool, true, false, cond}
 use mathlib.Core.Path.{_≡_, refl, sym}
 use Prim.Native.Nat.{ℕ}
 use native.Mathlib.Omega.{arith}
 use lib.Dec.{eqb}
 use borrow.Author.Tests.{ne-eqb, eqb-true, eqb-false}
-use Rattle.interrupt.specs.declared.Pending.{Pending}
-use Rattle.interrupt.specs.declared.Pending.the-variants.{None}
 use Rattle.memory.specs.Ranges.{inRange, stateInRange}
 use Rattle.memory.specs.declared.Memory.{Memory}
-use Rattle.refusals.specs.Answers.{changed, byteGiven, wordGiven, flagGiven, waitingGiven}
+use Rattle.refusals.specs.Answers.{changed, byteGiven, wordGiven}
 use Rattle.refusals.specs.Refusal.{orElse, stateRefused}
+use Rattle.refusals.specs.declared.Done.{Done}
 use Rattle.rules.proofs.Tests.{both-true, passes}
 
 module _ {n k : ℕ} (e : n ≡ k) where
   module _ (h : n ≡ 0 → ⊥) where
-    pub refused-done : (m a : Memory) → record { number = n; memory = m } ≡ changed k m a
-    unfolding changed
-    refused-done m a = rw (← e, ne-eqb n 0 h)
-
     pub refused-byte : (v : ℕ) → record { number = n; value = 0 } ≡ byteGiven k v
     unfolding byteGiven
     refused-byte v = rw (← e, ne-eqb n 0 h)
@@ -27,19 +22,7 @@ module _ {n k : ℕ} (e : n ≡ k) where
     unfolding wordGiven
     refused-word v = rw (← e, ne-eqb n 0 h)
 
-    pub refused-flag : (v : Bool) → record { number = n; value = false } ≡ flagGiven k v
-    unfolding flagGiven
-    refused-flag v = rw (← e, ne-eqb n 0 h)
-
-    pub refused-waiting : (p : Pending) → record { number = n; pending = None } ≡ waitingGiven k p
-    unfolding waitingGiven
-    refused-waiting p = rw (← e, ne-eqb n 0 h)
-
   module _ (h : n ≡ 0) where
-    pub accepted-done : (m : Memory) {b a : Memory} → b ≡ a → record { number = 0; memory = b } ≡ changed k m a
-    unfolding changed
-    accepted-done m f = rw (← e, h, f)
-
     pub accepted-byte : {b a : ℕ} → b ≡ a → record { number = 0; value = b } ≡ byteGiven k a
     unfolding byteGiven
     accepted-byte f = rw (← e, h, f)
@@ -48,13 +31,14 @@ module _ {n k : ℕ} (e : n ≡ k) where
     unfolding wordGiven
     accepted-word f = rw (← e, h, f)
 
-    pub accepted-flag : {b a : Bool} → b ≡ a → record { number = 0; value = b } ≡ flagGiven k a
-    unfolding flagGiven
-    accepted-flag f = rw (← e, h, f)
-
-    pub accepted-waiting : {b a : Pending} → b ≡ a → record { number = 0; pending = b } ≡ waitingGiven k a
-    unfolding waitingGiven
-    accepted-waiting f = rw (← e, h, f)
+-- what a call would give counts only where nothing refuses it
+pub where-done : (n : ℕ) (m a b : Memory) → (n ≡ 0 → a ≡ b) → changed n m a ≡ changed n m b
+unfolding changed
+where-done n m a b f = chosen _ _ _ (eqb n 0) (λ e. rw (f (eqb-true n 0 e)))
+  where
+    chosen : (x y z : Done) (t : Bool) → (t ≡ true → x ≡ y) → cond t x z ≡ cond t y z
+    chosen x y z true g = g refl
+    chosen x y z false g = refl
 
 -- none of two refusals is due
 pub both-pass : (n k : ℕ) → orElse n k ≡ 0 → (n ≡ 0) × (k ≡ 0)

@@ -4,65 +4,54 @@ use Prim.Native.Nat.{ℕ, _+_, _%_}
 use lib.Dec.{eqb, ltb, leb}
 use lib.ListN.{length}
 use Rattle.mbc.specs.Mbc.{romLen, ramLen}
-use Rattle.mbc.specs.declared.cartridge.Cartridge.{Cartridge}
-use Rattle.mbc.specs.declared.mbc.Mapper.{Mapper}
-use Rattle.memory.specs.Ranges.{inRange, coreInRange, vramLen, wramLen, soundLen}
+use Rattle.memory.specs.Ranges.{inRange, vramLen, wramLen, soundLen}
 use Rattle.memory.specs.World.{World, Fixed}
 use Rattle.memory.specs.declared.Core.{Core}
 use Rattle.memory.specs.declared.Memory.{Memory}
 use Rattle.numbers.specs.Numbers.{done, owed, noRoom, outOfRange, wrongLength, tooManyCycles, outside}
-use Rattle.savelog.specs.Log.{width, logLimit}
+use Rattle.savelog.specs.Log.{logLimit, full, useInRange}
 
 -- the first refusal of two that is due; 0 where none is
 unfoldable pub orElse : ℕ → ℕ → ℕ
 orElse n next = cond (eqb n done) next n
 
--- 3: the state is out of range; the log use is within the lent log, or within 65,535 bytes where none is lent
+-- 3: the state is out of range; the log use is within the lent log, or within the longest where none is lent
 unfoldable pub stateRefused : Memory → ℕ → ℕ
 stateRefused m limit = cond (inRange m limit) done outOfRange
 
--- 3 where no log is lent: its use is held to 65,535
+-- 3 where no log is lent
 abbrev pub refusedState : Memory → ℕ
 refusedState m = stateRefused m logLimit
 
--- and by its groups alone, where the colours are known to be in range
-unfoldable pub coreRefused : Core → ℕ → ℕ
-coreRefused c limit = cond (coreInRange c limit) done outOfRange
+-- 3 by the log's use alone, where all else is known to be in range
+unfoldable pub useRefused : ℕ → ℕ → ℕ
+useRefused used log = cond (useInRange used log) done outOfRange
 
 -- 4: a lent length other than the state asks for
-abbrev pub partsFit : Cartridge → Mapper → Bool → ℕ → ℕ → ℕ → ℕ → ℕ → Bool
-partsFit cartridge mapper colour rom vram wram save sound =
-    eqb rom (romLen cartridge)
-    && (eqb vram (vramLen colour)
-    && (eqb wram (wramLen colour)
-    && (eqb save (ramLen cartridge mapper) && eqb sound soundLen)))
+unfoldable pub lengthsFit : Core → ℕ → ℕ → ℕ → ℕ → ℕ → Bool
+lengthsFit c rom vram wram save sound =
+    eqb rom (romLen (c .cartridge))
+    && (eqb vram (vramLen (c .banks .colour))
+    && (eqb wram (wramLen (c .banks .colour))
+    && (eqb save (ramLen (c .cartridge) (c .mapper)) && eqb sound soundLen)))
 
-unfoldable pub lengthsFit : Memory → ℕ → ℕ → ℕ → ℕ → ℕ → Bool
-lengthsFit m rom vram wram save sound = partsFit (m .cartridge) (m .mapper) (m .banks .colour) rom vram wram save sound
-
-unfoldable pub lengthsRefused : Memory → ℕ → ℕ → ℕ → ℕ → ℕ → ℕ
-lengthsRefused m rom vram wram save sound = cond (lengthsFit m rom vram wram save sound) done wrongLength
-
-unfoldable pub coreLengthsRefused : Core → ℕ → ℕ → ℕ → ℕ → ℕ → ℕ
-coreLengthsRefused c rom vram wram save sound =
-    cond (partsFit (c .cartridge) (c .mapper) (c .banks .colour) rom vram wram save sound) done wrongLength
+unfoldable pub lengthsRefused : Core → ℕ → ℕ → ℕ → ℕ → ℕ → ℕ
+lengthsRefused c rom vram wram save sound = cond (lengthsFit c rom vram wram save sound) done wrongLength
 
 -- a call that reads the lent memories
 unfoldable pub readRefused : Memory → ℕ → ℕ → ℕ → ℕ → ℕ → ℕ
-readRefused m rom vram wram save sound = orElse (stateRefused m logLimit) (lengthsRefused m rom vram wram save sound)
+readRefused m rom vram wram save sound = orElse (stateRefused m logLimit) (lengthsRefused (m .core) rom vram wram save sound)
 
--- a log of 0 to 65,535 bytes
+-- 4: a log longer than one may be
 unfoldable pub logRefused : ℕ → ℕ
 logRefused log = cond (leb log logLimit) done wrongLength
 
 -- a call that writes them: the log is lent too
-unfoldable pub writeRefused : Memory → ℕ → ℕ → ℕ → ℕ → ℕ → ℕ → ℕ
-writeRefused m rom vram wram save sound log =
-    orElse (stateRefused m log) (orElse (lengthsRefused m rom vram wram save sound) (logRefused log))
+unfoldable pub lentRefused : Core → ℕ → ℕ → ℕ → ℕ → ℕ → ℕ → ℕ
+lentRefused c rom vram wram save sound log = orElse (lengthsRefused c rom vram wram save sound) (logRefused log)
 
-unfoldable pub coreWriteRefused : Core → ℕ → ℕ → ℕ → ℕ → ℕ → ℕ → ℕ
-coreWriteRefused c rom vram wram save sound log =
-    orElse (coreRefused c log) (orElse (coreLengthsRefused c rom vram wram save sound) (logRefused log))
+unfoldable pub writeRefused : Memory → ℕ → ℕ → ℕ → ℕ → ℕ → ℕ → ℕ
+writeRefused m rom vram wram save sound log = orElse (stateRefused m log) (lentRefused (m .core) rom vram wram save sound log)
 
 -- an index of the save's window, A000..BFFF
 unfoldable pub inSave : ℕ → Bool
@@ -76,15 +65,15 @@ inSound i = leb 0xFF10 i && ltb i 0xFF40
 abbrev pub nextIndex : ℕ → ℕ
 nextIndex i = (i + 1) % 65536
 
--- 2: a byte write in A000..BFFF with under 3 log bytes free; a word write with either index there, under 6 free
+-- 2: a byte write in A000..BFFF without room for a record; a word write with either index there, without room for two
 unfoldable pub byteRoom : ℕ → ℕ → ℕ → ℕ
-byteRoom used log i = cond (inSave i && ltb log (used + width)) noRoom done
+byteRoom used log i = cond (inSave i && full log used 1) noRoom done
 
 unfoldable pub eitherInSave : ℕ → Bool
 eitherInSave i = inSave i || inSave (nextIndex i)
 
 unfoldable pub wordRoom : ℕ → ℕ → ℕ → ℕ
-wordRoom used log i = cond (eitherInSave i && ltb log (used + (width + width))) noRoom done
+wordRoom used log i = cond (eitherInSave i && full log used 2) noRoom done
 
 -- 1: done, and the host owes the sound write
 unfoldable pub byteOwed : ℕ → ℕ
@@ -103,11 +92,11 @@ cyclesRefused c = cond (leb c 65536) done tooManyCycles
 
 -- 4: the length of video memory, where it alone is lent
 unfoldable pub vramLengthRefused : Memory → ℕ → ℕ
-vramLengthRefused m vram = cond (eqb vram (vramLen (m .banks .colour))) done wrongLength
+vramLengthRefused m vram = cond (eqb vram (vramLen (m .core .banks .colour))) done wrongLength
 
 -- a VRAM bank is 0 or 1, and 1 in colour alone
 unfoldable pub hasBank : Memory → ℕ → Bool
-hasBank m bank = cond (eqb bank 0) true (cond (eqb bank 1) (m .banks .colour) false)
+hasBank m bank = cond (eqb bank 0) true (cond (eqb bank 1) (m .core .banks .colour) false)
 
 -- 7: a VRAM bank that the machine lacks, or an index outside 8000..9FFF
 unfoldable pub vramRefused : Memory → ℕ → ℕ → ℕ

@@ -1,11 +1,17 @@
 // What a call answers; when it is refused, and by which number. Lengths come as numbers, so that a call asks before it touches what is lent.
 ghost use mathlib.Core.Path.{_≡_};
-ghost use Rattle.refusals.specs.Refusal.{orElse, stateRefused, refusedState, coreRefused, partsFit, lengthsRefused, coreLengthsRefused, logRefused, readRefused, writeRefused, coreWriteRefused, inSave, inSound, nextIndex, eitherInSave, byteRoom, wordRoom, byteOwed, wordOwed, rawRefused, cyclesRefused, vramLengthRefused, hasBank, vramRefused};
+ghost use Rattle.refusals.specs.Refusal.{orElse, stateRefused, refusedState, useRefused, lengthsFit, lengthsRefused, logRefused, lentRefused, readRefused, writeRefused, inSave, inSound, nextIndex, eitherInSave, byteRoom, wordRoom, byteOwed, wordOwed, rawRefused, cyclesRefused, vramLengthRefused, hasBank, vramRefused};
 use interrupt::Pending;
-use mbc::Cartridge;
-use mbc::Mapper;
 use memory::Core;
 use memory::Memory;
+
+mod door;
+
+pub use door::byte_given;
+pub use door::changed;
+pub use door::flag_given;
+pub use door::waiting_given;
+pub use door::word_given;
 
 // The number, and the state after the call.
 pub struct Done {
@@ -37,14 +43,11 @@ pub struct Waiting {
     pub pending: Pending,
 }
 
-// The most bytes of a log, and what a log use is held to where none is lent.
-pub const LOG_LIMIT: usize = 65535;
-
 // The first of two refusals that is due.
 pub fn or_else(number: u8, next: u8) -> u8
     ensures { λ r. ⌜ r ≡ orElse number next ⌝ }
 {
-    if number == 0 {
+    if number == numbers::DONE {
         return next;
     }
     number
@@ -63,38 +66,32 @@ pub fn state_refused(memory: Memory, limit: usize) -> u8
 pub fn refused(memory: Memory) -> u8
     ensures { λ r. ⌜ r ≡ refusedState memory ⌝ }
 {
-    state_refused(memory, LOG_LIMIT)
+    state_refused(memory, savelog::LOG_LIMIT)
 }
 
-// The state without its arrays, as an image gives it: no colour of an image is out of range.
-fn core_refused(core: Core, limit: usize) -> u8
-    ensures { λ r. ⌜ r ≡ coreRefused core limit ⌝ }
+// Where the rest of the state is known to be in range: a log's use within the lent log.
+pub fn use_refused(used: u16, log: usize) -> u8
+    ensures { λ r. ⌜ r ≡ useRefused used log ⌝ }
 {
-    if memory::core_in_range(core, limit) {
+    if savelog::use_in_range(used, log) {
         return numbers::DONE;
     }
     numbers::OUT_OF_RANGE
 }
 
-fn lengths_fit(
-    cartridge: Cartridge,
-    mapper: Mapper,
-    colour: bool,
-    rom: usize,
-    vram: usize,
-    wram: usize,
-    save: usize,
-    sound: usize,
-) -> bool
-    ensures { λ r. ⌜ r ≡ partsFit cartridge mapper colour rom vram wram save sound ⌝ }
+fn lengths_fit(core: Core, rom: usize, vram: usize, wram: usize, save: usize, sound: usize) -> bool
+    ensures { λ r. ⌜ r ≡ lengthsFit core rom vram wram save sound ⌝ }
 {
+    let cartridge = core.cartridge;
+    let mapper = core.mapper;
+    let banks = core.banks;
     if rom != cartridge.rom_len() {
         return false;
     }
-    if vram != memory::vram_len(colour) {
+    if vram != memory::vram_len(banks.colour) {
         return false;
     }
-    if wram != memory::wram_len(colour) {
+    if wram != memory::wram_len(banks.colour) {
         return false;
     }
     if save != mapper.ram_len(cartridge) {
@@ -104,34 +101,6 @@ fn lengths_fit(
 }
 
 pub fn lengths_refused(
-    memory: Memory,
-    rom: usize,
-    vram: usize,
-    wram: usize,
-    save: usize,
-    sound: usize,
-) -> u8
-    ensures { λ r. ⌜ r ≡ lengthsRefused memory rom vram wram save sound ⌝ }
-{
-    let cartridge = memory.cartridge;
-    let mapper = memory.mapper;
-    let banks = memory.banks;
-    if lengths_fit(
-        cartridge,
-        mapper,
-        banks.colour,
-        rom,
-        vram,
-        wram,
-        save,
-        sound,
-    ) {
-        return numbers::DONE;
-    }
-    numbers::WRONG_LENGTH
-}
-
-pub fn core_lengths_refused(
     core: Core,
     rom: usize,
     vram: usize,
@@ -139,21 +108,9 @@ pub fn core_lengths_refused(
     save: usize,
     sound: usize,
 ) -> u8
-    ensures { λ r. ⌜ r ≡ coreLengthsRefused core rom vram wram save sound ⌝ }
+    ensures { λ r. ⌜ r ≡ lengthsRefused core rom vram wram save sound ⌝ }
 {
-    let cartridge = core.cartridge;
-    let mapper = core.mapper;
-    let banks = core.banks;
-    if lengths_fit(
-        cartridge,
-        mapper,
-        banks.colour,
-        rom,
-        vram,
-        wram,
-        save,
-        sound,
-    ) {
+    if lengths_fit(core, rom, vram, wram, save, sound) {
         return numbers::DONE;
     }
     numbers::WRONG_LENGTH
@@ -170,21 +127,37 @@ pub fn read_refused(
 ) -> u8
     ensures { λ r. ⌜ r ≡ readRefused memory rom vram wram save sound ⌝ }
 {
-    let state = state_refused(memory, LOG_LIMIT);
-    let lengths = lengths_refused(memory, rom, vram, wram, save, sound);
+    let state = state_refused(memory, savelog::LOG_LIMIT);
+    let lengths = lengths_refused(memory.core, rom, vram, wram, save, sound);
     or_else(state, lengths)
 }
 
 pub fn log_refused(log: usize) -> u8
     ensures { λ r. ⌜ r ≡ logRefused log ⌝ }
 {
-    if log <= LOG_LIMIT {
+    if log <= savelog::LOG_LIMIT {
         return numbers::DONE;
     }
     numbers::WRONG_LENGTH
 }
 
-// A call that writes what is lent, the log among it.
+// What is lent to a call that writes, the log among it.
+pub fn lent_refused(
+    core: Core,
+    rom: usize,
+    vram: usize,
+    wram: usize,
+    save: usize,
+    sound: usize,
+    log: usize,
+) -> u8
+    ensures { λ r. ⌜ r ≡ lentRefused core rom vram wram save sound log ⌝ }
+{
+    let lengths = lengths_refused(core, rom, vram, wram, save, sound);
+    or_else(lengths, log_refused(log))
+}
+
+// A call that writes what is lent.
 pub fn write_refused(
     memory: Memory,
     rom: usize,
@@ -197,26 +170,8 @@ pub fn write_refused(
     ensures { λ r. ⌜ r ≡ writeRefused memory rom vram wram save sound log ⌝ }
 {
     let state = state_refused(memory, log);
-    let lengths = lengths_refused(memory, rom, vram, wram, save, sound);
-    let rest = or_else(lengths, log_refused(log));
-    or_else(state, rest)
-}
-
-pub fn core_write_refused(
-    core: Core,
-    rom: usize,
-    vram: usize,
-    wram: usize,
-    save: usize,
-    sound: usize,
-    log: usize,
-) -> u8
-    ensures { λ r. ⌜ r ≡ coreWriteRefused core rom vram wram save sound log ⌝ }
-{
-    let state = core_refused(core, log);
-    let lengths = core_lengths_refused(core, rom, vram, wram, save, sound);
-    let rest = or_else(lengths, log_refused(log));
-    or_else(state, rest)
+    let lent = lent_refused(memory.core, rom, vram, wram, save, sound, log);
+    or_else(state, lent)
 }
 
 // The save's window.
@@ -250,7 +205,7 @@ pub fn byte_room(used: u16, log: usize, index: u16) -> u8
     ensures { λ r. ⌜ r ≡ byteRoom used log index ⌝ }
 {
     if in_save(index) {
-        if log < used as usize + 3 {
+        if savelog::full(log, used, 1) {
             return numbers::NO_ROOM;
         }
     }
@@ -270,7 +225,7 @@ pub fn word_room(used: u16, log: usize, index: u16) -> u8
     ensures { λ r. ⌜ r ≡ wordRoom used log index ⌝ }
 {
     if either_in_save(index) {
-        if log < used as usize + 6 {
+        if savelog::full(log, used, 2) {
             return numbers::NO_ROOM;
         }
     }
@@ -318,7 +273,7 @@ pub fn cycles_refused(cycles: u32) -> u8
 pub fn vram_length_refused(memory: Memory, vram: usize) -> u8
     ensures { λ r. ⌜ r ≡ vramLengthRefused memory vram ⌝ }
 {
-    let banks = memory.banks;
+    let banks = memory.core.banks;
     if vram == memory::vram_len(banks.colour) {
         return numbers::DONE;
     }
@@ -333,7 +288,7 @@ fn has_bank(memory: Memory, bank: u8) -> bool
         return true;
     }
     if bank == 1 {
-        let banks = memory.banks;
+        let banks = memory.core.banks;
         return banks.colour;
     }
     false

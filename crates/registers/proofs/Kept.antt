@@ -10,9 +10,10 @@ use lib.Bits.{bitOr}
 use lib.Dec.{eqb, ltb}
 use lib.ListN.{set}
 use borrow.Author.Tests.{eqb-false}
-use Rattle.hdma.specs.Hdma.{sourceHigh, sourceLow, destinationHigh, destinationLow, started, risen, stepped, fallen, stillOn, blockEnded, generalEnded}
+use Rattle.hdma.specs.Hdma.{sourceHigh, sourceLow, destinationHigh, destinationLow, risen, stepped, fallen, stillOn, blockEnded, generalEnded}
 use Rattle.hdma.specs.declared.Hdma.{Hdma}
-use Rattle.hdma.proofs.Laws.{risen-address}
+use Rattle.hdma.specs.declared.Start.{Start}
+use Rattle.hdma.proofs.Laws.{risen-address, by-start}
 use Rattle.interrupt.specs.Flags.{requested, removed}
 use Rattle.interrupt.specs.declared.Interrupt.{Interrupt}
 use Rattle.joypad.specs.declared.Controller.{Controller}
@@ -67,17 +68,18 @@ use Rattle.registers.specs.Colour.{
   spriteIndexPut,
   spriteDataPut,
 }
-use Rattle.registers.specs.Transfers.{sourceHighPut, sourceLowPut, destinationHighPut, destinationLowPut, startPut, withEnded, finished}
+use Rattle.registers.specs.Transfers.{sourceHighPut, sourceLowPut, destinationHighPut, destinationLowPut, startedBy, started, startPut, withEnded, finished}
 use Rattle.registers.specs.Page.{plainWrite, writeRegister}
 use Rattle.registers.specs.declared.transfers.Finish.{Finish}
+use Rattle.registers.specs.declared.transfers.Started.{Started}
 use Rattle.registers.specs.declared.transfers.Finish.the-variants.{Nothing, Block, General}
 
 pub record Kept (m n : Memory) : Type 0 where
   pub range : stateInRange m ≡ true → stateInRange n ≡ true
-  pub colour : n .banks .colour ≡ m .banks .colour
-  pub cartridge : n .cartridge ≡ m .cartridge
-  pub mapper : n .mapper ≡ m .mapper
-  pub used : n .used ≡ m .used
+  pub colour : n .core .banks .colour ≡ m .core .banks .colour
+  pub cartridge : n .core .cartridge ≡ m .core .cartridge
+  pub mapper : n .core .mapper ≡ m .core .mapper
+  pub used : n .core .used ≡ m .core .used
 
 pub kept-refl : (m : Memory) → Kept m m
 kept-refl m = record { range = λ h. h; colour = refl; cartridge = refl; mapper = refl; used = refl }
@@ -94,22 +96,22 @@ kept-trans a b =
 
 -- Changes that no range reads
 
-pub plain-kept : (m : Memory) (o p : List ℕ) (l : Lcd) (j : Controller) → Kept m (plain m o p l j (m .used))
+pub plain-kept : (m : Memory) (o p : List ℕ) (l : Lcd) (j : Controller) → Kept m (plain m o p l j (m .core .used))
 plain-kept m o p l j =
-    record { range = λ h. plain-range m o p l j (m .used) ∙ h; colour = refl; cartridge = refl; mapper = refl; used = refl }
+    record { range = λ h. plain-range m o p l j (m .core .used) ∙ h; colour = refl; cartridge = refl; mapper = refl; used = refl }
 
 pub oam-kept : (m : Memory) (o : List ℕ) → Kept m (withOam m o)
-oam-kept m o = plain-kept m o (m .page) (m .lcd) (m .joypad)
+oam-kept m o = plain-kept m o (m .page) (m .core .lcd) (m .core .joypad)
 
 pub stored-kept : (m : Memory) (at v : ℕ) → Kept m (stored m at v)
-stored-kept m at v = plain-kept m (m .oam) (set (m .page) at v) (m .lcd) (m .joypad)
+stored-kept m at v = plain-kept m (m .oam) (set (m .page) at v) (m .core .lcd) (m .core .joypad)
 
 pub screen-kept : (f : Screen → Screen) (m : Memory) → Kept m (onScreen f m)
 unfolding onScreen
-screen-kept f m = plain-kept m (m .oam) (withScreen m (f (screenOf m)) .page) (f (screenOf m) .lcd) (m .joypad)
+screen-kept f m = plain-kept m (m .oam) (withScreen m (f (screenOf m)) .page) (f (screenOf m) .lcd) (m .core .joypad)
 
 pub hosted-kept : (m : Memory) (l : Lcd) → Kept m (hosted m l)
-hosted-kept m l = plain-kept m (m .oam) (m .page) l (m .joypad)
+hosted-kept m l = plain-kept m (m .oam) (m .page) l (m .core .joypad)
 
 pub requested-kept : (m : Memory) (i : Interrupt) → Kept m (requestedIn m i)
 requested-kept m i = stored-kept m 0x0F (requested (loaded m 0x0F) i)
@@ -118,10 +120,10 @@ pub removed-kept : (m : Memory) (i : Interrupt) → Kept m (removedIn m i)
 removed-kept m i = stored-kept m 0x0F (removed (loaded m 0x0F) i)
 
 pub controller-kept : (m : Memory) (c : Controller) → Kept m (withController m c)
-controller-kept m c = plain-kept m (m .oam) (m .page) (m .lcd) c
+controller-kept m c = plain-kept m (m .oam) (m .page) (m .core .lcd) c
 
 pub polled-kept : (m : Memory) → Kept m (polledIn m)
-polled-kept m = plain-kept m (m .oam) (polledIn m .page) (m .lcd) (polledIn m .joypad)
+polled-kept m = plain-kept m (m .oam) (polledIn m .page) (m .core .lcd) (polledIn m .core .joypad)
 
 -- The timer
 
@@ -148,8 +150,8 @@ timer-kept m c =
 
 -- Registers that only a colour machine has
 
-in-colour-kept : (m : Memory) (at v : ℕ) (n : Memory) → (m .banks .colour ≡ true → Kept m n) → Kept m (inColour m at v n)
-in-colour-kept m at v n k = by-cond (Kept m) (m .banks .colour) n (stored m at v) k (λ e. stored-kept m at v)
+in-colour-kept : (m : Memory) (at v : ℕ) (n : Memory) → (m .core .banks .colour ≡ true → Kept m n) → Kept m (inColour m at v n)
+in-colour-kept m at v n k = by-cond (Kept m) (m .core .banks .colour) n (stored m at v) k (λ e. stored-kept m at v)
 
 speed-kept : (m : Memory) (v : ℕ) → Kept m (speedPut m v)
 unfolding speedPut
@@ -157,7 +159,7 @@ speed-kept m v =
     let n = stored m 0x4D (speedOf (loaded m 0x4D) v) in
     in-colour-kept m 0x4D v n (λ e. stored-kept m 0x4D (speedOf (loaded m 0x4D) v))
 
-banks-kept : (m : Memory) (b : Banks) (p : List ℕ) → b .colour ≡ m .banks .colour → (banksInRange (m .banks) ≡ true → banksInRange b ≡ true)
+banks-kept : (m : Memory) (b : Banks) (p : List ℕ) → b .colour ≡ m .core .banks .colour → (banksInRange (m .core .banks) ≡ true → banksInRange b ≡ true)
     → Kept m (withBanks m b p)
 banks-kept m b p e k =
     record { range = λ h. banks-range m h b p e (k (range-banks m h)); colour = e; cartridge = refl; mapper = refl; used = refl }
@@ -165,12 +167,12 @@ banks-kept m b p e k =
 vram-bank-kept : (m : Memory) (v : ℕ) → Kept m (vramBankPut m v)
 unfolding vramBankPut
 vram-bank-kept m v =
-    let b : Banks = record { colour = m .banks .colour; vram = vramBankOf v; wram = m .banks .wram } in
+    let b : Banks = record { colour = m .core .banks .colour; vram = vramBankOf v; wram = m .core .banks .wram } in
     in-colour-kept m 0x4F v (withBanks m b (set (m .page) 0x4F (vramBankOf v)))
     (λ e.
     banks-kept m b (set (m .page) 0x4F (vramBankOf v)) refl
     (λ h.
-    let f = colour-banks (m .banks) e h in
+    let f = colour-banks (m .core .banks) e h in
     banks-colour b e (record { vram = omega arith; least = f .least; most = f .most })))
 
 wram-bank-range : (v : ℕ) → (1 ≤ wramBankOf v) × (wramBankOf v ≤ 7)
@@ -182,13 +184,13 @@ wram-bank-range v =
 wram-bank-kept : (m : Memory) (v : ℕ) → Kept m (wramBankPut m v)
 unfolding wramBankPut
 wram-bank-kept m v =
-    let b : Banks = record { colour = m .banks .colour; vram = m .banks .vram; wram = wramBankOf v } in
+    let b : Banks = record { colour = m .core .banks .colour; vram = m .core .banks .vram; wram = wramBankOf v } in
     in-colour-kept m 0x70 v (withBanks m b (set (m .page) 0x70 (v % 8)))
     (λ e.
     banks-kept m b (set (m .page) 0x70 (v % 8)) refl
     (λ h.
     banks-colour b e
-    (record { vram = colour-banks (m .banks) e h .vram; least = wram-bank-range v .0; most = wram-bank-range v .1 })))
+    (record { vram = colour-banks (m .core .banks) e h .vram; least = wram-bank-range v .0; most = wram-bank-range v .1 })))
 
 -- Palettes
 
@@ -247,11 +249,11 @@ sprite-data-kept m v =
 
 -- Transfers
 
-hdma-kept : (m : Memory) (x : Hdma) (p : List ℕ) → (HdmaParts (m .hdma) (m .banks .colour) → HdmaParts x (m .banks .colour))
+hdma-kept : (m : Memory) (x : Hdma) (p : List ℕ) → (HdmaParts (m .core .hdma) (m .core .banks .colour) → HdmaParts x (m .core .banks .colour))
     → Kept m (withHdma m x p)
 hdma-kept m x p k =
     record {
-      range = λ h. transfer-range m h x p (parts-hdma x (m .banks .colour) (k (hdma-parts (m .hdma) (m .banks .colour) (range-hdma m h))));
+      range = λ h. transfer-range m h x p (parts-hdma x (m .core .banks .colour) (k (hdma-parts (m .core .hdma) (m .core .banks .colour) (range-hdma m h))));
       colour = refl;
       cartridge = refl;
       mapper = refl;
@@ -282,12 +284,19 @@ destination-low-kept m v =
     in-colour-kept m 0x54 v _
     (λ e. hdma-kept m _ _ (λ f. record { source = f .source; destination = omega arith; allowed = f .allowed }))
 
--- HDMA may be switched on here, in colour
+-- HDMA may be switched on, in colour
+switched-kept : (m : Memory) (on : Bool) (p : List ℕ) → m .core .banks .colour ≡ true
+    → Kept m (withHdma m (record { on = on; source = m .core .hdma .source; destination = m .core .hdma .destination }) p)
+switched-kept m on p e = hdma-kept m _ p (λ f. record { source = f .source; destination = f .destination; allowed = rw e })
+
 start-kept : (m : Memory) (v : ℕ) → Kept m (startPut m v)
-unfolding startPut started
+unfolding started
 start-kept m v =
-    in-colour-kept m 0x55 v _
-    (λ e. hdma-kept m _ _ (λ f. record { source = f .source; destination = f .destination; allowed = rw e }))
+    by-cond (λ (s : Started). Kept m (s .memory)) (m .core .banks .colour) _ _
+    (λ e.
+    by-start (λ (s : Start). Kept m (startedBy m v s .memory)) (m .core .hdma) (m .core .lcd .mode) v (switched-kept m true _ e)
+    (switched-kept m true _ e) (switched-kept m false _ e) (kept-refl m))
+    (λ e. stored-kept m 0x55 v)
 
 stepped-range : (edge past a : ℕ) → past % 16 ≡ 0 → a % 16 ≡ 0 → stepped edge past a % 16 ≡ 0
 unfolding stepped
@@ -297,25 +306,25 @@ still-allowed : (colour on : Bool) (left : ℕ) → (colour || not on) ≡ true 
 unfolding stillOn
 still-allowed colour on left h = cond-both (λ (o : Bool). (colour || not o) ≡ true) (eqb left 255) (or-true colour) h
 
-block-kept : (m : Memory) → Kept m (withEnded m (blockEnded (m .hdma) (loaded m 0x55)))
+block-kept : (m : Memory) → Kept m (withEnded m (blockEnded (m .core .hdma) (loaded m 0x55)))
 unfolding blockEnded
 block-kept m =
     hdma-kept m _ _
     (λ f.
     record {
-      source = stepped-range 0x8000 0xA000 (m .hdma .source) refl (f .source);
-      destination = stepped-range 0xA000 0x8000 (m .hdma .destination) refl (f .destination);
-      allowed = still-allowed (m .banks .colour) (m .hdma .on) (fallen (loaded m 0x55)) (f .allowed);
+      source = stepped-range 0x8000 0xA000 (m .core .hdma .source) refl (f .source);
+      destination = stepped-range 0xA000 0x8000 (m .core .hdma .destination) refl (f .destination);
+      allowed = still-allowed (m .core .banks .colour) (m .core .hdma .on) (fallen (loaded m 0x55)) (f .allowed);
     })
 
-general-kept : (m : Memory) (v : ℕ) → Kept m (withEnded m (generalEnded (m .hdma) v))
+general-kept : (m : Memory) (v : ℕ) → Kept m (withEnded m (generalEnded (m .core .hdma) v))
 unfolding generalEnded
 general-kept m v =
     hdma-kept m _ _
     (λ f.
     record {
-      source = risen-address (m .hdma .source) _ (f .source) (omega arith) .0;
-      destination = risen-address (m .hdma .destination) _ (f .destination) (omega arith) .0;
+      source = risen-address (m .core .hdma .source) _ (f .source) (omega arith) .0;
+      destination = risen-address (m .core .hdma .destination) _ (f .destination) (omega arith) .0;
       allowed = f .allowed;
     })
 

@@ -1,12 +1,22 @@
--- What a write of FF55 starts, read off the crate hdma's answer.
-use mathlib.Core.Path.{_≡_, sym, ap, _∙_}
+-- What a byte write copies is one of four things.
+use mathlib.Core.Bool.{cond}
 use Prim.Native.Nat.{ℕ}
-use Rattle.hdma.specs.Hdma.{started, starts}
-use Rattle.hdma.specs.declared.Hdma.{Hdma}
+use lib.Dec.{eqb}
+use Rattle.hdma.proofs.Laws.{by-start}
+use Rattle.hdma.specs.Hdma.{starts}
 use Rattle.hdma.specs.declared.Start.{Start}
-use Rattle.hdma.specs.declared.Started.{Started}
+use Rattle.memory.specs.declared.Memory.{Memory}
+use Rattle.rules.proofs.Tests.{cond-both}
+use Rattle.registers.specs.Transfers.{nothing, oamCopy, blockCopy, generalCopy, startedBy, started, copyOf}
+use Rattle.registers.specs.declared.transfers.Copy.{Copy}
+use Rattle.registers.specs.declared.transfers.Started.{Started}
 
-pub starts-as : (h : Hdma) (mode v old : ℕ) {r : Started} {k : Start} → r ≡ started h mode v old → r .start ≡ k
-    → starts (h .on) mode v ≡ k
-unfolding started
-starts-as h mode v old e f = sym (ap (λ (s : Started). s .start) e) ∙ f
+pub by-copy : (P : Copy → Type 0) (m : Memory) (index v : ℕ) → P nothing → P (oamCopy v) → P (blockCopy m) → P (generalCopy m v)
+    → P (copyOf m index v)
+unfolding copyOf started
+by-copy P m index v n o b g =
+    cond-both P (eqb index 0xFF46) o
+    (cond-both P (eqb index 0xFF55)
+    (cond-both (λ (s : Started). P (s .copy)) (m .core .banks .colour)
+    (by-start (λ (s : Start). P (startedBy m v s .copy)) (m .core .hdma) (m .core .lcd .mode) v n b n g) n)
+    n)

@@ -12,7 +12,7 @@ use Rattle.registers.specs.State.{loaded, stored}
 
 -- monochrome just stores
 abbrev pub inColour : Memory → ℕ → ℕ → Memory → Memory
-inColour m at v coloured = cond (m .banks .colour) coloured (stored m at v)
+inColour m at v coloured = cond (m .core .banks .colour) coloured (stored m at v)
 
 unfoldable pub speedPut : Memory → ℕ → Memory
 speedPut m v = inColour m 0x4D v (stored m 0x4D (speedOf (loaded m 0x4D) v))
@@ -20,12 +20,12 @@ speedPut m v = inColour m 0x4D v (stored m 0x4D (speedOf (loaded m 0x4D) v))
 unfoldable pub vramBankPut : Memory → ℕ → Memory
 vramBankPut m v =
     inColour m 0x4F v
-    (withBanks m (record { colour = m .banks .colour; vram = vramBankOf v; wram = m .banks .wram }) (set (m .page) 0x4F (vramBankOf v)))
+    (withBanks m (record { colour = m .core .banks .colour; vram = vramBankOf v; wram = m .core .banks .wram }) (set (m .page) 0x4F (vramBankOf v)))
 
 unfoldable pub wramBankPut : Memory → ℕ → Memory
 wramBankPut m v =
     inColour m 0x70 v
-    (withBanks m (record { colour = m .banks .colour; vram = m .banks .vram; wram = wramBankOf v }) (set (m .page) 0x70 (v % 8)))
+    (withBanks m (record { colour = m .core .banks .colour; vram = m .core .banks .vram; wram = wramBankOf v }) (set (m .page) 0x70 (v % 8)))
 
 -- the background's palette: FF68, FF69 and its colours
 abbrev pub backgroundOf : Memory → Palette

@@ -48,7 +48,7 @@ shownAs byte cgb lcd pad sound at =
     (plainRead byte sound at))))))))))))))))
 
 unfoldable pub readRegister : Memory → List ℕ → ℕ → ℕ
-readRegister m sound at = shownAs (loaded m at) (m .banks .colour) (m .lcd) (m .joypad .state) sound at
+readRegister m sound at = shownAs (loaded m at) (m .core .banks .colour) (m .core .lcd) (m .core .joypad .state) sound at
 
 -- the rest of the page: a write in FF10..FF3F changes no bus byte, all else is stored
 unfoldable pub plainWrite : Memory → ℕ → ℕ → Memory

@@ -23,7 +23,7 @@ stored m at v = withPage m (set (m .page) at v)
 abbrev pub screenOf : Memory → Screen
 screenOf m =
     record {
-      lcd = m .lcd;
+      lcd = m .core .lcd;
       control = loaded m 0x40;
       status = loaded m 0x41;
       compare = loaded m 0x45;
@@ -53,8 +53,8 @@ timerOf m =
       tma = loaded m 0x06;
       tac = loaded m 0x07;
       flags = loaded m 0x0F;
-      «div_cycles» = m .clock .div;
-      «tima_cycles» = m .clock .tima;
+      «div_cycles» = m .core .clock .div;
+      «tima_cycles» = m .core .clock .tima;
     }
 
 -- an update leaves TMA and TAC
@@ -76,5 +76,5 @@ withController m c = withJoypad m c (m .page)
 -- the joypad's update
 abbrev pub polledIn : Memory → Memory
 polledIn m =
-    withJoypad m (polled (m .joypad) (loaded m 0x00) (loaded m 0x0F) .controller)
-    (set (m .page) 0x0F (polled (m .joypad) (loaded m 0x00) (loaded m 0x0F) .flags))
+    withJoypad m (polled (m .core .joypad) (loaded m 0x00) (loaded m 0x0F) .controller)
+    (set (m .page) 0x0F (polled (m .core .joypad) (loaded m 0x00) (loaded m 0x0F) .flags))

@@ -4,44 +4,37 @@ use mathlib.Core.Bool.{cond}
 use Prim.Native.Nat.{ℕ, _+_, _*_, _-_, _≤_, min}
 use lib.Dec.{eqb, ltb}
 use lib.ListN.{set}
-use Rattle.hdma.specs.Hdma.{sourceHigh, sourceLow, destinationHigh, destinationLow, started, starts, sourceUsed, destinationUsed, blockEnded, generalEnded}
+use Rattle.hdma.specs.Hdma.{sourceHigh, sourceLow, destinationHigh, destinationLow, starts, sourceUsed, destinationUsed, blockEnded, generalEnded}
 use Rattle.hdma.specs.PanDocs.{lengthOf}
 use Rattle.hdma.specs.declared.Ended.{Ended}
-use Rattle.hdma.specs.declared.Hdma.{Hdma}
 use Rattle.hdma.specs.declared.Start.{Start}
 use Rattle.hdma.specs.declared.Start.the-variants as start
+use Rattle.hdma.specs.declared.Written.{Written}
 use Rattle.memory.specs.World.{withHdma}
 use Rattle.memory.specs.declared.Memory.{Memory}
 use Rattle.registers.specs.PanDocs.{oamBytes, oamStart, vramEnd}
 use Rattle.registers.specs.Colour.{inColour}
-use Rattle.registers.specs.State.{loaded}
+use Rattle.registers.specs.State.{loaded, stored}
 use Rattle.registers.specs.declared.transfers.Copy.{Copy}
 use Rattle.registers.specs.declared.transfers.Finish.{Finish}
 use Rattle.registers.specs.declared.transfers.Finish.the-variants.{Nothing, Block, General}
+use Rattle.registers.specs.declared.transfers.Started.{Started}
 
 -- the hidden addresses, and a byte of the page
-abbrev pub transferPut : Memory → ℕ → Hdma → ℕ → Memory
-transferPut m at h byte = withHdma m h (set (m .page) at byte)
+abbrev pub transferPut : Memory → ℕ → Written → Memory
+transferPut m at w = withHdma m (w .hdma) (set (m .page) at (w .byte))
 
 unfoldable pub sourceHighPut : Memory → ℕ → Memory
-sourceHighPut m v = inColour m 0x51 v (transferPut m 0x51 (sourceHigh (m .hdma) v .hdma) (sourceHigh (m .hdma) v .byte))
+sourceHighPut m v = inColour m 0x51 v (transferPut m 0x51 (sourceHigh (m .core .hdma) v))
 
 unfoldable pub sourceLowPut : Memory → ℕ → Memory
-sourceLowPut m v = inColour m 0x52 v (transferPut m 0x52 (sourceLow (m .hdma) v .hdma) (sourceLow (m .hdma) v .byte))
+sourceLowPut m v = inColour m 0x52 v (transferPut m 0x52 (sourceLow (m .core .hdma) v))
 
 unfoldable pub destinationHighPut : Memory → ℕ → Memory
-destinationHighPut m v =
-    inColour m 0x53 v (transferPut m 0x53 (destinationHigh (m .hdma) v .hdma) (destinationHigh (m .hdma) v .byte))
+destinationHighPut m v = inColour m 0x53 v (transferPut m 0x53 (destinationHigh (m .core .hdma) v))
 
 unfoldable pub destinationLowPut : Memory → ℕ → Memory
-destinationLowPut m v =
-    inColour m 0x54 v (transferPut m 0x54 (destinationLow (m .hdma) v .hdma) (destinationLow (m .hdma) v .byte))
-
--- FF55, before any byte is copied
-unfoldable pub startPut : Memory → ℕ → Memory
-startPut m v =
-    inColour m 0x55 v
-    (transferPut m 0x55 (started (m .hdma) (m .lcd .mode) v (loaded m 0x55) .hdma) (started (m .hdma) (m .lcd .mode) v (loaded m 0x55) .byte))
+destinationLowPut m v = inColour m 0x54 v (transferPut m 0x54 (destinationLow (m .core .hdma) v))
 
 -- FF51..FF55 as a transfer leaves them
 abbrev pub withEnded : Memory → Ended → Memory
@@ -61,26 +54,35 @@ oamCopy page =
 -- an HDMA block: 16 bytes
 abbrev pub blockCopy : Memory → Copy
 blockCopy m =
-    record { source = sourceUsed (m .hdma); destination = destinationUsed (m .hdma); count = 16; finish = Block }
+    record { source = sourceUsed (m .core .hdma); destination = destinationUsed (m .core .hdma); count = 16; finish = Block }
 
 -- a general transfer: of its bytes, those that land in video memory ("Our one change")
 abbrev pub generalCopy : Memory → ℕ → Copy
 generalCopy m v =
     record {
-      source = sourceUsed (m .hdma);
-      destination = destinationUsed (m .hdma);
-      count = min (lengthOf v) (vramEnd - destinationUsed (m .hdma));
+      source = sourceUsed (m .core .hdma);
+      destination = destinationUsed (m .core .hdma);
+      count = min (lengthOf v) (vramEnd - destinationUsed (m .core .hdma));
       finish = General;
     }
 
-abbrev pub startedCopy : Memory → ℕ → Start → Copy
-startedCopy m v start.Nothing = nothing
-startedCopy m v start.Block = blockCopy m
-startedCopy m v start.General = generalCopy m v
+-- FF55 as it is decided: the state before any byte is copied, and what is copied; a general transfer sets the registers at its end
+abbrev pub startedBy : Memory → ℕ → Start → Started
+startedBy m v (start.Set w) = record { memory = transferPut m 0x55 w; copy = nothing }
+startedBy m v (start.Block w) = record { memory = transferPut m 0x55 w; copy = blockCopy m }
+startedBy m v start.General = record { memory = m; copy = generalCopy m v }
 
--- FF55: on a monochrome machine it starts nothing
-unfoldable pub startCopy : Memory → ℕ → Copy
-startCopy m v = cond (m .banks .colour) (startedCopy m v (starts (m .hdma .on) (m .lcd .mode) v)) nothing
+-- a monochrome machine just stores it
+unfoldable pub started : Memory → ℕ → Started
+started m v =
+    cond (m .core .banks .colour) (startedBy m v (starts (m .core .hdma) (m .core .lcd .mode) v))
+    (record { memory = stored m 0x55 v; copy = nothing })
+
+abbrev pub startPut : Memory → ℕ → Memory
+startPut m v = started m v .memory
+
+abbrev pub startCopy : Memory → ℕ → Copy
+startCopy m v = started m v .copy
 
 -- what a byte write copies, from the state before it
 unfoldable pub copyOf : Memory → ℕ → ℕ → Copy
@@ -93,5 +95,5 @@ Bounded c = c .destination + c .count ≤ 0xFEA0
 -- the registers after the last byte
 unfoldable pub finished : Memory → Finish → ℕ → Memory
 finished m Nothing v = m
-finished m Block v = withEnded m (blockEnded (m .hdma) (loaded m 0x55))
-finished m General v = withEnded m (generalEnded (m .hdma) v)
+finished m Block v = withEnded m (blockEnded (m .core .hdma) (loaded m 0x55))
+finished m General v = withEnded m (generalEnded (m .core .hdma) v)

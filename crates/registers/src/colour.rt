@@ -17,7 +17,7 @@ fn speed(current: u8, value: u8) -> u8
 pub fn write_speed(memory: Memory, value: u8) -> Memory
     ensures { λ r. ⌜ r ≡ speedPut memory value ⌝ }
 {
-    let banks = memory.banks;
+    let banks = memory.core.banks;
     if banks.colour {
         let next = speed(memory.page[0x4D], value);
         return store(memory, 0x4D, next);
@@ -29,12 +29,14 @@ pub fn write_speed(memory: Memory, value: u8) -> Memory
 pub fn write_vram_bank(memory: Memory, value: u8) -> Memory
     ensures { λ r. ⌜ r ≡ vramBankPut memory value ⌝ }
 {
-    let mut banks = memory.banks;
+    let mut banks = memory.core.banks;
     if banks.colour {
         banks.vram = value % 2;
+        let mut core = memory.core;
+        core.banks = banks;
         let mut next = memory;
         next.page[0x4F] = value % 2;
-        next.banks = banks;
+        next.core = core;
         return next;
     }
     store(memory, 0x4F, value)
@@ -55,12 +57,14 @@ fn wram_bank(value: u8) -> u8
 pub fn write_wram_bank(memory: Memory, value: u8) -> Memory
     ensures { λ r. ⌜ r ≡ wramBankPut memory value ⌝ }
 {
-    let mut banks = memory.banks;
+    let mut banks = memory.core.banks;
     if banks.colour {
         banks.wram = wram_bank(value);
+        let mut core = memory.core;
+        core.banks = banks;
         let mut next = memory;
         next.page[0x70] = value % 8;
-        next.banks = banks;
+        next.core = core;
         return next;
     }
     store(memory, 0x70, value)
@@ -114,7 +118,7 @@ fn with_sprites(memory: Memory, palette: Palette) -> Memory
 pub fn write_background_index(memory: Memory, value: u8) -> Memory
     ensures { λ r. ⌜ r ≡ backgroundIndexPut memory value ⌝ }
 {
-    let banks = memory.banks;
+    let banks = memory.core.banks;
     if banks.colour {
         let palette = background_of(memory);
         let next = palette::write_index(palette, value);
@@ -127,7 +131,7 @@ pub fn write_background_index(memory: Memory, value: u8) -> Memory
 pub fn write_background_data(memory: Memory, value: u8) -> Memory
     ensures { λ r. ⌜ r ≡ backgroundDataPut memory value ⌝ }
 {
-    let banks = memory.banks;
+    let banks = memory.core.banks;
     if banks.colour {
         let palette = background_of(memory);
         let next = palette::write_data(palette, value);
@@ -140,7 +144,7 @@ pub fn write_background_data(memory: Memory, value: u8) -> Memory
 pub fn write_sprite_index(memory: Memory, value: u8) -> Memory
     ensures { λ r. ⌜ r ≡ spriteIndexPut memory value ⌝ }
 {
-    let banks = memory.banks;
+    let banks = memory.core.banks;
     if banks.colour {
         let palette = sprites_of(memory);
         let next = palette::write_index(palette, value);
@@ -153,7 +157,7 @@ pub fn write_sprite_index(memory: Memory, value: u8) -> Memory
 pub fn write_sprite_data(memory: Memory, value: u8) -> Memory
     ensures { λ r. ⌜ r ≡ spriteDataPut memory value ⌝ }
 {
-    let banks = memory.banks;
+    let banks = memory.core.banks;
     if banks.colour {
         let palette = sprites_of(memory);
         let next = palette::write_data(palette, value);

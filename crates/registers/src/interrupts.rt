@@ -36,7 +36,7 @@ pub fn get_interrupts(memory: Memory) -> Pending
 pub fn timer_of(memory: Memory) -> Timer
     ensures { λ r. ⌜ r ≡ timerOf memory ⌝ }
 {
-    let clock = memory.clock;
+    let clock = memory.core.clock;
     Timer {
         div: memory.page[0x04],
         tima: memory.page[0x05],
@@ -51,14 +51,16 @@ pub fn timer_of(memory: Memory) -> Timer
 pub fn with_timer(memory: Memory, timer: Timer) -> Memory
     ensures { λ r. ⌜ r ≡ withTimer memory timer ⌝ }
 {
-    let mut clock = memory.clock;
+    let mut clock = memory.core.clock;
     clock.div = timer.div_cycles;
     clock.tima = timer.tima_cycles;
+    let mut core = memory.core;
+    core.clock = clock;
     let mut next = memory;
     next.page[0x04] = timer.div;
     next.page[0x05] = timer.tima;
     next.page[0x0F] = timer.flags;
-    next.clock = clock;
+    next.core = core;
     next
 }
 
@@ -66,15 +68,17 @@ pub fn with_timer(memory: Memory, timer: Timer) -> Memory
 pub fn with_controller(memory: Memory, controller: Controller) -> Memory
     ensures { λ r. ⌜ r ≡ withController memory controller ⌝ }
 {
+    let mut core = memory.core;
+    core.joypad = controller;
     let mut next = memory;
-    next.joypad = controller;
+    next.core = core;
     next
 }
 
 pub fn set_joypad_state(memory: Memory, state: u8) -> Memory
-    ensures { λ r. ⌜ r ≡ withController memory (withState (memory .joypad) state) ⌝ }
+    ensures { λ r. ⌜ r ≡ withController memory (withState (memory .core .joypad) state) ⌝ }
 {
-    let controller = memory.joypad;
+    let controller = memory.core.joypad;
     let next = controller.set_joypad_state(state);
     with_controller(memory, next)
 }
@@ -83,12 +87,14 @@ pub fn set_joypad_state(memory: Memory, state: u8) -> Memory
 pub fn update_joypad(memory: Memory) -> Memory
     ensures { λ r. ⌜ r ≡ polledIn memory ⌝ }
 {
-    let controller = memory.joypad;
+    let controller = memory.core.joypad;
     let polled = controller.update(memory.page[0x00], memory.page[0x0F]);
     let after = polled.controller;
+    let mut core = memory.core;
+    core.joypad = after;
     let mut next = memory;
     next.page[0x0F] = polled.flags;
-    next.joypad = after;
+    next.core = core;
     next
 }
 

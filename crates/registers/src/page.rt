@@ -71,9 +71,9 @@ pub fn read(memory: Memory, sound: &[u8], at: u8) -> u8
     ensures { λ r. ⌜ r ≡ readRegister memory (now (sound .entry)) at ⌝ }
 {
     let byte = load(memory, at);
-    let banks = memory.banks;
-    let lcd = memory.lcd;
-    let controller = memory.joypad;
+    let banks = memory.core.banks;
+    let lcd = memory.core.lcd;
+    let controller = memory.core.joypad;
     shown(byte, banks.colour, lcd, controller.state, sound, at)
 }
 
@@ -93,7 +93,7 @@ pub fn write(memory: Memory, at: u8, value: u8) -> Memory
         0x52 => transfers::write_source_low(memory, value),
         0x53 => transfers::write_destination_high(memory, value),
         0x54 => transfers::write_destination_low(memory, value),
-        0x55 => transfers::do_cgb_dma(memory, value),
+        0x55 => transfers::write_start(memory, value),
         0x68 => colour::write_background_index(memory, value),
         0x69 => colour::write_background_data(memory, value),
         0x6A => colour::write_sprite_index(memory, value),

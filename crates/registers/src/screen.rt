@@ -9,7 +9,7 @@ use memory::Memory;
 fn screen_of(memory: Memory) -> Screen
     ensures { λ r. ⌜ r ≡ screenOf memory ⌝ }
 {
-    let lcd = memory.lcd;
+    let lcd = memory.core.lcd;
     Screen {
         lcd: lcd,
         control: memory.page[0x40],
@@ -24,12 +24,14 @@ fn with_screen(memory: Memory, screen: Screen) -> Memory
     ensures { λ r. ⌜ r ≡ withScreen memory screen ⌝ }
 {
     let lcd = screen.lcd;
+    let mut core = memory.core;
+    core.lcd = lcd;
     let mut next = memory;
     next.page[0x40] = screen.control;
     next.page[0x41] = screen.status;
     next.page[0x45] = screen.compare;
     next.page[0x0F] = screen.flags;
-    next.lcd = lcd;
+    next.core = core;
     next
 }
 
@@ -101,7 +103,9 @@ pub fn do_lcd_status_write(memory: Memory, value: u8) -> Memory
 pub fn host(memory: Memory, lcd: Lcd) -> Memory
     ensures { λ r. ⌜ r ≡ hosted memory lcd ⌝ }
 {
+    let mut core = memory.core;
+    core.lcd = lcd;
     let mut next = memory;
-    next.lcd = lcd;
+    next.core = core;
     next
 }

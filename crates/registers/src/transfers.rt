@@ -1,10 +1,12 @@
 // FF46 and FF51..FF55: the registers of the transfers, which transfer a write starts, and how the registers end. The bytes are copied by the crate mmu.
 ghost use mathlib.Core.Path.{_≡_};
 ghost use Prim.Native.Nat.{_≤_, _+_, _-_, min};
-ghost use Rattle.registers.specs.Transfers.{sourceHighPut, sourceLowPut, destinationHighPut, destinationLowPut, startPut, withEnded, oamCopy, blockCopy, generalCopy, startCopy, copyOf, nothing, finished, Bounded};
+ghost use Rattle.registers.specs.Page.{writeRegister};
+ghost use Rattle.registers.specs.Transfers.{transferPut, sourceHighPut, sourceLowPut, destinationHighPut, destinationLowPut, startPut, withEnded, oamCopy, blockCopy, generalCopy, startedBy, started, copyOf, nothing, finished, Bounded};
 use crate::store;
 use hdma::Ended;
 use hdma::Start;
+use hdma::Written;
 use memory::Memory;
 
 // Which registers a copy sets at its end.
@@ -22,19 +24,32 @@ pub struct Copy {
     pub finish: Finish,
 }
 
+// A write that starts a transfer: the state before any byte is copied, and what is copied.
+pub struct Started {
+    pub memory: Memory,
+    pub copy: Copy,
+}
+
+// The hidden addresses, and a byte of the page.
+fn put_written(memory: Memory, at: u8, written: Written) -> Memory
+    ensures { λ r. ⌜ r ≡ transferPut memory at written ⌝ }
+{
+    let after = written.hdma;
+    let mut core = memory.core;
+    core.hdma = after;
+    let mut next = store(memory, at, written.byte);
+    next.core = core;
+    next
+}
+
 // FF51.
 pub fn write_source_high(memory: Memory, value: u8) -> Memory
     ensures { λ r. ⌜ r ≡ sourceHighPut memory value ⌝ }
 {
-    let banks = memory.banks;
+    let banks = memory.core.banks;
     if banks.colour {
-        let hdma = memory.hdma;
-        let written = hdma::write_source_high(hdma, value);
-        let after = written.hdma;
-        let mut next = memory;
-        next.page[0x51] = written.byte;
-        next.hdma = after;
-        return next;
+        let hdma = memory.core.hdma;
+        return put_written(memory, 0x51, hdma::write_source_high(hdma, value));
     }
     store(memory, 0x51, value)
 }
@@ -43,15 +58,10 @@ pub fn write_source_high(memory: Memory, value: u8) -> Memory
 pub fn write_source_low(memory: Memory, value: u8) -> Memory
     ensures { λ r. ⌜ r ≡ sourceLowPut memory value ⌝ }
 {
-    let banks = memory.banks;
+    let banks = memory.core.banks;
     if banks.colour {
-        let hdma = memory.hdma;
-        let written = hdma::write_source_low(hdma, value);
-        let after = written.hdma;
-        let mut next = memory;
-        next.page[0x52] = written.byte;
-        next.hdma = after;
-        return next;
+        let hdma = memory.core.hdma;
+        return put_written(memory, 0x52, hdma::write_source_low(hdma, value));
     }
     store(memory, 0x52, value)
 }
@@ -60,15 +70,10 @@ pub fn write_source_low(memory: Memory, value: u8) -> Memory
 pub fn write_destination_high(memory: Memory, value: u8) -> Memory
     ensures { λ r. ⌜ r ≡ destinationHighPut memory value ⌝ }
 {
-    let banks = memory.banks;
+    let banks = memory.core.banks;
     if banks.colour {
-        let hdma = memory.hdma;
-        let written = hdma::write_destination_high(hdma, value);
-        let after = written.hdma;
-        let mut next = memory;
-        next.page[0x53] = written.byte;
-        next.hdma = after;
-        return next;
+        let hdma = memory.core.hdma;
+        return put_written(memory, 0x53, hdma::write_destination_high(hdma, value));
     }
     store(memory, 0x53, value)
 }
@@ -77,48 +82,27 @@ pub fn write_destination_high(memory: Memory, value: u8) -> Memory
 pub fn write_destination_low(memory: Memory, value: u8) -> Memory
     ensures { λ r. ⌜ r ≡ destinationLowPut memory value ⌝ }
 {
-    let banks = memory.banks;
+    let banks = memory.core.banks;
     if banks.colour {
-        let hdma = memory.hdma;
-        let written = hdma::write_destination_low(hdma, value);
-        let after = written.hdma;
-        let mut next = memory;
-        next.page[0x54] = written.byte;
-        next.hdma = after;
-        return next;
+        let hdma = memory.core.hdma;
+        return put_written(memory, 0x54, hdma::write_destination_low(hdma, value));
     }
     store(memory, 0x54, value)
-}
-
-// FF55 before any byte is copied: the Rust's `do_cgb_dma`.
-pub fn do_cgb_dma(memory: Memory, value: u8) -> Memory
-    ensures { λ r. ⌜ r ≡ startPut memory value ⌝ }
-{
-    let banks = memory.banks;
-    if banks.colour {
-        let hdma = memory.hdma;
-        let lcd = memory.lcd;
-        let started = hdma::do_cgb_dma(hdma, lcd.mode, value, memory.page[0x55]);
-        let after = started.hdma;
-        let mut next = memory;
-        next.page[0x55] = started.byte;
-        next.hdma = after;
-        return next;
-    }
-    store(memory, 0x55, value)
 }
 
 fn with_ended(memory: Memory, ended: Ended) -> Memory
     ensures { λ r. ⌜ r ≡ withEnded memory ended ⌝ }
 {
     let after = ended.hdma;
+    let mut core = memory.core;
+    core.hdma = after;
     let mut next = memory;
     next.page[0x51] = ended.r51;
     next.page[0x52] = ended.r52;
     next.page[0x53] = ended.r53;
     next.page[0x54] = ended.r54;
     next.page[0x55] = ended.r55;
-    next.hdma = after;
+    next.core = core;
     next
 }
 
@@ -155,7 +139,7 @@ fn no_copy() -> Copy
 pub fn block_copy(memory: Memory) -> Copy
     ensures { λ r. ⌜ (r ≡ blockCopy memory) × Bounded r ⌝ }
 {
-    let hdma = memory.hdma;
+    let hdma = memory.core.hdma;
     Copy {
         source: hdma::source_of(hdma),
         destination: hdma::destination_of(hdma),
@@ -180,7 +164,7 @@ fn landing(destination: u16, length: u16) -> u16
 fn general_copy(memory: Memory, value: u8) -> Copy
     ensures { λ r. ⌜ (r ≡ generalCopy memory value) × Bounded r ⌝ }
 {
-    let hdma = memory.hdma;
+    let hdma = memory.core.hdma;
     let destination = hdma::destination_of(hdma);
     let count = landing(destination, hdma::length(value));
     Copy {
@@ -191,43 +175,69 @@ fn general_copy(memory: Memory, value: u8) -> Copy
     }
 }
 
-// What a write of FF55 copies.
-fn start_copy(memory: Memory, value: u8) -> Copy
-    ensures { λ r. ⌜ (r ≡ startCopy memory value) × Bounded r ⌝ }
+// What `hdma` decided of FF55. A general transfer sets the registers at its end.
+fn started_by(memory: Memory, value: u8, start: Start) -> Started
+    ensures { λ r. ⌜ (r ≡ startedBy memory value start) × Bounded (r .copy) ⌝ }
 {
-    let banks = memory.banks;
-    if banks.colour {
-        let hdma = memory.hdma;
-        let lcd = memory.lcd;
-        let started = hdma::do_cgb_dma(hdma, lcd.mode, value, 0);
-        let start = started.start;
-        return match start {
-            Start::Nothing => no_copy(),
-            Start::Block => block_copy(memory),
-            Start::General => general_copy(memory, value),
-        };
+    match start {
+        Start::Set(written) => Started {
+            memory: put_written(memory, 0x55, written),
+            copy: no_copy(),
+        },
+        Start::Block(written) => Started {
+            memory: put_written(memory, 0x55, written),
+            copy: block_copy(memory),
+        },
+        Start::General => Started {
+            memory: memory,
+            copy: general_copy(memory, value),
+        },
     }
-    no_copy()
 }
 
-// What a byte write copies, from the state before it.
-pub fn copy_of(memory: Memory, index: u16, value: u8) -> Copy
-    ensures { λ r. ⌜ (r ≡ copyOf memory index value) × Bounded r ⌝ }
+// FF55: the Rust's `do_cgb_dma`.
+pub fn do_cgb_dma(memory: Memory, value: u8) -> Started
+    ensures { λ r. ⌜ (r ≡ started memory value) × Bounded (r .copy) ⌝ }
+{
+    let banks = memory.core.banks;
+    if banks.colour {
+        let hdma = memory.core.hdma;
+        let lcd = memory.core.lcd;
+        return started_by(memory, value, hdma::do_cgb_dma(hdma, lcd.mode, value));
+    }
+    Started {
+        memory: store(memory, 0x55, value),
+        copy: no_copy(),
+    }
+}
+
+// FF55 before any byte is copied.
+pub fn write_start(memory: Memory, value: u8) -> Memory
+    ensures { λ r. ⌜ r ≡ startPut memory value ⌝ }
+{
+    let started = do_cgb_dma(memory, value);
+    started.memory
+}
+
+// FF46 and FF55, the writes that start a transfer.
+pub fn start_transfer(memory: Memory, index: u16, value: u8) -> Started
+    requires { ⌜ ((index ≡ 0xFF46 → ⊥) → index ≡ 0xFF55) ⌝ }
+    ensures { λ r. ⌜ ((r .memory ≡ writeRegister memory (index - 0xFF00) value) × (r .copy ≡ copyOf memory index value)) × Bounded (r .copy) ⌝ }
 {
     if index == 0xFF46 {
-        return oam_copy(value);
+        return Started {
+            memory: store(memory, 0x46, value),
+            copy: oam_copy(value),
+        };
     }
-    if index == 0xFF55 {
-        return start_copy(memory, value);
-    }
-    no_copy()
+    do_cgb_dma(memory, value)
 }
 
 // The registers after a copy's last byte.
 pub fn end_copy(memory: Memory, kind: Finish, value: u8) -> Memory
     ensures { λ r. ⌜ r ≡ finished memory kind value ⌝ }
 {
-    let hdma = memory.hdma;
+    let hdma = memory.core.hdma;
     match kind {
         Finish::Nothing => memory,
         Finish::Block => with_ended(memory, hdma::end_block(hdma, memory.page[0x55])),

@@ -1,15 +1,13 @@
 // The letters W and R: a mapper's write, and its read over the contents of lines::pattern.
 use lines::answer::Ours;
 use lines::answer::refused;
-use lines::mapper::banks;
-use lines::mapper::registers_of;
+use lines::number::low;
 use lines::number::word;
 use lines::pattern;
 use mbc::Answer;
 use mbc::Cartridge;
 use mbc::Mapper;
-use mbc::Mbc1;
-use mbc::Mbc2;
+use mbc::Registers;
 use mbc::Source;
 
 pub enum Made {
@@ -19,56 +17,23 @@ pub enum Made {
 
 fn cartridge_of(given: &[u8; 12]) -> Cartridge {
     Cartridge {
-        banks: banks(given[1]),
+        banks: Cartridge::banks_of(given[1]),
         code: given[2],
     }
 }
 
-fn built(given: &[u8; 12]) -> Made {
-    let kind = given[0];
-    match kind {
-        0 => Made::Some(Mapper::RomOnly),
-        1 => Made::Some(Mapper::Mbc1(Mbc1 {
-            rom: given[3],
-            ram: given[4],
-            mode: given[5] == 1,
-            enabled: given[6] == 1,
-            high: given[7],
-        })),
-        2 => Made::Some(Mapper::Mbc2(Mbc2 {
-            rom: given[3],
-            enabled: given[6] == 1,
-        })),
-        _ => Made::None,
-    }
-}
-
-// Whether the line says no more than the mapper holds.
-fn whole(mapper: Mapper, given: &[u8; 12]) -> bool {
-    let held = registers_of(mapper);
-    if held.rom != given[3] {
-        return false;
-    }
-    if held.ram != given[4] {
-        return false;
-    }
-    if held.mode != given[5] {
-        return false;
-    }
-    if held.enabled != given[6] {
-        return false;
-    }
-    held.high == given[7]
-}
-
-// The mapper of a line.
+// The mapper of a line, which says no more than the mapper holds.
 fn mapper_of(given: &[u8; 12]) -> Made {
-    let made = built(given);
-    let Made::Some(mapper) = made else {
-        return Made::None;
+    let held = Registers {
+        kind: given[0],
+        rom: word(0, given[3]),
+        ram: given[4],
+        mode: given[5],
+        enabled: given[6],
+        high: given[7],
     };
-    if whole(mapper, given) {
-        return made;
+    if held.is_sound() {
+        return Made::Some(Mapper::from_registers(held));
     }
     Made::None
 }
@@ -103,12 +68,12 @@ pub fn write(given: &[u8; 12]) -> Ours {
     let index = word(given[8], given[9]);
     let wrote = mapper.write_byte(cartridge_of(given), index, given[10]);
     let next = wrote.mapper;
-    let after = registers_of(next);
+    let after = next.registers();
     if after.kind != given[0] {
         return refused();
     }
     let mut bytes = [0u8; 12];
-    bytes[0] = after.rom;
+    bytes[0] = low(after.rom);
     bytes[1] = after.ram;
     bytes[2] = after.mode;
     bytes[3] = after.enabled;

@@ -168,8 +168,8 @@ fn main() {
     pattern::fill_rom(&mut rom);
     let mut vram = [0u8; 16384];
     let mut wram = [0u8; 32768];
-    let mut save = [0u8; 32768];
-    let mut log = [0u8; 65535];
+    let mut save = [0u8; savelog::SAVE_LIMIT];
+    let mut log = [0u8; savelog::LOG_LIMIT];
     let mut sound = [0u8; 48];
     let tally = replay(&rom, &mut vram, &mut wram, &mut save, &mut log, &mut sound);
     tally.report(&letter::NAMES);

@@ -1,31 +1,40 @@
 -- What survives: the records of a joined and of a cut log, and recovery over a cut log, in one piece or copy by copy.
 -- Each law on records goes by induction over `Whole`, a log taken apart record by record.
-use mathlib.Core.Bool.{Bool, true, false, _&&_, cond}
+use mathlib.Core.Bool.{Bool, true, false, cond}
 use mathlib.Core.Path.{_≡_, refl, ap, sym, _∙_}
 use mathlib.Core.List.{List, [], _∷_, _++_, append-assoc, append-nil}
-use Prim.Native.Nat.{ℕ, zero, suc, _+_, _-_, _*_, _/_, _%_, _≤_, _<_, min}
+use Prim.Native.Nat.{ℕ, zero, suc, _+_, _-_, _/_, _%_, _≤_, _<_}
 use native.Mathlib.Decide.{decLt}
 use native.Mathlib.Nat.{min-le-left, min-le-right}
 use native.Mathlib.Omega.{arith}
 use lib.Dec.{leb}
 use lib.ListN.{length, take, drop, set, length-append, length-set, length-take, length-drop}
-use lib.Seq.{take-nil, take-take, take-append-le, drop-append-le, take-at, take-all, length-take-le}
+use lib.Seq.{take-nil, take-take, take-append-le, drop-append-le, take-at, length-take-le}
 use borrow.Author.Tests.{leb-true, le-leb}
 use Rattle.numbers.specs.Numbers.{done, wrongLength, damaged}
-use Rattle.savelog.specs.Log.{Rec, width, addressEnd, bytesOf, recordBytes, recordOf, stored, firstRecords, records, soundRecord, allSound, applyAll, saveLengths, logLimit, oneOf, lengthsFit, outcome, recovery, appended, recoverAll, joined, cutCopies}
+use Rattle.rules.proofs.Tests.{both-true}
+use Rattle.savelog.specs.Log.{Rec, width, addressEnd, bytesOf, recordNumber, recordBytes, stored, firstRecords, records, soundRecord, allSound, applyAll, saveLengths, logLimit, oneOf, lengthsFit, outcome, recovery, appended, recoverAll, joined, cutCopies}
 use Rattle.savelog.specs.Laws.{Corner, AppendLaw, PrefixLaw, Copy, Copies, none, more, CopiesLaw}
-use Rattle.savelog.proofs.Laws.{both, bytes, round, records-cons, records-none}
+use Rattle.savelog.proofs.Laws.{records-cons, records-none}
+use Rattle.savelog.proofs.Use.{used-more, record-first}
 
 -- a log is less than a record, or a record and a log
 data Whole : List ℕ → Type 0 where
   short : {l : List ℕ} → length l < width → Whole l
   long : {l : List ℕ} → width ≤ length l → Whole (drop width l) → Whole l
 
+step-whole : (l : List ℕ) → Dec (length l < width) → (width ≤ length l → Whole (drop width l)) → Whole l
+step-whole l (yes s) f = short s
+step-whole l (no g) f = let h : width ≤ length l = omega (arith, g) in long h (f h)
+
+whole-within : (k : ℕ) (l : List ℕ) → length l ≤ k → Whole l
+whole-within zero l h = short {l = l} (omega arith)
+whole-within (suc k) l h =
+    step-whole l (decLt (length l) width)
+    (λ m. let g : length (drop width l) ≤ k = rw length-drop (omega arith) in whole-within k (drop width l) g)
+
 whole : (l : List ℕ) → Whole l
-whole [] = short {l = []} (omega arith)
-whole (a ∷ []) = short {l = a ∷ []} (omega arith)
-whole (a ∷ b ∷ []) = short {l = a ∷ b ∷ []} (omega arith)
-whole (a ∷ b ∷ c ∷ l) = long {l = a ∷ b ∷ c ∷ l} (omega arith) (whole l)
+whole l = whole-within (length l) l (omega arith)
 
 module _ {A : Type 0} where
   -- a cut of a joined list cuts the first, and the second by what is left
@@ -112,7 +121,7 @@ pub allSound-append : (ram : ℕ) (a b : List Rec) → allSound ram a ≡ true �
 unfolding allSound
 allSound-append ram [] b h k = k
 allSound-append ram (r ∷ a) b h k =
-    let t = both (soundRecord ram r) (allSound ram a) h in
+    let t = both-true (soundRecord ram r) (allSound ram a) h in
     rw (t .0) (allSound-append ram a b (t .1) k)
 
 pub allSound-take : (ram : ℕ) (rs : List Rec) (k : ℕ) → allSound ram rs ≡ true → allSound ram (take k rs) ≡ true
@@ -120,7 +129,7 @@ unfolding allSound
 allSound-take ram [] k h = rw take-nil
 allSound-take ram (r ∷ rs) zero h = refl
 allSound-take ram (r ∷ rs) (suc k) h =
-    let t = both (soundRecord ram r) (allSound ram rs) h in
+    let t = both-true (soundRecord ram r) (allSound ram rs) h in
     rw (t .0, allSound-take ram rs k (t .1))
 
 -- what recovery takes and finds sound, it plays
@@ -139,7 +148,7 @@ pub prefix : PrefixLaw
 unfolding recovery lengthsFit
 prefix s l n z =
     let t = done-by (lengthsFit (length s) (length l)) (allSound (length s) (records l)) _ s s z in
-    let f = both (oneOf (length s) saveLengths) (leb (length l) logLimit) (t .0) in
+    let f = both-true (oneOf (length s) saveLengths) (leb (length l) logLimit) (t .0) in
     let k : length (take n l) ≤ logLimit = rw length-take (omega (arith, leb-true (length l) logLimit (f .1), min-le-right n (length l))) in
     let g = ap (allSound (length s)) (records-take l n) ∙ allSound-take (length s) (records l) (n / width) (t .1) in
     recovery-done s (take n l) (f .0) k g ∙ ap (λ rs. outcome done (applyAll s rs)) (records-take l n)
@@ -177,29 +186,18 @@ copies s cs n e h = (joined-cut n cs, recover-cut h s n refl e)
 -- the bytes of one record are one record
 one-record : (a v : ℕ) → v < 256 → a < addressEnd → records (recordBytes a v) ≡ stored a v ∷ []
 one-record a v h k =
-    let b : length (recordBytes a v) ≡ width = rw (bytes a v h k) in
-    let d : length (drop width (recordBytes a v)) < width = rw (length-drop, b) (omega arith) in
-    rw (
-      records-cons (recordBytes a v) (omega arith),
-      take-all width (recordBytes a v) (omega arith),
-      round a v h k,
-      records-none (drop width (recordBytes a v)) d,
-    )
+    ap records (sym (append-nil (recordBytes a v)))
+    ∙ record-first a v [] h k
+    ∙ ap (λ (rs : List Rec). stored a v ∷ rs) (records-none [] (omega arith))
 
 pub append-adds : AppendLaw
 unfolding appended
 append-adds l u a v e h k m =
-    let b : length (recordBytes a v) ≡ width = rw (bytes a v m k) in
-    let t : length (take u l) ≡ u = length-take-le u l (omega arith) in
-    let j : length (take u l ++ recordBytes a v) ≡ u + width = rw (length-append, t, b) in (
+    let t : length (take u l) ≡ u = length-take-le u l (omega arith) in (
       rw (append-assoc, take-at (take u l) (recordBytes a v ++ drop (u + width) l) u t),
-      rw (
-        take-at (take u l ++ recordBytes a v) (drop (u + width) l) (u + width) j,
-        records-append (take u l) (recordBytes a v) (rw t e),
-        one-record a v m k,
-      ),
+      rw (used-more l u a v h, records-append (take u l) (recordBytes a v) (rw t e), one-record a v m k),
     )
 
 pub corner : Corner
-unfolding recordBytes bytesOf
+unfolding recordBytes recordNumber bytesOf
 corner = refl

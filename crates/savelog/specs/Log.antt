@@ -1,11 +1,14 @@
 -- The save log: what its bytes mean, and what recovery does with them (document 01, "Save log and state image").
--- The layout of a record stands in `width`, `addressEnd`, `recordBytes` and `fieldsOf` alone, the lengths in `saveLengths` and `logLimit` alone.
+-- The layout of a record stands in `width`, `addressEnd`, `recordNumber` and `fieldsOf` alone, the lengths in `saveLengths` and `logLimit` alone; every other
+-- crate names them.
 use mathlib.Core.Bool.{Bool, true, false, cond, _&&_, _||_}
 use mathlib.Core.List.{List, [], _∷_, _++_}
 use Prim.Native.Nat.{ℕ, zero, suc, _+_, _-_, _*_, _/_, _%_}
 use lib.Dec.{leb, ltb, eqb}
 use lib.ListN.{length, take, drop, set}
 use Rattle.numbers.specs.Numbers.{done, wrongLength, damaged}
+-- "One record per stored save byte": its mark, its address, its value
+pub use Rattle.savelog.specs.declared.Rec.{Rec}
 
 -- Bytes stand most significant first: k bytes of a number, and the number that bytes make.
 unfoldable pub bytesOf : ℕ → ℕ → List ℕ
@@ -16,12 +19,6 @@ unfoldable pub numberFrom : ℕ → List ℕ → ℕ
 numberFrom n [] = n
 numberFrom n (b ∷ bs) = numberFrom (n * 256 + b) bs
 
--- "One record per stored save byte"
-pub record Rec : Type 0 where
-  pub mark : ℕ
-  pub address : ℕ
-  pub value : ℕ
-
 -- a record's length in bytes, and where its addresses end: 15 bits
 abbrev pub width : ℕ
 width = 3
@@ -30,10 +27,13 @@ abbrev pub addressEnd : ℕ
 addressEnd = 32768
 
 -- "most significant bit first: bit 1, address 15 bits, value 8 bits"
-unfoldable pub recordBytes : ℕ → ℕ → List ℕ
-recordBytes address value = bytesOf width ((1 * addressEnd + address) * 256 + value)
+unfoldable pub recordNumber : ℕ → ℕ → ℕ
+recordNumber address value = (1 * addressEnd + address) * 256 + value
 
--- the same three fields of that number, read back
+unfoldable pub recordBytes : ℕ → ℕ → List ℕ
+recordBytes address value = bytesOf width (recordNumber address value)
+
+-- the fields of that number, read back
 unfoldable pub fieldsOf : ℕ → Rec
 fieldsOf n = record { mark = n / 256 / addressEnd; address = n / 256 % addressEnd; value = n % 256 }
 
@@ -66,8 +66,11 @@ applyAll save [] = save
 applyAll save (r ∷ rs) = applyAll (set save (r .address) (r .value)) rs
 
 -- "Recovery takes a save of 0, 512, 8,192 or 32,768 bytes and a log of 0 to 65,535 bytes"
+abbrev pub saveLimit : ℕ
+saveLimit = 32768
+
 unfoldable pub saveLengths : List ℕ
-saveLengths = 0 ∷ 512 ∷ 8192 ∷ 32768 ∷ []
+saveLengths = 0 ∷ 512 ∷ 8192 ∷ saveLimit ∷ []
 
 abbrev pub logLimit : ℕ
 logLimit = 65535
@@ -105,6 +108,10 @@ clearedUse = 0
 -- "log use a multiple of 3 within the log" (document 01, state ranges)
 unfoldable pub useInRange : ℕ → ℕ → Bool
 useInRange used len = eqb (used % width) 0 && leb used len
+
+-- a log of `len` bytes without room for so many records more
+abbrev pub full : ℕ → ℕ → ℕ → Bool
+full len used more = ltb len (used + more * width)
 
 -- A host that clears a full log keeps a copy of it first. Recovery then goes copy by copy, over what the one before gave.
 unfoldable pub recoverAll : List ℕ → List (List ℕ) → List ℕ

@@ -1,17 +1,94 @@
 // The save log: a record for each stored save byte, appended one by one and, after a loss, played back over the save.
 // specs/Log.antt says what the bytes mean, specs/Laws.antt what survives a cut; recovery's numbers are those of crate `numbers`.
+ghost use mathlib.Core.Bool.{true};
+ghost use mathlib.Core.List.{_++_};
 ghost use mathlib.Core.Path.{_≡_};
-ghost use mathlib.Core.Bool.{true, _&&_};
-ghost use Prim.Native.Nat.{_+_, _*_, _/_, _%_, _<_, _≤_};
-ghost use lib.Dec.{eqb, ltb};
-ghost use lib.ListN.{length};
-ghost use Rattle.savelog.specs.Log.{width, addressEnd, logLimit, records, allSound, applyAll, lengthsFit, outcome, recovery, appended, clearedUse, useInRange};
+ghost use Prim.Native.Nat.{_+_, _<_, _≤_};
+ghost use lib.ListN.{length, take, drop};
+ghost use Rattle.savelog.specs.Log.{width, addressEnd, logLimit, bytesOf, numberFrom, recordNumber, fieldsOf, recordOf, records, soundRecord, allSound, applyAll, lengthsFit, outcome, recovery, appended, clearedUse, useInRange, full};
 ghost use Rattle.savelog.specs.Laws.{Corner, AppendLaw, PrefixLaw, CopiesLaw};
 
-// The bytes of a record, and the most bytes of a log.
-const WIDTH: usize = 3;
+// The bytes of a record.
+pub const RECORD_LEN: usize = 3;
 
-const LIMIT: usize = 65535;
+// Where a record's addresses end.
+pub const ADDRESS_END: usize = 32768;
+
+// The most bytes of a log; where none is lent, its use is held to them.
+pub const LOG_LIMIT: usize = 65535;
+
+// The most bytes of a save.
+pub const SAVE_LIMIT: usize = 32768;
+
+// What a record's bits say.
+pub struct Rec {
+    pub mark: u32,
+    pub address: usize,
+    pub value: u8,
+}
+
+// The record of one stored byte as a number.
+pub fn record_number(at: usize, value: u8) -> u32
+    requires { ⌜ at < addressEnd ⌝ }
+    ensures { λ r. ⌜ r ≡ recordNumber at value ⌝ }
+{
+    (ADDRESS_END + at) as u32 * 256 + value as u32
+}
+
+// What a record's number says.
+fn fields_of(number: u32) -> Rec
+    ensures { λ r. ⌜ r ≡ fieldsOf number ⌝ }
+{
+    let head = number / 256;
+    let end = ADDRESS_END as u32;
+    Rec {
+        mark: head / end,
+        address: (head % end) as usize,
+        value: (number % 256) as u8,
+    }
+}
+
+fn wide(x: u8) -> u32
+    ensures { λ r. ⌜ (r ≡ x) × (r < 256) ⌝ }
+{
+    x as u32
+}
+
+// The number that the k bytes at `i` make, most significant first.
+fn number_at(log: &[u8], i: usize, k: usize) -> u32
+    requires { ⌜ (k ≤ 4) × (i + k ≤ length (now log)) ⌝ }
+    ensures { λ r. ⌜ r ≡ numberFrom 0 (take k (drop i (now (log .entry)))) ⌝ }
+{
+    let mut n = 0;
+    let mut j = 0;
+    while j < k {
+        n = n * 256 + wide(log[i + j]);
+        j += 1;
+    }
+    n
+}
+
+// Writes a number as k bytes at `i`.
+fn put_number(log: &mut [u8], i: usize, k: usize, number: u32)
+    requires { ⌜ i + k ≤ length (now log) ⌝ }
+    ensures { λ _. ⌜ now (log .exit) ≡ take i (now (log .entry)) ++ bytesOf k number ++ drop (i + k) (now (log .entry)) ⌝ }
+{
+    let mut n = number;
+    let mut j = k;
+    while 0 < j {
+        j -= 1;
+        log[i + j] = (n % 256) as u8;
+        n /= 256;
+    }
+}
+
+// The record whose bytes begin at `i`.
+pub fn record_at(log: &[u8], i: usize) -> Rec
+    requires { ⌜ i + width ≤ length (now log) ⌝ }
+    ensures { λ r. ⌜ r ≡ recordOf (take width (drop i (now (log .entry)))) ⌝ }
+{
+    fields_of(number_at(log, i, RECORD_LEN))
+}
 
 // Writes the record of one stored byte at `used`, and gives the next use. The bus sees that there is room.
 pub fn append(log: &mut [u8], used: u16, at: usize, value: u8) -> u16
@@ -19,10 +96,15 @@ pub fn append(log: &mut [u8], used: u16, at: usize, value: u8) -> u16
     ensures { λ r. ⌜ (now (log .exit) ≡ appended (now (log .entry)) used at value) × (r ≡ used + width) ⌝ }
 {
     let i = used as usize;
-    log[i] = (128 + at / 256) as u8;
-    log[i + 1] = (at % 256) as u8;
-    log[i + 2] = value;
-    (i + WIDTH) as u16
+    put_number(log, i, RECORD_LEN, record_number(at, value));
+    (i + RECORD_LEN) as u16
+}
+
+// Whether a log of `len` bytes has no room for so many records more.
+pub fn full(len: usize, used: u16, more: u8) -> bool
+    ensures { λ r. ⌜ r ≡ full len used more ⌝ }
+{
+    len < used as usize + more as usize * RECORD_LEN
 }
 
 // Clearing gives use 0; the bytes stay, so it takes none.
@@ -37,25 +119,18 @@ pub fn use_in_range(used: u16, len: usize) -> bool
     ensures { λ r. ⌜ r ≡ useInRange used len ⌝ }
 {
     let n = used as usize;
-    if n % WIDTH != 0 {
+    if n % RECORD_LEN != 0 {
         return false;
     }
     n <= len
 }
 
-// The address in a record's first two bytes.
-fn address_of(a: u8, b: u8) -> usize
-    ensures { λ r. ⌜ r ≡ a % 128 * 256 + b ⌝ }
+// Whether a record is sound for a save of `ram` bytes.
+fn sound_record(rec: Rec, ram: usize) -> bool
+    ensures { λ r. ⌜ r ≡ soundRecord ram rec ⌝ }
 {
-    (a % 128) as usize * 256 + b as usize
-}
-
-// Whether a record of these first two bytes is sound for a save of `ram` bytes.
-fn sound_record(a: u8, b: u8, ram: usize) -> bool
-    ensures { λ r. ⌜ r ≡ (eqb (a / 128) 1 && ltb (a % 128 * 256 + b) ram) ⌝ }
-{
-    if a / 128 == 1 {
-        return address_of(a, b) < ram;
+    if rec.mark == 1 {
+        return rec.address < ram;
     }
     false
 }
@@ -65,11 +140,12 @@ fn sound(log: &[u8], ram: usize) -> bool
     ensures { λ r. ⌜ r ≡ allSound ram (records (now (log .entry))) ⌝ }
 {
     let mut i = 0;
-    while log.len() - i >= WIDTH {
-        if !sound_record(log[i], log[i + 1], ram) {
+    while log.len() - i >= RECORD_LEN {
+        let rec = record_at(log, i);
+        if !sound_record(rec, ram) {
             return false;
         }
-        i += WIDTH;
+        i += RECORD_LEN;
     }
     true
 }
@@ -80,10 +156,11 @@ fn apply(save: &mut [u8], log: &[u8])
     ensures { λ _. ⌜ now (save .exit) ≡ applyAll (now (save .entry)) (records (now (log .entry))) ⌝ }
 {
     let mut i = 0;
-    while log.len() - i >= WIDTH {
-        let at = address_of(log[i], log[i + 1]);
-        save[at] = log[i + 2];
-        i += WIDTH;
+    while log.len() - i >= RECORD_LEN {
+        let rec = record_at(log, i);
+        let at = rec.address;
+        save[at] = rec.value;
+        i += RECORD_LEN;
     }
 }
 
@@ -92,7 +169,7 @@ fn lengths_fit(save: usize, log: usize) -> bool
     ensures { λ r. ⌜ r ≡ lengthsFit save log ⌝ }
 {
     match save {
-        0 | 512 | 8192 | 32768 => log <= LIMIT,
+        0 | 512 | 8192 | SAVE_LIMIT => log <= LOG_LIMIT,
         _ => false,
     }
 }
@@ -116,7 +193,7 @@ pub fn recover(save: &mut [u8], log: &[u8]) -> u8
 pub fn whole_records(log: &[u8]) -> usize
     ensures { λ r. ⌜ r ≡ length (records (now (log .entry))) ⌝ }
 {
-    log.len() / WIDTH
+    log.len() / RECORD_LEN
 }
 
 // The laws of specs/Laws.antt, as a contract: its proof hands them over.

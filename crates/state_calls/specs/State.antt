@@ -39,7 +39,7 @@ abbrev pub removeCall : Memory → ℕ → Done
 removeCall m n = onInterrupt m removedIn (named n)
 
 abbrev pub hdmaEnabledCall : Memory → Flag
-hdmaEnabledCall m = flagGiven (refusedState m) (m .hdma .on)
+hdmaEnabledCall m = flagGiven (refusedState m) (m .core .hdma .on)
 
 -- clearing sets use to 0
 abbrev pub clearLogCall : Memory → Done

@@ -34,13 +34,13 @@ pub fn do_dma_transfer(
         sound.len(),
         log.len(),
     );
-    if number != 0 {
+    if number != numbers::DONE {
         return Done {
             number: number,
             memory: memory,
         };
     }
-    let next = mmu::do_dma_transfer(memory, rom, vram, wram, save, log, sound, page);
+    let next = mmu::do_oam_dma(memory, rom, vram, wram, save, log, sound, page);
     Done {
         number: numbers::DONE,
         memory: next,
@@ -68,7 +68,7 @@ pub fn do_hdma(
         sound.len(),
         log.len(),
     );
-    if number != 0 {
+    if number != numbers::DONE {
         return Moved {
             number: number,
             cycles: 0,

@@ -1,8 +1,8 @@
 -- The number of a call is one digit.
 use mathlib.Core.Bool.{Bool, true, false, cond, _&&_}
-use Prim.Native.Nat.{ℕ, _+_, _<_}
+use Prim.Native.Nat.{ℕ, _<_}
 use native.Mathlib.Omega.{arith}
-use lib.Dec.{eqb, leb, ltb}
+use lib.Dec.{eqb, leb}
 use Rattle.bus.specs.Calls.{Outcome, outcome, unless}
 use Rattle.input_calls.specs.Input.{updateTimerCall}
 use Rattle.memory.specs.Ranges.{inRange}
@@ -12,9 +12,9 @@ use Rattle.numbers.specs.Numbers.{done}
 use Rattle.refusals.specs.Answers.{changed}
 use Rattle.refusals.specs.declared.Done.{Done}
 use Rattle.refusals.specs.Refusal.{orElse, inSave, inSound, byteRoom, byteOwed, cyclesRefused}
-use Rattle.refusals.specs.Refusal.{stateRefused, lengthsFit, lengthsRefused, logRefused, writeRefused}
+use Rattle.refusals.specs.Refusal.{stateRefused, lengthsFit, lengthsRefused, logRefused, lentRefused, writeRefused}
 use Rattle.rules.proofs.Tests.{cond-both}
-use Rattle.savelog.specs.Log.{width, logLimit}
+use Rattle.savelog.specs.Log.{logLimit, full}
 use Rattle.write_calls.specs.Writes.{writeByteCall}
 
 abbrev Digit : ℕ → Type 0
@@ -28,21 +28,21 @@ state : (m : Memory) (limit : ℕ) → stateRefused m limit < 10
 unfolding stateRefused
 state m limit = cond-both Digit (inRange m limit) (omega arith) (omega arith)
 
-lengths : (m : Memory) (a b c d e : ℕ) → lengthsRefused m a b c d e < 10
+lengths : (m : Memory) (a b c d e : ℕ) → lengthsRefused (m .core) a b c d e < 10
 unfolding lengthsRefused
-lengths m a b c d e = cond-both Digit (lengthsFit m a b c d e) (omega arith) (omega arith)
+lengths m a b c d e = cond-both Digit (lengthsFit (m .core) a b c d e) (omega arith) (omega arith)
 
 log : (n : ℕ) → logRefused n < 10
 unfolding logRefused
 log n = cond-both Digit (leb n logLimit) (omega arith) (omega arith)
 
 write : (m : Memory) (a b c d e l : ℕ) → writeRefused m a b c d e l < 10
-unfolding writeRefused
+unfolding writeRefused lentRefused
 write m a b c d e l = first _ _ (state m l) (first _ _ (lengths m a b c d e) (log l))
 
 room : (used n i : ℕ) → byteRoom used n i < 10
 unfolding byteRoom
-room used n i = cond-both Digit (inSave i && ltb n (used + width)) (omega arith) (omega arith)
+room used n i = cond-both Digit (inSave i && full n used 1) (omega arith) (omega arith)
 
 sound : (i : ℕ) → byteOwed i < 10
 unfolding byteOwed

@@ -8,10 +8,10 @@ use Rattle.bus.specs.Fresh.{begun, beginning, freshRefused, freshCall, startedB
 use Rattle.mbc.specs.Mbc.{fresh, described, start, hasBanks, hasCode, ramLen, ramBanks}
 use Rattle.memory.specs.Start.{started}
 use Rattle.numbers.specs.Numbers.{done}
-use Rattle.refusals.specs.Refusal.{orElse, lengthsRefused, lengthsFit, logRefused}
+use Rattle.refusals.specs.Refusal.{orElse, lentRefused, lengthsRefused, lengthsFit, logRefused}
 
 accepted : freshRefused (fresh 1 2 2 .number) (startedBy 1 2 2 false) 32768 8192 8192 8192 48 4095 ≡ 0
-unfolding freshRefused orElse lengthsRefused lengthsFit logRefused fresh described start hasBanks hasCode ramLen ramBanks started
+unfolding freshRefused orElse lentRefused lengthsRefused lengthsFit logRefused fresh described start hasBanks hasCode ramLen ramBanks started
 accepted = refl
 
 pub walk-begins : (rom save log sound : ℕ) (v w : List ℕ) → rom ≡ 32768 → length v ≡ 8192 → length w ≡ 8192 → save ≡ 8192 → log ≡ 4095 → sound ≡ 48

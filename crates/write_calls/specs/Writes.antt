@@ -10,10 +10,10 @@ use Rattle.refusals.specs.Refusal.{orElse, refusedWrite, byteRoom, wordRoom, by
 
 abbrev pub writeByteCall : Fixed → World → ℕ → ℕ → Outcome
 writeByteCall x w i v =
-    unless (orElse (refusedWrite x w) (byteRoom (w .state .used) (length (w .log)) i)) w
+    unless (orElse (refusedWrite x w) (byteRoom (w .state .core .used) (length (w .log)) i)) w
     (outcome (byteOwed i) 0 (writeAt x 2 w i v))
 
 abbrev pub writeWordCall : Fixed → World → ℕ → ℕ → Outcome
 writeWordCall x w i v =
-    unless (orElse (refusedWrite x w) (wordRoom (w .state .used) (length (w .log)) i)) w
+    unless (orElse (refusedWrite x w) (wordRoom (w .state .core .used) (length (w .log)) i)) w
     (outcome (wordOwed i) 0 (wordAt x w i v))

@@ -28,9 +28,9 @@ pub fn write_byte(
         sound.len(),
         log.len(),
     );
-    let room = refusals::byte_room(memory.used, log.len(), index);
+    let room = refusals::byte_room(memory.core.used, log.len(), index);
     let number = refusals::or_else(refused, room);
-    if number != 0 {
+    if number != numbers::DONE {
         return Done {
             number: number,
             memory: memory,
@@ -67,9 +67,9 @@ pub fn write_word(
         sound.len(),
         log.len(),
     );
-    let room = refusals::word_room(memory.used, log.len(), index);
+    let room = refusals::word_room(memory.core.used, log.len(), index);
     let number = refusals::or_else(refused, room);
-    if number != 0 {
+    if number != numbers::DONE {
         return Done {
             number: number,
             memory: memory,

@@ -62,6 +62,9 @@ pub const SOUND: std::ops::RangeInclusive<u16> = 0xFF10..=0xFF3F;
 /// The most that a log holds.
 const LOG_LENGTH: usize = 65_535;
 
+/// What one stored byte takes of it.
+const RECORD_LENGTH: usize = 3;
+
 pub struct Host {
     pub bus: Memory,
     pub controller: Controller,
@@ -81,7 +84,8 @@ impl Host {
         let told = Rc::clone(&log);
         bus.set_ram_change_callback(Box::new(move |address, value| {
             let [.., high, low] = address.to_be_bytes();
-            told.borrow_mut().extend([0x80 | high, low, value]);
+            let record: [u8; RECORD_LENGTH] = [0x80 | high, low, value];
+            told.borrow_mut().extend(record);
         }));
         Host {
             bus,
@@ -180,7 +184,7 @@ impl Host {
 
     /// Has the log room for any call?
     pub fn has_room(&self) -> bool {
-        self.log.borrow().len() + 6 <= LOG_LENGTH
+        self.log.borrow().len() + 2 * RECORD_LENGTH <= LOG_LENGTH
     }
 
     /// May a list hold this call? Within document 01's ranges, and off its one

@@ -6,11 +6,8 @@ use Rattle.image.proofs.closed.Tie as tie
 zero-requires : tie.Need-zero-requires
 zero-requires c κs = search needs
 
-core-of-requires : tie.Need-core-of-requires
-core-of-requires c κs = search needs
-
 returns : tie.Need-returns
-returns c = rw (c .core-of .ensures, c .before .zero .ensures)
+returns c = rw (c .before .zero .ensures)
 
 pub closed-spec : {M : Type 1} → statement M
-closed-spec = tie.close (tie.spec zero-requires core-of-requires returns)
+closed-spec = tie.close (tie.spec zero-requires returns)

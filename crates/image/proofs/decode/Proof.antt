@@ -2,7 +2,6 @@
 use mathlib.Core.Path.{_≡_, sym, ap, _∙_}
 use Prim.Native.Nat.{ℕ}
 use denote.Ref.{now}
-use Rattle.memory.specs.Ranges.{coreOf}
 use Rattle.memory.specs.Start.{zeroed}
 use Rattle.image.specs.declared.Loaded.{Loaded}
 use Rattle.image.specs.declared.Opened.{Opened}
@@ -31,7 +30,7 @@ state-of-requires c κs =
     let l = now (c .before .before .before .before .before .args .image) in
     let o = c .before .before .before .«open» .ensures in
     let h = sym (ap (λ (o : Opened). o .number) o) ∙ c .before .if1 .left in
-    (load-length l h, ap (λ (o : Opened). o .core) o ∙ ap (λ (r : Loaded). coreOf (r .state)) (load-state l h))
+    (load-length l h, ap (λ (o : Opened). o .core) o ∙ ap (λ (r : Loaded). r .state .core) (load-state l h))
 
 returns-2 : tie.Need-returns-2
 unfolding openCall

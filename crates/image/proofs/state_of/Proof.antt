@@ -6,7 +6,6 @@ use native.Mathlib.Omega.{arith}
 use lib.ListN.{drop, length-drop}
 use lib.Seq.{length-take-le}
 use Rattle.packing.specs.Packing.{Below}
-use Rattle.memory.specs.declared.Core.{Core}
 use Rattle.image.proofs.LoadLaws.{all-same, state-core, state-read}
 use borrow.Author.Needs.{needs}
 use Rattle.image.proofs.state_of.Statement.{statement}
@@ -44,13 +43,11 @@ colors-at-requires-2 c κs = search needs
 
 returns : tie.Need-returns
 returns c =
-    let l = now (c .before .before .before .before .before .before .before .before .before .before .before .before .before .args .image) in
-    let size = c .before .before .before .before .before .before .before .before .before .before .before .before .before .pre .0 in
-    let below : Below 256 l = λ i. c .before .before .before .before .before .before .before .before .before .before .before .before .shared-slice-known .given i .fits in
-    let e = c .before .before .before .before .before .before .before .before .before .before .before .before .before .pre .1 ∙ state-core l size below in
-    all-same (c .before .before .before .before .before .before .before .before .before .before .before .part .ensures) (c .before .before .before .before .before .before .before .before .before .before .part2 .ensures) (c .before .before .before .before .before .before .before .before .colors-at .ensures) (c .before .before .before .before .before .before .colors-at2 .ensures)
-    (ap (λ (k : Core). k .banks) e) (ap (λ (k : Core). k .lcd) e) (ap (λ (k : Core). k .hdma) e) (ap (λ (k : Core). k .joypad) e)
-    (ap (λ (k : Core). k .clock) e) (ap (λ (k : Core). k .cartridge) e) (ap (λ (k : Core). k .mapper) e) (ap (λ (k : Core). k .used) e)
+    let l = now (c .before .before .before .before .before .before .before .args .image) in
+    let size = c .before .before .before .before .before .before .before .pre .0 in
+    let below : Below 256 l = λ i. c .before .before .before .before .before .before .shared-slice-known .given i .fits in
+    all-same (c .before .before .before .before .before .part .ensures) (c .before .before .before .before .part2 .ensures) (c .before .before .colors-at .ensures) (c .colors-at2 .ensures)
+    (c .before .before .before .before .before .before .before .pre .1 ∙ state-core l size below)
     ∙ sym (state-read l size below)
 
 pub state-of-spec : {M : Type 1} → statement M

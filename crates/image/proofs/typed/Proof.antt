@@ -26,7 +26,7 @@ returns c =
       delay = search needs;
       counter = search needs;
       aux = search needs;
-      window = search needs;
+      window = record { sfits = omega (arith, c .good .0 .1 .1 .1 .1 .1 .1 .0 .1 .1 .1 .0 .1 .1 .1 .1 .1 .1 .1 .1 .1 .0 .1) };
       div = omega arith;
       source = omega arith;
       destination = omega arith;

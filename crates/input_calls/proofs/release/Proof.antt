@@ -1,34 +1,7 @@
--- Refused, or done.
-use Rattle.refusals.proofs.Answers.{refused-done, accepted-done}
+-- By what the calls give.
 use borrow.Author.Needs.{needs}
 use Rattle.input_calls.proofs.release.Statement.{statement}
 use Rattle.input_calls.proofs.release.Tie as tie
 
-release-requires : tie.Need-release-requires
-release-requires c κs = search needs
-
-refused-requires : tie.Need-refused-requires
-refused-requires c κs = search needs
-
-or-else-requires : tie.Need-or-else-requires
-or-else-requires c κs = search needs
-
-returns : tie.Need-returns
-returns c = refused-done (rw (c .before .before .refused .ensures, c .before .before .before .release .ensures) at (c .before .or-else .ensures)) (c .if1 .taken) _ _
-
-with-controller-requires : tie.Need-with-controller-requires
-with-controller-requires c κs = search needs
-
-returns-2 : tie.Need-returns-2
-returns-2 c = accepted-done (rw (c .before .before .before .before .refused .ensures, c .before .before .before .before .before .release .ensures) at (c .before .before .before .or-else .ensures)) (c .before .before .if1 .left) _ (rw (c .before .before .before .before .before .release .ensures) at (c .with-controller .ensures))
-
 pub release-spec : {M : Type 1} → statement M
-release-spec =
-    tie.close
-    (tie.spec
-    release-requires
-    refused-requires
-    or-else-requires
-    returns
-    with-controller-requires
-    returns-2)
+release-spec = tie.close (tie.spec (λ c κs. search needs) (λ c κs. search needs) (λ c κs. search needs) (λ c κs. search needs) (λ c κs. search needs) (λ c. cc))

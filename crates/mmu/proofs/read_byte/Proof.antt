@@ -9,10 +9,10 @@ lowered-requires : tie.Need-lowered-requires
 lowered-requires c κs = search needs
 
 read-lent-requires : tie.Need-read-lent-requires
-read-lent-requires c κs = (ready-reaches (c .before .before .before .before .before .before .before .before .before .pre), c .before .before .if1 .taken)
+read-lent-requires c κs = (ready-reaches (c .before .before .before .before .before .before .before .before .before .before .pre), c .before .before .before .if1 .taken)
 
 returns : tie.Need-returns
-returns c = c .read-lent .ensures ∙ read-lent _ _ _ _ _ _ _ (c .before .before .before .before .lowered .ensures .0) (c .before .before .before .if1 .taken)
+returns c = c .read-lent .ensures ∙ read-lent _ _ _ _ _ _ _ (c .before .before .before .before .before .lowered .ensures .0) (c .before .before .before .before .if1 .taken)
 
 sub-i : tie.Need-sub-i
 sub-i c = c .before .before .lowered .ensures .1 (c .before .if1 .left)

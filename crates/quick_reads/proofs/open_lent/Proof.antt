@@ -11,11 +11,11 @@ open-requires c κs = search needs
 returns : tie.Need-returns
 returns c = (number-closed _ (c .before .before .«open» .ensures) _ _ _ _ _ (c .if1 .taken), open-core _ (c .before .before .«open» .ensures))
 
-core-lengths-refused-requires : tie.Need-core-lengths-refused-requires
-core-lengths-refused-requires c κs = search needs
+lengths-refused-requires : tie.Need-lengths-refused-requires
+lengths-refused-requires c κs = search needs
 
 returns-2 : tie.Need-returns-2
-returns-2 c = (number-lengths _ (c .before .before .before .before .«open» .ensures) _ _ _ _ _ (c .before .before .if1 .left) (λ k. c .before .before .before .before .before .shared-slice-known .given k .fits) (c .core-lengths-refused .ensures), open-core _ (c .before .before .before .before .«open» .ensures))
+returns-2 c = (number-lengths _ (c .before .before .before .before .«open» .ensures) _ _ _ _ _ (c .before .before .if1 .left) (λ k. c .before .before .before .before .before .shared-slice-known .given k .fits) (c .lengths-refused .ensures), open-core _ (c .before .before .before .before .«open» .ensures))
 
 pub open-lent-spec : {M : Type 1} → statement M
-open-lent-spec = tie.close (tie.spec open-requires returns core-lengths-refused-requires returns-2)
+open-lent-spec = tie.close (tie.spec open-requires returns lengths-refused-requires returns-2)

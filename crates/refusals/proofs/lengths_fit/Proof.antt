@@ -1,4 +1,5 @@
 -- Each length by its own test.
+use Rattle.refusals.specs.Refusal.{lengthsFit}
 use borrow.Author.Tests.{eq-eqb, ne-eqb}
 use borrow.Author.Needs.{needs}
 use Rattle.refusals.proofs.lengths_fit.Statement.{statement}
@@ -8,27 +9,32 @@ rom-len-requires : tie.Need-rom-len-requires
 rom-len-requires c κs = search needs
 
 returns : tie.Need-returns
+unfolding lengthsFit
 returns c = rw (← c .before .rom-len .ensures, ne-eqb _ _ (c .if1 .taken))
 
 vram-len-requires : tie.Need-vram-len-requires
 vram-len-requires c κs = search needs
 
 returns-2 : tie.Need-returns-2
+unfolding lengthsFit
 returns-2 c = rw (← c .before .before .before .rom-len .ensures, eq-eqb _ _ (c .before .before .if1 .left), ← c .before .vram-len .ensures, ne-eqb _ _ (c .if2 .taken))
 
 wram-len-requires : tie.Need-wram-len-requires
 wram-len-requires c κs = search needs
 
 returns-3 : tie.Need-returns-3
+unfolding lengthsFit
 returns-3 c = rw (← c .before .before .before .before .before .rom-len .ensures, eq-eqb _ _ (c .before .before .before .before .if1 .left), ← c .before .before .before .vram-len .ensures, eq-eqb _ _ (c .before .before .if2 .left), ← c .before .wram-len .ensures, ne-eqb _ _ (c .if3 .taken))
 
 ram-len-requires : tie.Need-ram-len-requires
 ram-len-requires c κs = search needs
 
 returns-4 : tie.Need-returns-4
+unfolding lengthsFit
 returns-4 c = rw (← c .before .before .before .before .before .before .before .rom-len .ensures, eq-eqb _ _ (c .before .before .before .before .before .before .if1 .left), ← c .before .before .before .before .before .vram-len .ensures, eq-eqb _ _ (c .before .before .before .before .if2 .left), ← c .before .before .before .wram-len .ensures, eq-eqb _ _ (c .before .before .if3 .left), ← c .before .ram-len .ensures, ne-eqb _ _ (c .if4 .taken))
 
 returns-5 : tie.Need-returns-5
+unfolding lengthsFit
 returns-5 c = rw (← c .before .before .before .before .before .before .before .rom-len .ensures, eq-eqb _ _ (c .before .before .before .before .before .before .if1 .left), ← c .before .before .before .before .before .vram-len .ensures, eq-eqb _ _ (c .before .before .before .before .if2 .left), ← c .before .before .before .wram-len .ensures, eq-eqb _ _ (c .before .before .if3 .left), ← c .before .ram-len .ensures, eq-eqb _ _ (c .if4 .left))
 
 pub lengths-fit-spec : {M : Type 1} → statement M

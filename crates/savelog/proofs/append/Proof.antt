@@ -1,35 +1,17 @@
--- Three stores are the record in its place (`appended-bytes`).
-use native.Mathlib.Omega.{arith}
-use mathlib.Core.Path.{refl}
-use lib.ListN.{length-set}
-use Rattle.savelog.proofs.Laws.{appended-bytes}
+-- The record's number, put in its place.
+use mathlib.Core.Path.{refl, ap, _∙_}
+use denote.Ref.{now}
+use Rattle.savelog.specs.Log.{width, recordBytes, appended}
+use Rattle.savelog.proofs.Laws.{placed}
 use borrow.Author.Needs.{needs}
 use Rattle.savelog.proofs.append.Statement.{statement}
 use Rattle.savelog.proofs.append.Tie as tie
 
-add-log : tie.Need-add-log
-add-log c = search needs
+record-number-requires : tie.Need-record-number-requires
+record-number-requires c κs = search needs
 
-cast-log : tie.Need-cast-log
-cast-log c = search needs
-
-slice-write-log : tie.Need-slice-write-log
-slice-write-log c = search needs
-
-cast-log-2 : tie.Need-cast-log-2
-cast-log-2 c = search needs
-
-add-log-2 : tie.Need-add-log-2
-add-log-2 c = search needs
-
-slice-write-log-2 : tie.Need-slice-write-log-2
-slice-write-log-2 c = simp length-set (omega arith)
-
-add-log-3 : tie.Need-add-log-3
-add-log-3 c = search needs
-
-slice-write-log-3 : tie.Need-slice-write-log-3
-slice-write-log-3 c = simp length-set (omega arith)
+put-number-requires : tie.Need-put-number-requires
+put-number-requires c κs = search needs
 
 add-result : tie.Need-add-result
 add-result c = search needs
@@ -41,20 +23,17 @@ same-length : tie.Need-same-length
 same-length c = search needs
 
 returns : tie.Need-returns
-returns c = (appended-bytes _ _ _ _ (omega arith) (omega arith) (omega arith), refl)
+unfolding appended recordBytes
+returns c =
+    let a = c .before .before .before .before .before .before .args in
+    (c .before .before .put-number .ensures ∙ ap (placed (now (a .log)) (a .used) width) (c .before .before .before .record-number .ensures), refl)
 
 pub append-spec : {M : Type 1} → statement M
 append-spec =
     tie.close
     (tie.spec
-    add-log
-    cast-log
-    slice-write-log
-    cast-log-2
-    add-log-2
-    slice-write-log-2
-    add-log-3
-    slice-write-log-3
+    record-number-requires
+    put-number-requires
     add-result
     cast-result
     same-length

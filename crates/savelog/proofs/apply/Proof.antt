@@ -6,7 +6,7 @@ use native.Mathlib.Omega.{arith}
 use denote.Ref.{now}
 use lib.ListN.{length, drop, length-set}
 use Rattle.savelog.specs.Log.{width, records, allSound, applyAll}
-use Rattle.savelog.proofs.Laws.{sound-next, applyAll-step, applyAll-end}
+use Rattle.savelog.proofs.Laws.{sound-next, applied, applyAll-end}
 use borrow.Author.Needs.{needs}
 use Rattle.savelog.proofs.apply.Statement.{statement}
 use Rattle.savelog.proofs.apply.Tie as tie
@@ -27,30 +27,15 @@ loop-holds c = search needs
 sub-loop : tie.Need-sub-loop Inv-loop μ-loop
 sub-loop c = search needs
 
-shared-slice-read-address-of : tie.Need-shared-slice-read-address-of Inv-loop μ-loop
-shared-slice-read-address-of c = search needs
-
-add-address-of : tie.Need-add-address-of Inv-loop μ-loop
-add-address-of c = search needs
-
-shared-slice-read-address-of-2 : tie.Need-shared-slice-read-address-of-2 Inv-loop μ-loop
-shared-slice-read-address-of-2 c = search needs
-
-address-of-requires : tie.Need-address-of-requires Inv-loop μ-loop
-address-of-requires c κs = search needs
-
-add-save : tie.Need-add-save Inv-loop μ-loop
-add-save c = search needs
-
-shared-slice-read-save : tie.Need-shared-slice-read-save Inv-loop μ-loop
-shared-slice-read-save c = search needs
+record-at-requires : tie.Need-record-at-requires Inv-loop μ-loop
+record-at-requires c κs = search needs
 
 slice-write-save : tie.Need-slice-write-save Inv-loop μ-loop
 slice-write-save c =
-    let l = now (c .before .before .before .before .before .before .before .before .args .log) in
-    let i = c .before .before .before .before .before .loop .i in
-    let h : i + width ≤ length l = omega arith in
-    omega (arith, sound-next (length (now (c .before .before .before .before .before .before .before .before .args .save))) l i (c .before .before .before .before .before .before .shared-slice-known .given) h (c .before .before .before .before .before .loop .inv .2) .0, c .before .address-of .ensures)
+    let a = c .before .before .before .before .before .args in
+    let v = c .before .before .loop in
+    let h : v .i + width ≤ length (now (a .log)) = omega arith in
+    omega (arith, sound-next (now (a .log)) (v .i) h (c .record-at .ensures) (length (now (a .save))) (v .inv .2) .0, v .inv .1)
 
 add-i : tie.Need-add-i Inv-loop μ-loop
 add-i c = search needs
@@ -60,15 +45,14 @@ loop-less c = search needs
 
 loop-again : tie.Need-loop-again Inv-loop μ-loop
 loop-again c =
-    let l = now (c .before .before .before .before .before .before .before .before .args .log) in
-    let i = c .before .before .before .before .before .loop .i in
-    let h : i + width ≤ length l = omega arith in
-    let s = c .before .before .before .before .before .loop .save in
-    let b = c .before .before .before .before .before .before .shared-slice-known .given in (
+    let a = c .before .before .before .before .before .args in
+    let v = c .before .before .loop in
+    let h : v .i + width ≤ length (now (a .log)) = omega arith in
+    let e = c .record-at .ensures in (
       h,
-      simp length-set (c .before .before .before .before .before .loop .inv .1),
-      sound-next (length (now (c .before .before .before .before .before .before .before .before .args .save))) l i b h (c .before .before .before .before .before .loop .inv .2) .1,
-      rw (c .before .address-of .ensures) (c .before .before .before .before .before .loop .inv .3 ∙ applyAll-step s l i b h),
+      simp length-set (v .inv .1),
+      sound-next (now (a .log)) (v .i) h e (length (now (a .save))) (v .inv .2) .1,
+      v .inv .3 ∙ applied (now (a .log)) (v .i) h e (v .save),
     )
 
 same-length : tie.Need-same-length Inv-loop μ-loop
@@ -85,12 +69,7 @@ apply-spec =
     μ-loop
     loop-holds
     sub-loop
-    shared-slice-read-address-of
-    add-address-of
-    shared-slice-read-address-of-2
-    address-of-requires
-    add-save
-    shared-slice-read-save
+    record-at-requires
     slice-write-save
     add-i
     loop-less

@@ -23,25 +23,19 @@ loop-holds c = search needs
 sub-loop : tie.Need-sub-loop Inv-loop μ-loop
 sub-loop c = search needs
 
-shared-slice-read-sound-record : tie.Need-shared-slice-read-sound-record Inv-loop μ-loop
-shared-slice-read-sound-record c = search needs
-
-add-sound-record : tie.Need-add-sound-record Inv-loop μ-loop
-add-sound-record c = search needs
-
-shared-slice-read-sound-record-2 : tie.Need-shared-slice-read-sound-record-2 Inv-loop μ-loop
-shared-slice-read-sound-record-2 c = search needs
+record-at-requires : tie.Need-record-at-requires Inv-loop μ-loop
+record-at-requires c κs = search needs
 
 sound-record-requires : tie.Need-sound-record-requires Inv-loop μ-loop
 sound-record-requires c κs = search needs
 
 returns : tie.Need-returns Inv-loop μ-loop
 returns c =
-    let l = now (c .before .before .before .before .before .before .before .args .log) in
-    let i = c .before .before .before .before .before .loop .i in
-    let h : i + width ≤ length l = omega arith in
-    stops (c .before .before .before .before .before .before .before .args .ram) l i (c .before .sound-record .result) (c .before .before .before .before .before .before .shared-slice-known .given) h (c .before .sound-record .ensures) (not-true _ (c .if1 .taken))
-    ∙ sym (c .before .before .before .before .before .loop .inv .1)
+    let a = c .before .before .before .before .before .before .args in
+    let v = c .before .before .before .before .loop in
+    let h : v .i + width ≤ length (now (a .log)) = omega arith in
+    stops (now (a .log)) (v .i) h (c .before .before .record-at .ensures) (a .ram) (c .before .sound-record .ensures) (not-true _ (c .if1 .taken))
+    ∙ sym (v .inv .1)
 
 add-i : tie.Need-add-i Inv-loop μ-loop
 add-i c = search needs
@@ -51,13 +45,10 @@ loop-less c = search needs
 
 loop-again : tie.Need-loop-again Inv-loop μ-loop
 loop-again c =
-    let l = now (c .before .before .before .before .before .before .before .args .log) in
-    let i = c .before .before .before .before .before .loop .i in
-    let h : i + width ≤ length l = omega arith in (
-      h,
-      c .before .before .before .before .before .loop .inv .1
-          ∙ goes (c .before .before .before .before .before .before .before .args .ram) l i (c .before .sound-record .result) (c .before .before .before .before .before .before .shared-slice-known .given) h (c .before .sound-record .ensures) (not-false _ (c .if1 .left)),
-    )
+    let a = c .before .before .before .before .before .before .args in
+    let v = c .before .before .before .before .loop in
+    let h : v .i + width ≤ length (now (a .log)) = omega arith in
+    (h, v .inv .1 ∙ goes (now (a .log)) (v .i) h (c .before .before .record-at .ensures) (a .ram) (c .before .sound-record .ensures) (not-false _ (c .if1 .left)))
 
 returns-2 : tie.Need-returns-2 Inv-loop μ-loop
 returns-2 c = sym (c .before .loop .inv .1 ∙ allSound-end (c .before .before .before .args .ram) (now (c .before .before .before .args .log)) (c .before .loop .i) (omega arith))
@@ -70,9 +61,7 @@ sound-spec =
     μ-loop
     loop-holds
     sub-loop
-    shared-slice-read-sound-record
-    add-sound-record
-    shared-slice-read-sound-record-2
+    record-at-requires
     sound-record-requires
     returns
     add-i

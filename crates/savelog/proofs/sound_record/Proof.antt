@@ -1,17 +1,13 @@
--- Each branch is a test of the contract.
+-- Each branch is a test of the definition.
 use borrow.Author.Tests.{eq-eqb, ne-eqb}
-use borrow.Author.Needs.{needs}
 use Rattle.savelog.proofs.sound_record.Statement.{statement}
 use Rattle.savelog.proofs.sound_record.Tie as tie
 
-address-of-requires : tie.Need-address-of-requires
-address-of-requires c κs = search needs
-
 returns : tie.Need-returns
-returns c = rw (c .address-of .ensures, eq-eqb _ _ (c .before .if1 .taken))
+returns c = rw (eq-eqb _ _ (c .before .if1 .taken))
 
 returns-2 : tie.Need-returns-2
 returns-2 c = rw (ne-eqb _ _ (c .if1 .left))
 
 pub sound-record-spec : {M : Type 1} → statement M
-sound-record-spec = tie.close (tie.spec address-of-requires returns returns-2)
+sound-record-spec = tie.close (tie.spec returns returns-2)

@@ -1,21 +1,7 @@
--- Refused, or done.
-use Rattle.refusals.proofs.Answers.{refused-done, accepted-done}
+-- By what the calls give.
 use borrow.Author.Needs.{needs}
 use Rattle.screen_calls.proofs.do_lcd_status_write.Statement.{statement}
 use Rattle.screen_calls.proofs.do_lcd_status_write.Tie as tie
 
-refused-requires : tie.Need-refused-requires
-refused-requires c κs = search needs
-
-returns : tie.Need-returns
-returns c = refused-done (c .before .refused .ensures) (c .if1 .taken) _ _
-
-do-lcd-status-write-requires : tie.Need-do-lcd-status-write-requires
-do-lcd-status-write-requires c κs = search needs
-
-returns-2 : tie.Need-returns-2
-returns-2 c = accepted-done (c .before .before .refused .ensures) (c .before .if1 .left) _ (c .do-lcd-status-write .ensures)
-
 pub do-lcd-status-write-spec : {M : Type 1} → statement M
-do-lcd-status-write-spec =
-    tie.close (tie.spec refused-requires returns do-lcd-status-write-requires returns-2)
+do-lcd-status-write-spec = tie.close (tie.spec (λ c κs. search needs) (λ c κs. search needs) (λ c κs. search needs) (λ c. cc))

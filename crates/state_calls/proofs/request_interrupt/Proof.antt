@@ -1,46 +1,8 @@
--- The state, then the number of the interrupt.
-use Rattle.state_calls.proofs.Interrupts.{refused-interrupt, outside-done}
-use Rattle.refusals.proofs.Answers.{accepted-done}
+-- By what the calls give.
 use mathlib.Core.Path.{sym, _∙_}
-use Rattle.interrupt.specs.Flags.{named}
-use Rattle.registers.specs.State.{requestedIn}
 use borrow.Author.Needs.{needs}
 use Rattle.state_calls.proofs.request_interrupt.Statement.{statement}
 use Rattle.state_calls.proofs.request_interrupt.Tie as tie
 
-refused-requires : tie.Need-refused-requires
-refused-requires c κs = search needs
-
-returns : tie.Need-returns
-returns c = refused-interrupt (c .before .refused .ensures) (c .if1 .taken) requestedIn (named (c .before .before .args .interrupt))
-
-from-number-requires : tie.Need-from-number-requires
-from-number-requires c κs = search needs
-
-enum-known-named : tie.Need-enum-known-named
-enum-known-named c = search needs
-
-enum-told : tie.Need-enum-told
-enum-told c = search needs
-
-returns-2 : tie.Need-returns-2
-returns-2 c = rw (sym (c .before .before .from-number .ensures) ∙ c .enum-told .given .1) (outside-done (c .before .before .before .before .refused .ensures) (c .before .before .before .if1 .left) _)
-
-request-interrupt-requires : tie.Need-request-interrupt-requires
-request-interrupt-requires c κs = search needs
-
-returns-3 : tie.Need-returns-3
-returns-3 c = rw (sym (c .before .before .before .before .from-number .ensures) ∙ c .before .before .named .given .1) (accepted-done (c .before .before .before .before .before .before .refused .ensures) (c .before .before .before .before .before .if1 .left) _ (c .request-interrupt .ensures))
-
 pub request-interrupt-spec : {M : Type 1} → statement M
-request-interrupt-spec =
-    tie.close
-    (tie.spec
-    refused-requires
-    returns
-    from-number-requires
-    enum-known-named
-    enum-told
-    returns-2
-    request-interrupt-requires
-    returns-3)
+request-interrupt-spec = tie.close (tie.spec (λ c κs. search needs) (λ c. search needs) (λ c κs. search needs) (λ c κs. search needs) (λ c κs. search needs) (λ c. search needs) (λ c κs. search needs) (λ c. rw (sym (c .before .before .before .before .before .before .from-number .ensures) ∙ c .before .before .before .before .known .given .1) (cc)) (λ c. rw (sym (c .before .before .before .from-number .ensures) ∙ c .before .enum-told .given .1) (c .outside .ensures)))

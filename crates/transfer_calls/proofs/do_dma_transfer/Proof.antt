@@ -12,8 +12,8 @@ write-refused-requires c κs = search needs
 returns : tie.Need-returns
 returns c = refused-outcome (c .before .write-refused .ensures) (c .if1 .taken) _ _
 
-do-dma-transfer-requires : tie.Need-do-dma-transfer-requires
-do-dma-transfer-requires c κs = write-passes _ _ _ _ _ _ _ (sym (c .before .before .before .before .before .write-refused .ensures) ∙ c .before .before .before .before .if1 .left)
+do-oam-dma-requires : tie.Need-do-oam-dma-requires
+do-oam-dma-requires c κs = write-passes _ _ _ _ _ _ _ (sym (c .before .before .before .before .before .write-refused .ensures) ∙ c .before .before .before .before .if1 .left)
 
 same-length : tie.Need-same-length
 same-length c = search needs
@@ -28,7 +28,7 @@ same-length-4 : tie.Need-same-length-4
 same-length-4 c = search needs
 
 returns-2 : tie.Need-returns-2
-returns-2 c = accepted-outcome (c .before .before .before .before .before .before .before .before .before .before .before .before .before .before .write-refused .ensures) (c .before .before .before .before .before .before .before .before .before .before .before .before .before .if1 .left) _ (same-outcome 0 refl (c .before .before .before .before .before .before .before .before .do-dma-transfer .ensures))
+returns-2 c = accepted-outcome (c .before .before .before .before .before .before .before .before .before .before .before .before .before .before .write-refused .ensures) (c .before .before .before .before .before .before .before .before .before .before .before .before .before .if1 .left) _ (same-outcome 0 refl (c .before .before .before .before .before .before .before .before .do-oam-dma .ensures))
 
 pub do-dma-transfer-spec : {M : Type 1} → statement M
 do-dma-transfer-spec =
@@ -36,7 +36,7 @@ do-dma-transfer-spec =
     (tie.spec
     write-refused-requires
     returns
-    do-dma-transfer-requires
+    do-oam-dma-requires
     same-length
     same-length-2
     same-length-3

@@ -14,7 +14,7 @@ read-byte-requires : tie.Need-read-byte-requires
 read-byte-requires c κs = search needs
 
 returns-2 : tie.Need-returns-2
-returns-2 c = mapper-read _ (c .before .before .before .before .before .decode .ensures) (c .before .before .before .if1 .left) _ _ _ (c .read-byte .ensures)
+returns-2 c = mapper-read _ (c .before .before .before .before .before .before .decode .ensures) (c .before .before .before .before .if1 .left) _ _ _ (c .read-byte .ensures)
 
 pub pouch-mapper-read-spec : {M : Type 1} → statement M
 pouch-mapper-read-spec = tie.close (tie.spec decode-requires returns read-byte-requires returns-2)

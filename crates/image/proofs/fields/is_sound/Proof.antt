@@ -1,31 +1,35 @@
-use lib.Dec.{eqb}
-use Prim.Native.Nat.{_%_}
-use Rattle.image.specs.Load.{startsAs, registers}
-use Rattle.image.specs.Words.{registersIn}
-use Rattle.image.proofs.FieldLaws.{listed}
--- The last bit, and then the mapper's fields.
-use mathlib.Core.Path.{_∙_}
-use native.Mathlib.Omega.{arith}
-use Rattle.image.specs.Load.{sound}
-use Rattle.image.proofs.FieldLaws.{Sized, fields-listed, unsound, sound-by}
+-- The last bits first, then the registers.
+use Rattle.image.proofs.FieldLaws.{unsound, sound-by}
+use Rattle.image.specs.Patches.{fields}
+use Rattle.image.specs.Load.{registersIn, at, sound}
+use Rattle.mbc.specs.declared.registers.Registers.{Registers}
+use Rattle.mbc.specs.Mbc as mbc
 use borrow.Author.Tests.{eq-eqb, ne-eqb}
+use denote.Ref.{now}
+use lib.Dec.{eqb}
+use Prim.Native.Nat.{ℕ}
+use mathlib.Core.Path.{_≡_, sym, ap, _∙_}
 use borrow.Author.Needs.{needs}
 use Rattle.image.proofs.fields.is_sound.Statement.{statement}
 use Rattle.image.proofs.fields.is_sound.Tie as tie
 
+u8-at-requires : tie.Need-u8-at-requires
+u8-at-requires c κs = search needs
+
 returns : tie.Need-returns
 unfolding sound
-returns c = let s : Sized (c .before .before .args .words) = record { first = omega arith; second = omega arith; third = omega arith; fourth = omega arith; fifth = omega arith } in rw (fields-listed (c .before .before .args .words) s) (unsound (startsAs (registers (listed (c .before .before .args .words)))) (eqb (c .before .before .args .words .fifth % 2) 0) (ne-eqb _ _ (c .if1 .taken)))
+returns c = unsound (mbc.sound (registersIn (fields (now (c .before .before .before .args .image))))) (eqb (at (fields (now (c .before .before .before .args .image))) 29) 0) (sym (ap (λ (n : ℕ). eqb n 0) (c .before .u8-at .ensures .0)) ∙ ne-eqb _ _ (c .if1 .taken))
 
 registers-at-requires : tie.Need-registers-at-requires
 registers-at-requires c κs = search needs
 
-starts-as-requires : tie.Need-starts-as-requires
-starts-as-requires c κs = search needs
+is-sound-requires : tie.Need-is-sound-requires
+is-sound-requires c κs = search needs
 
 returns-2 : tie.Need-returns-2
 unfolding sound
-returns-2 c = let s : Sized (c .before .before .before .before .args .words) = record { first = omega arith; second = omega arith; third = omega arith; fourth = omega arith; fifth = omega arith } in rw (fields-listed (c .before .before .before .before .args .words) s, c .starts-as .ensures, c .before .registers-at .ensures) (sound-by (startsAs (registersIn (c .before .before .before .before .args .words .fifth))) (eqb (c .before .before .before .before .args .words .fifth % 2) 0) (eq-eqb _ _ (c .before .before .if1 .left)))
+returns-2 c = c .is-sound .ensures ∙ ap mbc.sound (c .before .registers-at .ensures) ∙ sound-by (mbc.sound (registersIn (fields (now (c .before .before .before .before .before .args .image))))) (eqb (at (fields (now (c .before .before .before .before .before .args .image))) 29) 0) (sym (ap (λ (n : ℕ). eqb n 0) (c .before .before .before .u8-at .ensures .0)) ∙ eq-eqb _ _ (c .before .before .if1 .left))
 
 pub is-sound-spec : {M : Type 1} → statement M
-is-sound-spec = tie.close (tie.spec returns registers-at-requires starts-as-requires returns-2)
+is-sound-spec =
+    tie.close (tie.spec u8-at-requires returns registers-at-requires is-sound-requires returns-2)

@@ -5,7 +5,7 @@ use Rattle.mmu.proofs.regions.put_mapper.Statement.{statement}
 use Rattle.mmu.proofs.regions.put_mapper.Tie as tie
 
 write-requires : tie.Need-write-requires
-write-requires c κs = (c .before .pre .1, mapped-rom _ (c .before .pre .0))
+write-requires c κs = (c .before .before .pre .1, mapped-rom _ (c .before .before .pre .0))
 
 with-mapper-requires : tie.Need-with-mapper-requires
 with-mapper-requires c κs = search needs

@@ -2,7 +2,7 @@
 use Rattle.mmu.proofs.Places.{save-full, save-none, save-stored}
 use Rattle.mbc.specs.declared.mbc.Written.{Written}
 use Rattle.mbc.proofs.Laws.{mapped-ram, stored-within}
-use borrow.Author.Tests.{ltb-false}
+use Rattle.savelog.proofs.Use.{has-room}
 use mathlib.Core.Path.{refl, sym, ap, _∙_}
 use native.Mathlib.Omega.{arith}
 use borrow.Author.Needs.{needs}
@@ -31,7 +31,7 @@ slice-write-save : tie.Need-slice-write-save
 slice-write-save c = let b = stored-within _ _ _ _ _ _ (c .before .before .before .before .before .before .before .before .fits .value .fits) (ap (λ (k : Written). k .answer) (sym (c .before .before .before .write .ensures)) ∙ c .before .answer .given .1) in omega (arith, b .0, c .before .before .before .before .before .before .before .before .pre .1 .1 .0)
 
 append-requires : tie.Need-append-requires
-append-requires c κs = let b = stored-within _ _ _ _ _ _ (c .before .before .before .before .before .before .before .before .before .fits .value .fits) (ap (λ (k : Written). k .answer) (sym (c .before .before .before .before .write .ensures)) ∙ c .before .before .answer .given .1) in (ltb-false _ _ (sym (c .before .before .before .before .before .before .full .ensures) ∙ c .before .before .before .before .before .if1 .left), c .before .before .before .before .before .before .before .before .before .pre .1 .1 .1, b .1 .0)
+append-requires c κs = let b = stored-within _ _ _ _ _ _ (c .before .before .before .before .before .before .before .before .before .fits .value .fits) (ap (λ (k : Written). k .answer) (sym (c .before .before .before .before .write .ensures)) ∙ c .before .before .answer .given .1) in (has-room _ _ 1 (sym (c .before .before .before .before .before .before .full .ensures) ∙ c .before .before .before .before .before .if1 .left), c .before .before .before .before .before .before .before .before .before .pre .1 .1 .1, omega (arith, b .1 .0))
 
 same-length : tie.Need-same-length
 same-length c = search needs

@@ -11,7 +11,7 @@ element-write-next c = search needs
 
 returns : tie.Need-returns
 unfolding vramBankPut
-returns c = rw (c .if1 .taken)
+returns c = rw (c .before .if1 .taken)
 
 store-requires : tie.Need-store-requires
 store-requires c κs = search needs

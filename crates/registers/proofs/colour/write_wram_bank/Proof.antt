@@ -14,7 +14,7 @@ element-write-next c = search needs
 
 returns : tie.Need-returns
 unfolding wramBankPut
-returns c = rw (c .before .if1 .taken, c .wram-bank .ensures)
+returns c = rw (c .before .before .if1 .taken, c .before .wram-bank .ensures)
 
 store-requires : tie.Need-store-requires
 store-requires c κs = search needs

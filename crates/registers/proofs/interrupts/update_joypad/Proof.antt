@@ -16,7 +16,7 @@ element-write-next : tie.Need-element-write-next
 element-write-next c = search needs
 
 returns : tie.Need-returns
-returns c = rw (c .before .update .ensures)
+returns c = rw (c .before .before .update .ensures)
 
 pub update-joypad-spec : {M : Type 1} → statement M
 update-joypad-spec =

@@ -42,8 +42,8 @@ write-destination-high-requires c κs = search needs
 write-destination-low-requires : tie.Need-write-destination-low-requires
 write-destination-low-requires c κs = search needs
 
-do-cgb-dma-requires : tie.Need-do-cgb-dma-requires
-do-cgb-dma-requires c κs = search needs
+write-start-requires : tie.Need-write-start-requires
+write-start-requires c κs = search needs
 
 write-background-index-requires : tie.Need-write-background-index-requires
 write-background-index-requires c κs = search needs
@@ -131,7 +131,7 @@ returns-14 c = rw (c .write-destination-low .ensures, c .before .match .keys12)
 
 returns-15 : tie.Need-returns-15
 unfolding writeRegister
-returns-15 c = rw (c .do-cgb-dma .ensures, c .before .match .keys13)
+returns-15 c = rw (c .write-start .ensures, c .before .match .keys13)
 
 returns-16 : tie.Need-returns-16
 unfolding writeRegister
@@ -184,7 +184,7 @@ write-spec =
     write-source-low-requires
     write-destination-high-requires
     write-destination-low-requires
-    do-cgb-dma-requires
+    write-start-requires
     write-background-index-requires
     write-background-data-requires
     write-sprite-index-requires

@@ -1,5 +1,5 @@
 -- The callees' two equations, one after the other; in banking mode the RAM code is 3, so there are RAM banks.
-use Rattle.mbc.proofs.Ranges.{four-banks}
+use Rattle.mbc.proofs.Cartridges.{four-banks}
 use Rattle.rules.proofs.Tests.{cases}
 use native.Mathlib.Omega.{arith}
 use Rattle.mbc.specs.Mbc.{high1}

@@ -2,7 +2,8 @@
 use Rattle.rules.proofs.Tests.{tests}
 use native.Mathlib.Omega.{arith}
 use Rattle.mbc.specs.Mbc.{after2}
-use Rattle.mbc.proofs.Ranges.{some-banks}
+use Rattle.mbc.proofs.Cartridges.{banks-least}
+use Rattle.mbc.proofs.Mbc2Laws.{in-banks}
 use borrow.Author.Needs.{needs}
 use Rattle.mbc.proofs.mbc2.Mbc2.after.Statement.{statement}
 use Rattle.mbc.proofs.mbc2.Mbc2.after.Tie as tie
@@ -11,7 +12,7 @@ enable-requires : tie.Need-enable-requires
 enable-requires c κs = search needs
 
 select-requires : tie.Need-select-requires
-select-requires c κs = omega (arith, some-banks _ _ (c .before .before .pre))
+select-requires c κs = omega (arith, banks-least 16 _ (in-banks _ _ (c .before .before .pre)))
 
 returns : tie.Need-returns
 unfolding after2

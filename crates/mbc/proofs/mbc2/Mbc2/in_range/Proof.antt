@@ -5,9 +5,6 @@ use borrow.Author.Needs.{needs}
 use Rattle.mbc.proofs.mbc2.Mbc2.in_range.Statement.{statement}
 use Rattle.mbc.proofs.mbc2.Mbc2.in_range.Tie as tie
 
-cast-rom : tie.Need-cast-rom
-cast-rom c = search needs
-
 has-banks-requires : tie.Need-has-banks-requires
 has-banks-requires c κs = search needs
 
@@ -24,4 +21,4 @@ unfolding inRange described held
 returns-3 c = rw (← c .before .has-banks .ensures, c .if1 .left)
 
 pub in-range-spec : {M : Type 1} → statement M
-in-range-spec = tie.close (tie.spec cast-rom has-banks-requires returns returns-2 returns-3)
+in-range-spec = tie.close (tie.spec has-banks-requires returns returns-2 returns-3)

@@ -1,0 +1,23 @@
+-- Each field is at its place.
+use borrow.Author.Needs.{needs}
+use Rattle.image.proofs.fields.put_cartridge.Statement.{statement}
+use Rattle.image.proofs.fields.put_cartridge.Tie as tie
+
+log-requires : tie.Need-log-requires
+log-requires c κs = search needs
+
+put-u8-requires : tie.Need-put-u8-requires
+put-u8-requires c κs = search needs
+
+put-u8-requires-2 : tie.Need-put-u8-requires-2
+put-u8-requires-2 c κs = search needs
+
+same-length : tie.Need-same-length
+same-length c = search needs
+
+returns : tie.Need-returns
+returns c = cc
+
+pub put-cartridge-spec : {M : Type 1} → statement M
+put-cartridge-spec =
+    tie.close (tie.spec log-requires put-u8-requires put-u8-requires-2 same-length returns)

@@ -1,0 +1,33 @@
+-- Each field is at its place.
+use borrow.Author.Needs.{needs}
+use Rattle.image.proofs.fields.put_joypad.Statement.{statement}
+use Rattle.image.proofs.fields.put_joypad.Tie as tie
+
+put-flag-requires : tie.Need-put-flag-requires
+put-flag-requires c κs = search needs
+
+put-flag-requires-2 : tie.Need-put-flag-requires-2
+put-flag-requires-2 c κs = search needs
+
+put-u8-requires : tie.Need-put-u8-requires
+put-u8-requires c κs = search needs
+
+put-u8-requires-2 : tie.Need-put-u8-requires-2
+put-u8-requires-2 c κs = search needs
+
+same-length : tie.Need-same-length
+same-length c = search needs
+
+returns : tie.Need-returns
+returns c = cc
+
+pub put-joypad-spec : {M : Type 1} → statement M
+put-joypad-spec =
+    tie.close
+    (tie.spec
+    put-flag-requires
+    put-flag-requires-2
+    put-u8-requires
+    put-u8-requires-2
+    same-length
+    returns)

@@ -1,0 +1,40 @@
+-- The registers' fields, then the log use.
+use Rattle.image.specs.Patches.{mappingPut}
+use native.Mathlib.Omega.{arith}
+use borrow.Author.Needs.{needs}
+use Rattle.image.proofs.fields.put_mapping.Statement.{statement}
+use Rattle.image.proofs.fields.put_mapping.Tie as tie
+
+registers-requires : tie.Need-registers-requires
+registers-requires c κs = search needs
+
+put-numbers-requires : tie.Need-put-numbers-requires
+put-numbers-requires c κs = (search needs, rw (c .before .registers .ensures) (omega (arith, c .before .before .before .pre .1)))
+
+put-u8-requires : tie.Need-put-u8-requires
+put-u8-requires c κs = rw (c .before .before .before .before .before .registers .ensures) (omega (arith, c .before .before .before .before .before .before .before .pre))
+
+put-u8-requires-2 : tie.Need-put-u8-requires-2
+put-u8-requires-2 c κs = rw (c .before .before .before .before .before .before .before .before .before .registers .ensures) (omega (arith, c .before .before .before .before .before .before .before .before .before .before .before .pre))
+
+put-u16-requires : tie.Need-put-u16-requires
+put-u16-requires c κs = search needs
+
+same-length : tie.Need-same-length
+same-length c = search needs
+
+returns : tie.Need-returns
+unfolding mappingPut
+returns c = cc
+
+pub put-mapping-spec : {M : Type 1} → statement M
+put-mapping-spec =
+    tie.close
+    (tie.spec
+    registers-requires
+    put-numbers-requires
+    put-u8-requires
+    put-u8-requires-2
+    put-u16-requires
+    same-length
+    returns)

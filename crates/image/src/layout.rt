@@ -1,0 +1,85 @@
+// Where each field of an image lies: how many bits stand before it, one field behind the other. The order and the widths are those of
+// specs/Layout.antt, to which the proofs hold them.
+
+// The bytes of an image.
+pub const LENGTH: usize = 665;
+
+// Before the mapper.
+
+pub const COLOUR_AT: usize = 5056;
+
+pub const DISABLED_AT: usize = COLOUR_AT + 1;
+
+pub const ON_AT: usize = DISABLED_AT + 1;
+
+pub const VRAM_AT: usize = ON_AT + 1;
+
+pub const WRAM_AT: usize = VRAM_AT + 1;
+
+pub const ACTION_AT: usize = WRAM_AT + 3;
+
+pub const DIRECTION_AT: usize = ACTION_AT + 1;
+
+pub const STATE_AT: usize = DIRECTION_AT + 1;
+
+pub const RELEASED_AT: usize = STATE_AT + 8;
+
+pub const LINE_AT: usize = RELEASED_AT + 8;
+
+pub const SIGNAL_AT: usize = LINE_AT + 8;
+
+pub const MODE_AT: usize = SIGNAL_AT + 8;
+
+pub const DIV_AT: usize = MODE_AT + 8;
+
+pub const TIMA_AT: usize = DIV_AT + 8;
+
+pub const SOURCE_AT: usize = TIMA_AT + 10;
+
+pub const DESTINATION_AT: usize = SOURCE_AT + 16;
+
+pub const DELAY_AT: usize = DESTINATION_AT + 16;
+
+pub const COUNTER_AT: usize = DELAY_AT + 32;
+
+pub const AUX_AT: usize = COUNTER_AT + 32;
+
+pub const WINDOW_AT: usize = AUX_AT + 32;
+
+// From the mapper on: widths, then places.
+
+pub const KIND: usize = 2;
+
+pub const LOG: usize = 3;
+
+pub const CODE: usize = 2;
+
+pub const ROM: usize = 7;
+
+pub const RAM: usize = 2;
+
+pub const HIGH: usize = 2;
+
+pub const USED: usize = 16;
+
+pub const ZEROS: usize = 1;
+
+pub const KIND_AT: usize = WINDOW_AT + 32;
+
+pub const LOG_AT: usize = KIND_AT + KIND;
+
+pub const CODE_AT: usize = LOG_AT + LOG;
+
+pub const ROM_AT: usize = CODE_AT + CODE;
+
+pub const RAM_AT: usize = ROM_AT + ROM;
+
+pub const BANKING_AT: usize = RAM_AT + RAM;
+
+pub const ENABLED_AT: usize = BANKING_AT + 1;
+
+pub const HIGH_AT: usize = ENABLED_AT + 1;
+
+pub const USED_AT: usize = HIGH_AT + HIGH;
+
+pub const ZEROS_AT: usize = USED_AT + USED;

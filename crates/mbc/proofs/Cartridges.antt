@@ -1,0 +1,89 @@
+-- What a cartridge's description says, taken out of the tests; N and its logarithm, both ways.
+use mathlib.Core.Path.{_≡_, refl, sym, _∙_}
+use mathlib.Core.Bool.{true, false, cond, _||_, or-false}
+use mathlib.Core.List.{List, [], _∷_}
+use mathlib.Core.Logic.{⊎-elim}
+use Prim.Native.Nat.{ℕ, zero, suc, _≤_, _*_}
+use native.Mathlib.Omega.{arith}
+use lib.Dec.{eqb, leb, lit≤}
+use borrow.Author.Tests.{leb-true, eqb-true}
+use Rattle.rules.proofs.Tests.{or-cases, by-cond}
+use Rattle.mbc.specs.Cartridge.{oneOf, powers, hasBanks, hasCode, ramBanks, log2, banksOf}
+use Rattle.mbc.specs.declared.cartridge.Cartridge.{Cartridge}
+use Rattle.mbc.proofs.Bools.{and-left, and-right, from}
+
+pub banks-most : (most : ℕ) (c : Cartridge) → hasBanks most c ≡ true → c .banks ≤ most
+unfolding hasBanks
+banks-most most c e = leb-true (c .banks) most (and-left (leb (c .banks) most) (oneOf powers (c .banks)) e)
+
+pub banks-power : (most : ℕ) (c : Cartridge) → hasBanks most c ≡ true → oneOf powers (c .banks) ≡ true
+unfolding hasBanks
+banks-power most c e = and-right (leb (c .banks) most) (oneOf powers (c .banks)) e
+
+pub power-least : (n : ℕ) → oneOf powers n ≡ true → 2 ≤ n
+power-least n e =
+    from 2 powers n (lit≤ tt, (lit≤ tt, (lit≤ tt, (lit≤ tt, (lit≤ tt, (lit≤ tt, (lit≤ tt, (lit≤ tt, (lit≤ tt, tt))))))))) e
+
+pub banks-least : (most : ℕ) (c : Cartridge) → hasBanks most c ≡ true → 2 ≤ c .banks
+banks-least most c e = power-least (c .banks) (banks-power most c e)
+
+pub code-most : (c : Cartridge) → hasCode c ≡ true → c .code ≤ 3
+unfolding hasCode
+code-most c e =
+    ⊎-elim (λ h. omega (arith, eqb-true (c .code) 0 h))
+    (λ k.
+    ⊎-elim (λ h. omega (arith, eqb-true (c .code) 2 h)) (λ l. omega (arith, eqb-true (c .code) 3 (sym (or-false (eqb (c .code) 3)) ∙ l)))
+    (or-cases (eqb (c .code) 2) (eqb (c .code) 3 || false) k))
+    (or-cases (eqb (c .code) 0) (oneOf (2 ∷ 3 ∷ []) (c .code)) e)
+
+pub four-banks : (code : ℕ) → code ≡ 3 → ramBanks code ≡ 4
+unfolding ramBanks
+four-banks code e = rw e
+
+-- a code other than 0 has RAM
+pub has-ram : (c : Cartridge) → hasCode c ≡ true → eqb (c .code) 0 ≡ false → oneOf (2 ∷ 3 ∷ []) (c .code) ≡ true
+unfolding hasCode
+has-ram c e z = rw z at e
+
+pub some-ram : (code : ℕ) → oneOf (2 ∷ 3 ∷ []) code ≡ true → 1 ≤ ramBanks code
+unfolding ramBanks
+some-ram code e =
+    ⊎-elim (λ (h : eqb code 2 ≡ true). rw h (lit≤ tt))
+    (λ (h : (eqb code 3 || false) ≡ true). rw (eqb-true code 3 (sym (or-false (eqb code 3)) ∙ h)) (lit≤ tt))
+    (or-cases (eqb code 2) (eqb code 3 || false) e)
+
+-- what the RAM code can say
+pub by-ram-banks : (P : ℕ → Type 0) → P 0 → P 0x2000 → P 0x8000 → (code : ℕ) → P (ramBanks code * 0x2000)
+unfolding ramBanks
+by-ram-banks P none one four code =
+    by-cond (λ (b : ℕ). P (b * 0x2000)) (eqb code 2) 1 (cond (eqb code 3) 4 0) (λ e. one)
+    (λ e. by-cond (λ (b : ℕ). P (b * 0x2000)) (eqb code 3) 4 0 (λ f. four) (λ f. none))
+
+-- N and its logarithm
+
+abbrev AllBack : List ℕ → Type 0
+AllBack [] = Unit {0}
+AllBack (x ∷ xs) = (banksOf (log2 x) ≡ x) × AllBack xs
+
+one-back : (xs : List ℕ) (n : ℕ) → AllBack xs → oneOf xs n ≡ true → banksOf (log2 n) ≡ n
+one-back [] n all e = let z : _≡_ {A = ℕ} 0 1 = cc in absurd (omega arith)
+one-back (x ∷ xs) n all e =
+    ⊎-elim (λ h. rw (eqb-true n x h) (all .0)) (λ h. one-back xs n (all .1) h) (or-cases (eqb n x) (oneOf xs n) e)
+
+pub banks-of-log : (n : ℕ) → oneOf powers n ≡ true → banksOf (log2 n) ≡ n
+unfolding log2 banksOf
+banks-of-log n e = one-back powers n (refl, (refl, (refl, (refl, (refl, (refl, (refl, (refl, (refl, tt))))))))) e
+
+pub log-of-banks : (log : ℕ) → log ≤ 9 → log2 (banksOf log) ≡ log
+unfolding log2 banksOf
+log-of-banks zero h = refl
+log-of-banks (suc zero) h = refl
+log-of-banks (suc (suc zero)) h = refl
+log-of-banks (suc (suc (suc zero))) h = refl
+log-of-banks (suc (suc (suc (suc zero)))) h = refl
+log-of-banks (suc (suc (suc (suc (suc zero))))) h = refl
+log-of-banks (suc (suc (suc (suc (suc (suc zero)))))) h = refl
+log-of-banks (suc (suc (suc (suc (suc (suc (suc zero))))))) h = refl
+log-of-banks (suc (suc (suc (suc (suc (suc (suc (suc zero)))))))) h = refl
+log-of-banks (suc (suc (suc (suc (suc (suc (suc (suc (suc zero))))))))) h = refl
+log-of-banks (suc (suc (suc (suc (suc (suc (suc (suc (suc (suc n)))))))))) h = absurd (omega arith)

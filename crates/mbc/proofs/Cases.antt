@@ -1,0 +1,30 @@
+-- The proofs' cases: each mapper is lawful, and a kind is one of the mappers'.
+use mathlib.Core.Path.{_≡_}
+use mathlib.Core.Bool.{cond}
+use Prim.Native.Nat.{ℕ}
+use lib.Dec.{eqb}
+use Rattle.rules.proofs.Tests.{by-cond}
+use Rattle.mbc.specs.Mbc.{described, inRange, start, starting, kindRomOnly, kindMbc1, from1, from2}
+use Rattle.mbc.specs.declared.cartridge.Cartridge.{Cartridge}
+use Rattle.mbc.specs.declared.mbc.Mapper.{Mapper}
+use Rattle.mbc.specs.declared.mbc.Mapper.the-variants.{RomOnly, Mbc1, Mbc2}
+use Rattle.mbc.proofs.Lawful.{Lawful}
+use Rattle.mbc.proofs.RomOnlyLaws.{rom-only-lawful, rom-only-starts}
+use Rattle.mbc.proofs.Mbc1Laws.{mbc1-lawful, mbc1-starts}
+use Rattle.mbc.proofs.Mbc2Laws.{mbc2-lawful, mbc2-starts}
+
+pub lawful : (m : Mapper) → Lawful m
+lawful RomOnly = rom-only-lawful
+lawful (Mbc1 m) = mbc1-lawful m
+lawful (Mbc2 m) = mbc2-lawful m
+
+-- a mapper that starts is in range where its description is
+pub start-in-range : (c : Cartridge) (kind : ℕ) → inRange c (start kind) ≡ described c (start kind)
+unfolding start
+start-in-range c kind =
+    by-cond (λ (m : Mapper). inRange c m ≡ described c m) (eqb kind kindRomOnly) RomOnly
+    (cond (eqb kind kindMbc1) (Mbc1 (from1 (starting kind))) (Mbc2 (from2 (starting kind))))
+    (λ e. rom-only-starts c)
+    (λ e.
+    by-cond (λ (m : Mapper). inRange c m ≡ described c m) (eqb kind kindMbc1) (Mbc1 (from1 (starting kind))) (Mbc2 (from2 (starting kind)))
+    (λ f. mbc1-starts c) (λ f. mbc2-starts c kind))

@@ -1,0 +1,53 @@
+-- What is proved of each mapper, in its own file; proofs/Cases.antt has them together, and the rest follows from it with no case.
+use mathlib.Core.Path.{_≡_}
+use mathlib.Core.Bool.{true}
+use mathlib.Core.Logic.{_⊎_}
+use Prim.Native.Nat.{ℕ, _<_, _≤_}
+use Rattle.mbc.specs.Mbc.{oneOf, powers, romLen, ramLen, described, inRange, behaviour, known, registersOf, mapperOf, ramSource, after}
+use Rattle.mbc.specs.declared.cartridge.Cartridge.{Cartridge}
+use Rattle.mbc.specs.declared.mbc.Mapper.{Mapper}
+use Rattle.mbc.specs.declared.mbc.Source.{Source}
+use Rattle.mbc.specs.declared.mbc.Source.the-variants.{Rom, Save, Half, Fixed}
+
+-- an address lies in the memory that it is of: a ROM and a save of these lengths
+abbrev pub Within : ℕ → ℕ → Source → Type 0
+Within rom save (Rom at) = at < rom
+Within rom save (Save at) = at < save
+Within rom save (Half at) = at < save
+Within rom save (Fixed byte) = byte < 256
+
+-- a source that has its byte in itself has a byte
+abbrev pub Whole : Source → Type 0
+Whole (Rom at) = Unit {0}
+Whole (Save at) = Unit {0}
+Whole (Half at) = Unit {0}
+Whole (Fixed byte) = byte < 256
+
+-- what a description in range says: N is a power of two, of at most 7 bits as a bank's number; the code has two bits
+pub record Described (c : Cartridge) : Type 0 where
+  pub power : oneOf powers (c .banks) ≡ true
+  pub most : c .banks ≤ 128
+  pub code : c .code ≤ 3
+
+-- and the state ranges
+pub record Held (c : Cartridge) (m : Mapper) : Type 0 where
+  pub rom : registersOf m .rom < c .banks
+  pub ram : registersOf m .ram ≤ 3
+  pub high : registersOf m .high ≤ 3
+
+pub record Lawful (m : Mapper) : Type 0 where
+  pub describes : (c : Cartridge) → described c m ≡ true → Described c
+  pub holds : (c : Cartridge) → inRange c m ≡ true → Held c m
+  -- registers and back
+  pub kind : known (registersOf m .kind) ≡ true
+  pub back : mapperOf (registersOf m) ≡ m
+  pub bits : (registersOf m .mode < 2) × (registersOf m .enabled < 2)
+  -- a save is as long as the RAM code says, or 512 bytes
+  pub owns : (behaviour m .ownRam ≡ 0) ⊎ (behaviour m .ownRam ≡ 512)
+  -- reads
+  pub whole : (c : Cartridge) (index : ℕ) → Whole (ramSource c m index)
+  pub within : (c : Cartridge) (index : ℕ) → inRange c m ≡ true → 0xA000 ≤ index → index < 0xC000 → Within (romLen c) (ramLen c m) (ramSource c m index)
+  -- writes
+  pub kept : (c : Cartridge) (index value : ℕ) → 0x8000 ≤ index → after c m index value ≡ m
+  pub own : (c : Cartridge) (index value : ℕ) → behaviour (after c m index value) .ownRam ≡ behaviour m .ownRam
+  pub stays : (c : Cartridge) (index value : ℕ) → inRange c m ≡ true → inRange c (after c m index value) ≡ true

@@ -1,0 +1,48 @@
+-- RomOnly's laws.
+use mathlib.Core.Path.{_≡_, refl}
+use mathlib.Core.Bool.{true, _&&_, and-true}
+use mathlib.Core.Logic.{inl}
+use native.Mathlib.Omega.{arith}
+use lib.Dec.{eqb, lit<}
+use Rattle.rules.proofs.Tests.{by-cond}
+use Rattle.mbc.specs.PanDocs.{ramAddress}
+use Rattle.mbc.specs.Mbc.{hasBanks, hasCode, described, held, inRange, romLen, ramLen, ramSource}
+use Rattle.mbc.specs.declared.cartridge.Cartridge.{Cartridge}
+use Rattle.mbc.specs.declared.mbc.Mapper.the-variants.{RomOnly}
+use Rattle.mbc.specs.declared.mbc.Source.the-variants.{Save, Fixed}
+use Rattle.mbc.proofs.Bools.{and-left, and-right}
+use Rattle.mbc.proofs.Cartridges.{banks-most, banks-least, banks-power, code-most, has-ram, some-ram}
+use Rattle.mbc.proofs.Lawful.{Lawful, Whole, Within}
+
+in-banks : (c : Cartridge) → inRange c RomOnly ≡ true → hasBanks 2 c ≡ true
+unfolding inRange described
+in-banks c e = and-left (hasBanks 2 c) (hasCode c) (and-left (hasBanks 2 c && hasCode c) (held c RomOnly) e)
+
+in-code : (c : Cartridge) → inRange c RomOnly ≡ true → hasCode c ≡ true
+unfolding inRange described
+in-code c e = and-right (hasBanks 2 c) (hasCode c) (and-left (hasBanks 2 c && hasCode c) (held c RomOnly) e)
+
+pub rom-only-starts : (c : Cartridge) → inRange c RomOnly ≡ described c RomOnly
+unfolding inRange held
+rom-only-starts c = and-true (described c RomOnly)
+
+pub rom-only-lawful : Lawful RomOnly
+unfolding described ramSource ramLen
+rom-only-lawful =
+    record {
+      describes = λ c e.
+          let b = and-left (hasBanks 2 c) (hasCode c) e in
+          record { power = banks-power 2 c b; most = omega (arith, banks-most 2 c b); code = code-most c (and-right (hasBanks 2 c) (hasCode c) e) };
+      holds = λ c e. record { rom = omega (arith, banks-least 2 c (in-banks c e)); ram = omega arith; high = omega arith };
+      kind = refl;
+      back = refl;
+      bits = (omega arith, omega arith);
+      owns = inl refl;
+      whole = λ c index. by-cond Whole (eqb (c .code) 0) (Fixed 0xFF) (Save (ramAddress 0 index)) (λ z. lit< tt) (λ z. tt);
+      within = λ c index e l h.
+          by-cond (Within (romLen c) (ramLen c RomOnly)) (eqb (c .code) 0) (Fixed 0xFF) (Save (ramAddress 0 index)) (λ z. lit< tt)
+          (λ z. omega (arith, some-ram (c .code) (has-ram c (in-code c e) z)));
+      kept = λ c index value h. refl;
+      own = λ c index value. refl;
+      stays = λ c index value e. e;
+    }

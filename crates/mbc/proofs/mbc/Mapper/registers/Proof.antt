@@ -1,0 +1,45 @@
+-- By the mapper's case.
+use borrow.Author.Needs.{needs}
+use Rattle.mbc.proofs.mbc.Mapper.registers.Statement.{statement}
+use Rattle.mbc.proofs.mbc.Mapper.registers.Tie as tie
+
+enum-told : tie.Need-enum-told
+enum-told c = search needs
+
+start-requires : tie.Need-start-requires
+start-requires c κs = search needs
+
+enum-known-self : tie.Need-enum-known-self
+enum-known-self c = search needs
+
+registers-requires : tie.Need-registers-requires
+registers-requires c κs = search needs
+
+enum-known-self-2 : tie.Need-enum-known-self-2
+enum-known-self-2 c = search needs
+
+registers-requires-2 : tie.Need-registers-requires-2
+registers-requires-2 c κs = search needs
+
+returns : tie.Need-returns
+returns c = cc
+
+returns-2 : tie.Need-returns-2
+returns-2 c = cc
+
+returns-3 : tie.Need-returns-3
+returns-3 c = cc
+
+pub registers-spec : {M : Type 1} → statement M
+registers-spec =
+    tie.close
+    (tie.spec
+    enum-told
+    start-requires
+    enum-known-self
+    registers-requires
+    enum-known-self-2
+    registers-requires-2
+    returns
+    returns-2
+    returns-3)

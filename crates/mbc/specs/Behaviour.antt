@@ -1,0 +1,21 @@
+-- What a mapper is to the rest: one such record for each, at the end of its own file; specs/Mbc.antt names it in one case and has what is common.
+use mathlib.Core.Bool.{Bool}
+use Prim.Native.Nat.{ℕ}
+use Rattle.mbc.specs.declared.cartridge.Cartridge.{Cartridge}
+use Rattle.mbc.specs.declared.mbc.Mapper.{Mapper}
+use Rattle.mbc.specs.declared.mbc.Source.{Source}
+use Rattle.mbc.specs.declared.registers.Registers.{Registers}
+
+pub record Behaviour : Type 0 where
+  -- the cartridges that it is described for
+  pub described : Cartridge → Bool
+  -- its state ranges
+  pub held : Cartridge → Bool
+  -- bytes of RAM of its own; 0 where the RAM code says how many
+  pub ownRam : ℕ
+  -- where a read at A000..BFFF finds its byte
+  pub ramSource : Cartridge → ℕ → Source
+  -- itself after a write
+  pub after : Cartridge → ℕ → ℕ → Mapper
+  -- its fields as numbers; those that it lacks hold their starting values
+  pub registers : Registers

@@ -1,0 +1,67 @@
+// A mapper's fields as numbers, as the state image has them.
+use crate::mbc::Mapper;
+ghost use mathlib.Core.Path.{_≡_};
+ghost use Rattle.mbc.specs.Registers.{starting, bit, same};
+ghost use Rattle.mbc.specs.Mbc.{sound};
+
+// Those that the mapper lacks hold their starting values.
+pub struct Registers {
+    pub kind: u8,
+    pub rom: u16,
+    pub ram: u8,
+    pub mode: u8,
+    pub enabled: u8,
+    pub high: u8,
+}
+
+pub fn bit(on: bool) -> u8
+    ensures { λ r. ⌜ r ≡ bit on ⌝ }
+{
+    if on { 1 } else { 0 }
+}
+
+impl Registers {
+    // ROM bank 1, all else 0 or off.
+    pub fn start(kind: u8) -> Registers
+        ensures { λ r. ⌜ r ≡ starting kind ⌝ }
+    {
+        Registers {
+            kind,
+            rom: 1,
+            ram: 0,
+            mode: 0,
+            enabled: 0,
+            high: 0,
+        }
+    }
+
+    fn same(self, other: Registers) -> bool
+        ensures { λ r. ⌜ r ≡ same self other ⌝ }
+    {
+        if self.kind != other.kind {
+            return false;
+        }
+        if self.rom != other.rom {
+            return false;
+        }
+        if self.ram != other.ram {
+            return false;
+        }
+        if self.mode != other.mode {
+            return false;
+        }
+        if self.enabled != other.enabled {
+            return false;
+        }
+        self.high == other.high
+    }
+
+    // Whether a mapper has them: its kind is known, and a field that it lacks holds its starting value.
+    pub fn is_sound(self) -> bool
+        ensures { λ r. ⌜ r ≡ sound self ⌝ }
+    {
+        let mapper = Mapper::from_registers(self);
+        let held = mapper.registers();
+        self.same(held)
+    }
+}
