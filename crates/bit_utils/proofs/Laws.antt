@@ -1,14 +1,15 @@
 -- The masks of the code against the definitions: bit n of a byte is `b`, 0 or 1, and each mask's value is a sum with `b * 2 ^ n` in it.
-use mathlib.Core.Bool.{Bool, true, false, cond, not, _&&_}
-use mathlib.Core.Path.{_≡_, refl, sym, ap, _∙_}
+use mathlib.Core.Bool.{cond, not, _&&_}
+use mathlib.Core.Path.{_≡_, refl}
 use Prim.Native.Nat.{ℕ, zero, suc, _+_, _-_, _*_, _/_, _%_, _^_, _<_}
 use native.Mathlib.Nat.{one-mul, zero-mul}
 use native.Mathlib.Omega.{arith}
 use lib.Dec.{eqb}
-use lib.Bits.{bitAnd, bitOr, and-shr, and-mod}
+use lib.Bits.{bitAnd, bitOr, and-shr, and-mod, or-lt}
 use lib.Pow.{pow-pos, pow-lt}
 use borrow.Author.Tests.{ne-eqb}
 use Rattle.rules.proofs.Bits.{shifted-one, and-bit, or-bit, and-not}
+use Rattle.rules.proofs.Tests.{cond-both}
 use Rattle.bit_utils.specs.Bits.{isSet, setBit, unsetBit}
 
 tested : (b m : ℕ) → b < 2 → 0 < m → not (eqb (b * m) 0) ≡ eqb b 1
@@ -57,3 +58,11 @@ unfolding isSet
 is-set-and x y n =
     rw (and-shr x y n, and-mod (x / 2 ^ n) (y / 2 ^ n) 1)
     (bits-and (x / 2 ^ n % 2) (y / 2 ^ n % 2) (omega arith) (omega arith))
+
+-- a byte stays one
+pub set-byte : (x n : ℕ) → x < 256 → n < 8 → setBit x n < 256
+set-byte x n h l = rw (← set-mask x n l) (or-lt 8 x (1 * 2 ^ n % 256) h (omega arith))
+
+pub unset-byte : (x n : ℕ) → x < 256 → unsetBit x n < 256
+unfolding unsetBit
+unset-byte x n h = cond-both (λ (r : ℕ). r < 256) (isSet x n) (omega arith) h

@@ -24,7 +24,6 @@ use Rattle.image.proofs.Round.{state-back}
 use Rattle.image.proofs.StateLaws.{storable-state}
 use Rattle.image.specs.Layout.{imageLen, imageOf}
 use Rattle.image.specs.Load.{storable, loaded, loadCall}
-use Rattle.mbc.proofs.Bools.{by-cond}
 use Rattle.mbc.specs.Mbc.{cartridgeOf, start as mapperOf}
 use Rattle.mbc.specs.declared.cartridge.Cartridge.{Cartridge}
 use Rattle.mbc.specs.declared.mbc.Mapper.{Mapper}
@@ -38,8 +37,7 @@ use Rattle.promise.specs.Admitted.{admittedBy}
 use Rattle.promise.specs.Calls.{writesOf}
 use Rattle.promise.specs.Promise.{Bytes, Typed}
 use Rattle.promise.specs.Runs.{Turn, calls, made, run, numbers, admitted, usedBytes, copiedBefore, copiesFrom}
-use Rattle.registers.proofs.Kept.{cond-both}
-use Rattle.rules.proofs.Tests.{both-true}
+use Rattle.rules.proofs.Tests.{both-true, by-cond, cond-both}
 use Rattle.boundary.specs.Boundary.{Alike, EntryRuns, entryAdmitted, EntryKept, EntryPromise}
 use Rattle.boundary.specs.Held.{Held, held, entryRun, entryAnswers, answers, numbersOf, usedOf, copiedOff, entryCopies}
 use Rattle.boundary.specs.Types.{CallTyped, TurnTyped, TurnsTyped}

@@ -11,6 +11,7 @@ use Rattle.dispatch.proofs.Numbered.{by-unless}
 use Rattle.dispatch.specs.Step.{step}
 use Rattle.dispatch.specs.declared.Call.{Call}
 use Rattle.dispatch.specs.declared.Call.the-variants as call
+use Rattle.image.proofs.PatchLaws.{below-set}
 use Rattle.joypad.specs.Joypad.{padRead, directionsAnswer}
 use Rattle.mbc.proofs.Laws.{stored-within}
 use Rattle.mbc.specs.Mbc.{source, ramSource, byteOf, readAt, answer}
@@ -28,14 +29,14 @@ use Rattle.memory.specs.declared.region.Region.the-variants.{Rom, Vram, Save, W
 use Rattle.mmu.specs.Access.{byteIn, readIn, saved, savePut, putIn, put}
 use Rattle.mmu.specs.Write.{copyBy, transferred, writeAt, wordAt}
 use Rattle.packing.specs.Packing.{Below}
-use Rattle.registers.proofs.Kept.{cond-both}
 use Rattle.registers.specs.Page.{byKind, lineRead, plainRead, shownAs, readRegister}
 use Rattle.registers.specs.State.{loaded}
 use Rattle.registers.specs.Transfers.{copyOf, oamCopy, blockCopy}
 use Rattle.registers.specs.declared.transfers.Copy.{Copy}
+use Rattle.rules.proofs.Tests.{cond-both}
 use Rattle.savelog.specs.Log.{width, full}
 use Rattle.boundary.specs.Types.{CallTyped}
-use Rattle.boundary.proofs.Fine.{Fine, below-set, page-set, oam-fine, mapper-fine, used-fine, loaded-byte, write-fine, finished-fine, state-fine}
+use Rattle.boundary.proofs.Fine.{Fine, page-set, oam-fine, mapper-fine, used-fine, loaded-byte, write-fine, finished-fine, state-fine}
 
 abbrev Byte : ℕ → Type 0
 Byte n = n < 256
@@ -115,7 +116,7 @@ module _ (w : World) (g : Whole w) (v : ℕ) (b : v < 256) where
         state = used-fine (g .state) (w .state .core .used + width);
         vram = g .vram;
         wram = g .wram;
-        save = below-set (w .save) at u (g .save) (s .1 .1);
+        save = below-set 256 (w .save) at u (g .save) (s .1 .1);
       }
   saved-whole i NotStored e = g
 
@@ -128,9 +129,9 @@ module _ (w : World) (g : Whole w) (v : ℕ) (b : v < 256) where
 
   put-in-whole : (r : Region) (i : ℕ) → Whole (putIn r w i v)
   put-in-whole Rom i = state-whole (mapper-fine (g .state) _)
-  put-in-whole Vram i = record { state = g .state; vram = below-set (w .vram) _ v (g .vram) b; wram = g .wram; save = g .save }
+  put-in-whole Vram i = record { state = g .state; vram = below-set 256 (w .vram) _ v (g .vram) b; wram = g .wram; save = g .save }
   put-in-whole Save i = save-whole i
-  put-in-whole Wram i = record { state = g .state; vram = g .vram; wram = below-set (w .wram) _ v (g .wram) b; save = g .save }
+  put-in-whole Wram i = record { state = g .state; vram = g .vram; wram = below-set 256 (w .wram) _ v (g .wram) b; save = g .save }
   put-in-whole Oam i = state-whole (oam-fine (g .state) (page-set (i - 0xFE00) (g .state .oam) b))
   put-in-whole Page i = state-whole (write-fine (g .state) v b (i - 0xFF00))
 

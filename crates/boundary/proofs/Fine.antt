@@ -1,14 +1,13 @@
 -- A state of the code's types stays one: the image's law asks for it (crate image, `Typed`). Leans on the laws of the groups' crates.
-use mathlib.Core.Bool.{Bool, true, false}
+use mathlib.Core.Bool.{true}
 use mathlib.Core.List.{List}
-use mathlib.Core.Path.{_≡_, refl, _∙_}
+use mathlib.Core.Path.{_≡_, _∙_}
 use Prim.Native.Nat.{ℕ, _%_, _<_}
 use native.Mathlib.Omega.{arith}
-use borrow.Author.Tests.{eqb-true, eqb-false, ltb-true, ltb-false}
 use lib.Bits.{or-lt}
 use lib.Dec.{eqb, ltb, lit<}
-use lib.ListN.{length, getD, set, length-set}
-use lib.Seq.{set-out, getD-set-same, getD-set-other}
+use lib.ListN.{length, set, length-set}
+use Rattle.bit_utils.proofs.Laws.{set-byte, unset-byte}
 use Rattle.dispatch.specs.Step.{stateStep}
 use Rattle.dispatch.specs.declared.StateCall.{StateCall}
 use Rattle.dispatch.specs.declared.StateCall.the-variants as on
@@ -18,6 +17,7 @@ use Rattle.hdma.specs.declared.Ended.{Ended}
 use Rattle.hdma.specs.declared.Hdma.{Hdma}
 use Rattle.hdma.specs.declared.Start.{Start}
 use Rattle.hdma.specs.declared.Written.{Written}
+use Rattle.image.proofs.PatchLaws.{below-set}
 use Rattle.image.specs.Laws.{Typed}
 use Rattle.interrupt.specs.Flags.{named}
 use Rattle.interrupt.specs.PanDocs.{bitOf}
@@ -25,7 +25,7 @@ use Rattle.interrupt.specs.declared.Interrupt.{Interrupt}
 use Rattle.interrupt.specs.declared.Interrupt.the-variants.{Vblank, Lcd as LcdLine, Timer as TimerLine, Serial, Joypad}
 use Rattle.interrupt.specs.declared.Pending.{Pending}
 use Rattle.interrupt.specs.declared.Pending.the-variants.{Some, None}
-use Rattle.joypad.proofs.Bytes.{set-byte, unset-byte, press-bytes, release-bytes, update-bytes}
+use Rattle.joypad.proofs.Bytes.{press-bytes, release-bytes, update-bytes}
 use Rattle.joypad.specs.Joypad as joypad
 use Rattle.joypad.specs.declared.Controller.{Controller}
 use Rattle.lcd.proofs.Laws as lcd
@@ -47,7 +47,6 @@ use Rattle.palette.specs.declared.Color.{Color}
 use Rattle.palette.specs.declared.Palette.{Palette}
 use Rattle.refusals.specs.Answers.{changed}
 use Rattle.refusals.specs.declared.Done.{Done}
-use Rattle.registers.proofs.Kept.{cond-both}
 use Rattle.registers.specs.Colour.{
   inColour,
   speedPut,
@@ -68,27 +67,19 @@ use Rattle.registers.specs.Transfers.{transferPut, sourceHighPut, sourceLowPut,
 use Rattle.registers.specs.declared.transfers.Finish.{Finish}
 use Rattle.registers.specs.declared.transfers.Finish.the-variants.{Nothing, Block, General}
 use Rattle.registers.specs.declared.transfers.Started.{Started}
+use Rattle.rules.proofs.Tests.{cond-both}
 use Rattle.state_calls.specs.State.{onInterrupt}
 use Rattle.timer.proofs.Laws as timer
 use Rattle.timer.specs.Promises.{Ready}
 use Rattle.timer.specs.Timer.{updated}
 use Rattle.boundary.specs.Types.{LcdTyped, StateTyped}
 
--- a byte list with one byte set
-pub below-set : (l : List ℕ) (i v : ℕ) → Below 256 l → v < 256 → Below 256 (set l i v)
-below-set l i v b h j = by-place (eqb j i) refl (ltb i (length l)) refl
-  where
-    by-place : (e : Bool) → eqb j i ≡ e → (r : Bool) → ltb i (length l) ≡ r → getD (set l i v) j 0 < 256
-    by-place true e true r = rw (eqb-true j i e, getD-set-same l i v 0 (ltb-true i (length l) r)) h
-    by-place true e false r = rw (set-out l i v (ltb-false i (length l) r)) (b j)
-    by-place false e r s = rw (getD-set-other l i j v 0 (eqb-false j i e)) (b j)
-
 pub record Page (p : List ℕ) : Type 0 where
   pub size : length p ≡ 256
   pub bytes : Below 256 p
 
 pub page-set : {p : List ℕ} (i : ℕ) {v : ℕ} → Page p → v < 256 → Page (set p i v)
-page-set {p} i {v} h b = record { size = length-set p i v ∙ h .size; bytes = below-set p i v (h .bytes) b }
+page-set {p} i {v} h b = record { size = length-set p i v ∙ h .size; bytes = below-set 256 p i v (h .bytes) b }
 
 abbrev pub Colours : List Color → Type 0
 Colours l = (length l ≡ 32) × (colorsInRange l ≡ true)

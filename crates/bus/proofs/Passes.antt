@@ -1,7 +1,7 @@
 -- A call that nothing refuses: the state is in range and the lengths are right, which is what the calls within ask for.
 use mathlib.Core.Bool.{Bool, true, false, cond, _&&_}
 use mathlib.Core.List.{List, []}
-use mathlib.Core.Path.{_≡_, refl, sym, _∙_}
+use mathlib.Core.Path.{_≡_, refl, sym}
 use Prim.Native.Nat.{ℕ, _*_, _+_, _<_, _≤_}
 use native.Mathlib.Omega.{arith}
 use lib.Dec.{eqb, leb, ltb}
@@ -13,15 +13,10 @@ use Rattle.memory.specs.World.{world, fixed}
 use Rattle.memory.specs.declared.Core.{Core}
 use Rattle.memory.specs.declared.Memory.{Memory}
 use Rattle.mmu.specs.Access.{Ready}
-use Rattle.rules.proofs.Tests.{both-true}
+use Rattle.rules.proofs.Tests.{both-true, passes, untrue}
 use Rattle.savelog.specs.Log.{logLimit}
 use Rattle.refusals.specs.Refusal.{lengthsFit, lengthsRefused, logRefused, readRefused, lentRefused, writeRefused, vramLengthRefused, vramRefused, hasBank}
 use Rattle.refusals.proofs.Answers.{both-pass, state-passes, range-state}
-
--- a test whose failure would have been a number other than 0
-passes : (b : Bool) (k : ℕ) → 0 < k → _≡_ {A = ℕ} (cond b 0 k) 0 → b ≡ true
-passes true k h e = refl
-passes false k h e = absurd (omega arith)
 
 pub lengths-pass : (k : Core) (rom vram wram save sound : ℕ) → lengthsRefused k rom vram wram save sound ≡ 0
     → (rom ≡ romLen (k .cartridge))
@@ -81,8 +76,8 @@ bank-fits : (bank : ℕ) (colour a b : Bool) → a ≡ eqb bank 0 → b ≡ eqb 
 bank-fits bank true true b e f h = omega (arith, eqb-true bank 0 (sym e))
 bank-fits bank false true b e f h = omega (arith, eqb-true bank 0 (sym e))
 bank-fits bank true false true e f h = omega (arith, eqb-true bank 1 (sym f))
-bank-fits bank false false true e f h = let z : _≡_ {A = ℕ} 0 1 = cc in absurd (omega arith)
-bank-fits bank colour false false e f h = let z : _≡_ {A = ℕ} 0 1 = cc in absurd (omega arith)
+bank-fits bank false false true e f h = untrue h
+bank-fits bank colour false false e f h = untrue h
 
 -- two tests, either of which would have refused by 7
 both-sides : (a b : Bool) → _≡_ {A = ℕ} (cond a (cond b 0 7) 7) 0 → (a ≡ true) × (b ≡ true)

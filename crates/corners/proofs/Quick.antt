@@ -19,9 +19,10 @@ use Rattle.numbers.specs.Numbers.{done}
 use Rattle.refusals.specs.Answers.{changed, byteGiven}
 use Rattle.refusals.specs.Refusal.{orElse, byteRoom, byteOwed, cyclesRefused}
 use Rattle.refusals.specs.declared.Done.{Done}
-use Rattle.registers.proofs.Kept.{Kept, kept-refl, cond-both, timer-kept, controller-kept, polled-kept}
+use Rattle.registers.proofs.Kept.{Kept, kept-refl, timer-kept, controller-kept, polled-kept}
 use Rattle.registers.specs.State.{timerOf, withTimer, withController, polledIn}
 use Rattle.registers.specs.Transfers.{blockCopy}
+use Rattle.rules.proofs.Tests.{cond-both}
 use Rattle.timer.specs.Timer.{updated}
 use Rattle.corners.specs.Rows.{Act, read, write, cycle, press, poll, block, callOf, Line, does, gives, shows, seen}
 use Rattle.corners.proofs.Oam.{written, write-written}

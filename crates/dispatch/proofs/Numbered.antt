@@ -1,17 +1,17 @@
 -- Numbers: what refuses a write gives 0 or a number above 1; and a call by its refusal.
 use mathlib.Core.Bool.{Bool, true, false, cond, _&&_, _||_, or-true}
-use mathlib.Core.Path.{_≡_, refl, sym}
+use mathlib.Core.Path.{_≡_, refl}
 use Prim.Native.Nat.{ℕ, _+_, _*_, _≤_}
 use native.Mathlib.Omega.{arith}
 use lib.Dec.{eqb, leb}
 use lib.ListN.{length}
 use borrow.Author.Tests.{eqb-true, eqb-false}
 use Rattle.bus.specs.Calls.{Outcome, outcome, unless}
-use Rattle.mbc.proofs.Bools.{by-cond}
 use Rattle.memory.specs.Ranges.{inRange}
 use Rattle.memory.specs.World.{World, Fixed}
 use Rattle.memory.specs.declared.Memory.{Memory}
 use Rattle.numbers.specs.Numbers.{done, owed}
+use Rattle.rules.proofs.Tests.{by-cond, untrue}
 use Rattle.savelog.proofs.Use.{has-room}
 use Rattle.savelog.specs.Log.{width, logLimit, full}
 use Rattle.refusals.specs.Refusal.{
@@ -93,7 +93,7 @@ module _ (x : Fixed) (w : World) where
 no-room : (a b : Bool) → _≡_ {A = ℕ} (cond (a && b) 2 0) 0 → a ≡ true → b ≡ false
 no-room true true e t = absurd (omega arith)
 no-room true false e t = refl
-no-room false b e t = let z : _≡_ {A = ℕ} 0 1 = cc in absurd (omega arith)
+no-room false b e t = untrue t
 
 module _ (used log i : ℕ) where
   pub byte-fits : byteRoom used log i ≡ 0 → inSave i ≡ true → used + width ≤ log

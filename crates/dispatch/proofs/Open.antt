@@ -26,7 +26,6 @@ use Rattle.refusals.specs.Refusal.{
   refusedRead,
   refusedWrite,
 }
-use Rattle.rules.proofs.Tests.{both-true}
 use Rattle.dispatch.specs.Lent.{fits}
 
 pub record Good (w : World) : Type 0 where

@@ -18,7 +18,7 @@ use Rattle.memory.specs.declared.Memory.{Memory}
 use Rattle.numbers.specs.Numbers.{done}
 use Rattle.refusals.proofs.Answers.{both-pass}
 use Rattle.refusals.specs.Refusal.{lentRefused, logRefused}
-use Rattle.rules.proofs.Tests.{both-true}
+use Rattle.rules.proofs.Tests.{both-true, passes}
 use Rattle.savelog.specs.Log.{logLimit, useInRange}
 use Rattle.dispatch.specs.Unchanged.{RefusedFresh}
 use Rattle.dispatch.specs.Lent.{Lent, start}
@@ -51,11 +51,7 @@ fresh-made kind banks code z =
 
 log-passes : (n : ℕ) → logRefused n ≡ 0 → n ≤ logLimit
 unfolding logRefused
-log-passes n z = leb-true n logLimit (passes (leb n logLimit) z)
-  where
-    passes : (b : Bool) → _≡_ {A = ℕ} (cond b 0 4) 0 → b ≡ true
-    passes true z = refl
-    passes false z = absurd (omega arith)
+log-passes n z = leb-true n logLimit (passes (leb n logLimit) 4 (omega arith) z)
 
 pub record Started (l : Lent) (b : Begun) : Type 0 where
   pub good : Good (world (b .state) (b .vram) (b .wram) (l .image) (l .log))

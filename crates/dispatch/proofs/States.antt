@@ -1,8 +1,7 @@
 -- The calls on the state alone: reads leave it, clearing sets the log's use, and no other changes mapper, cartridge or use (laws of crate registers).
-use mathlib.Core.Bool.{Bool, true, false}
+use mathlib.Core.Bool.{Bool, true}
 use mathlib.Core.Path.{_≡_, refl}
 use Prim.Native.Nat.{ℕ, _%_}
-use native.Mathlib.Omega.{arith}
 use lib.Dec.{eqb}
 use Rattle.interrupt.specs.PanDocs.{firstOf}
 use Rattle.interrupt.specs.declared.Interrupt.{Interrupt}
@@ -11,7 +10,6 @@ use Rattle.interrupt.specs.declared.Pending.the-variants.{Some, None}
 use Rattle.interrupt.specs.Flags.{named}
 use Rattle.joypad.specs.Joypad as joypad
 use Rattle.lcd.specs.Lcd.{screenEnabled, screenDisabled, windowLineReset, lyCompared, scanlineWritten, lycWritten, controlWritten, statusWritten}
-use Rattle.mbc.proofs.Bools.{by-cond}
 use Rattle.memory.specs.declared.Memory.{Memory}
 use Rattle.numbers.specs.Numbers.{outside}
 use Rattle.refusals.specs.Answers.{changed, byteGiven, flagGiven, waitingGiven}
@@ -32,6 +30,7 @@ use Rattle.registers.proofs.Kept.{
   timer-kept,
 }
 use Rattle.registers.specs.State.{loaded, requestedIn, removedIn}
+use Rattle.rules.proofs.Tests.{untrue, by-cond}
 use Rattle.state_calls.specs.State.{onInterrupt, clearLogCall}
 use Rattle.dispatch.specs.declared.StateCall.the-variants as on
 use Rattle.dispatch.specs.declared.Performed.{Performed}
@@ -39,25 +38,22 @@ use Rattle.dispatch.specs.declared.StateCall.{StateCall}
 use Rattle.dispatch.specs.Kinds.{refused, Kind, Reading, Clearing, Other, stateKind}
 use Rattle.dispatch.specs.Step.{flagNumber, waitingNumber, performed, performedDone, stateStep}
 
-pub not-done : {A : Type 0} → false ≡ true → A
-not-done e = let z : _≡_ {A = ℕ} 0 1 = cc in absurd (omega arith)
-
 -- a refused question gives 0
 
 pub byte-zero : (n v : ℕ) → refused (byteGiven n v .number) ≡ true → byteGiven n v .value ≡ 0
 unfolding byteGiven
 byte-zero n v =
-    by-cond (λ (b : Byte). refused (b .number) ≡ true → b .value ≡ 0) (eqb n 0) _ _ (λ t. not-done) (λ f e. refl)
+    by-cond (λ (b : Byte). refused (b .number) ≡ true → b .value ≡ 0) (eqb n 0) _ _ (λ t. untrue) (λ f e. refl)
 
 flag-zero : (n : ℕ) (v : Bool) → refused (flagGiven n v .number) ≡ true → flagNumber (flagGiven n v .value) ≡ 0
 unfolding flagGiven
 flag-zero n v =
-    by-cond (λ (b : Flag). refused (b .number) ≡ true → flagNumber (b .value) ≡ 0) (eqb n 0) _ _ (λ t. not-done) (λ f e. refl)
+    by-cond (λ (b : Flag). refused (b .number) ≡ true → flagNumber (b .value) ≡ 0) (eqb n 0) _ _ (λ t. untrue) (λ f e. refl)
 
 waiting-zero : (n : ℕ) (p : Pending) → refused (waitingGiven n p .number) ≡ true → waitingNumber (waitingGiven n p) ≡ 0
 unfolding waitingGiven
 waiting-zero n p =
-    by-cond (λ (b : Waiting). refused (b .number) ≡ true → waitingNumber b ≡ 0) (eqb n 0) _ _ (λ t. not-done) (λ f e. rw f)
+    by-cond (λ (b : Waiting). refused (b .number) ≡ true → waitingNumber b ≡ 0) (eqb n 0) _ _ (λ t. untrue) (λ f e. rw f)
 
 -- how a call on the state answers: a read leaves the state, clearing leaves all but the use, any other what its law keeps
 pub data Answers (m : Memory) : Kind → Performed → Type 0 where

@@ -6,7 +6,6 @@ use native.Mathlib.Omega.{arith}
 use lib.Dec.{eqb}
 use lib.ListN.{length, getD}
 use Rattle.bus.specs.Calls.{Outcome, unless}
-use Rattle.mbc.proofs.Bools.{by-cond}
 use Rattle.memory.specs.World.{World, withUsed}
 use Rattle.memory.specs.declared.Memory.{Memory}
 use Rattle.mmu.specs.Access.{readIn, readWord}
@@ -15,6 +14,7 @@ use Rattle.refusals.specs.Answers.{changed, wordGiven}
 use Rattle.refusals.specs.Refusal.{orElse, refusedRead, vramLengthRefused, vramRefused, refusedState}
 use Rattle.refusals.specs.declared.Done.{Done}
 use Rattle.refusals.specs.declared.Word.{Word}
+use Rattle.rules.proofs.Tests.{untrue, by-cond}
 use Rattle.savelog.specs.Log.{clearedUse}
 use Rattle.dispatch.specs.declared.Call.the-variants as call
 use Rattle.dispatch.specs.Step.{step, performedDone, inWorld}
@@ -22,26 +22,26 @@ use Rattle.dispatch.specs.declared.Performed.{Performed}
 use Rattle.dispatch.specs.Kinds.{refused, Kind, Reading, Other, kindOf}
 use Rattle.dispatch.specs.Unchanged.{RefusedPromise, ReadPromise}
 use Rattle.dispatch.proofs.Numbered.{by-unless, byte-done, word-done}
-use Rattle.dispatch.proofs.States.{not-done, byte-zero, Answers, reads, changes, clears, state-answers}
+use Rattle.dispatch.proofs.States.{byte-zero, Answers, reads, changes, clears, state-answers}
 
 -- Refused
 
 word-zero : (n v : ℕ) → refused (wordGiven n v .number) ≡ true → wordGiven n v .value ≡ 0
 unfolding wordGiven
 word-zero n v =
-    by-cond (λ (b : Word). refused (b .number) ≡ true → b .value ≡ 0) (eqb n 0) _ _ (λ t. not-done) (λ f e. refl)
+    by-cond (λ (b : Word). refused (b .number) ≡ true → b .value ≡ 0) (eqb n 0) _ _ (λ t. untrue) (λ f e. refl)
 
 abbrev Fair : World → Outcome → Type 0
 Fair w o = refused (o .number) ≡ true → (o .after ≡ w) × (o .value ≡ 0)
 
 -- what is done gives 0 or 1
 unless-fair : (n : ℕ) (w : World) (o : Outcome) → refused (o .number) ≡ false → Fair w (unless n w o)
-unless-fair n w o d = by-unless (Fair w) n w o (λ z e. not-done (sym d ∙ e)) (λ h e. (refl, refl))
+unless-fair n w o d = by-unless (Fair w) n w o (λ z e. untrue (sym d ∙ e)) (λ h e. (refl, refl))
 
 changed-fair : (w : World) (n : ℕ) (next : Memory) → Fair w (inWorld w (performedDone (changed n (w .state) next)))
 unfolding changed
 changed-fair w n next =
-    by-cond (λ (d : Done). Fair w (inWorld w (performedDone d))) (eqb n 0) _ _ (λ t e. not-done e) (λ f e. (refl, refl))
+    by-cond (λ (d : Done). Fair w (inWorld w (performedDone d))) (eqb n 0) _ _ (λ t e. untrue e) (λ f e. (refl, refl))
 
 state-fair : (w : World) {k : Kind} {p : Performed} → Answers (w .state) k p → Fair w (inWorld w p)
 state-fair w (reads n v z) e = (refl, z e)

@@ -18,7 +18,6 @@ use Rattle.dispatch.specs.declared.StateCall.{StateCall}
 use Rattle.image.specs.Layout.{imageLen, imageOf}
 use Rattle.image.specs.Load.{loadCall}
 use Rattle.image.specs.declared.Loaded.{Loaded}
-use Rattle.mbc.proofs.Bools.{by-cond}
 use Rattle.mbc.specs.Mbc as mbc
 use Rattle.mbc.specs.declared.mbc.ReadByte.{ReadByte}
 use Rattle.mbc.specs.declared.mbc.WriteByte.{WriteByte}
@@ -26,6 +25,7 @@ use Rattle.memory.specs.World.{World, world, Fixed, withMapper}
 use Rattle.memory.specs.declared.Memory.{Memory}
 use Rattle.refusals.specs.declared.Byte.{Byte}
 use Rattle.refusals.specs.declared.Word.{Word}
+use Rattle.rules.proofs.Tests.{by-cond}
 use Rattle.entry.specs.Entry.{
   changed,
   encoded,

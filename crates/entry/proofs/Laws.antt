@@ -23,7 +23,6 @@ use Rattle.image.proofs.OpenLaws.{load-length, load-storable}
 use Rattle.image.specs.Layout.{imageLen}
 use Rattle.image.specs.Load.{storable, loadCall}
 use Rattle.image.specs.declared.Loaded.{Loaded}
-use Rattle.mbc.proofs.Bools.{by-cond}
 use Rattle.mbc.specs.Mbc as mbc
 use Rattle.mbc.specs.declared.cartridge.Cartridge.{Cartridge}
 use Rattle.mbc.specs.declared.mbc.Answer.the-variants.{NotStored}
@@ -41,7 +40,7 @@ use Rattle.refusals.specs.Refusal.{refusedWrite, refusedState, lentRefused, wri
 use Rattle.refusals.specs.declared.Done.{Done}
 use Rattle.registers.proofs.Kept.{Kept}
 use Rattle.registers.specs.Transfers.{oamCopy, blockCopy}
-use Rattle.rules.proofs.Tests.{both-true}
+use Rattle.rules.proofs.Tests.{both-true, by-cond}
 use Rattle.savelog.proofs.Use.{use-wider}
 use Rattle.savelog.specs.Log.{logLimit, useInRange}
 

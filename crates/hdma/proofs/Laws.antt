@@ -1,11 +1,12 @@
 -- What the proofs here and the bus cite of the definitions: addresses stay multiples of 16, bytes stay bytes, a block lands in video memory;
 -- and document 01's corners 5, 7, 8, computed.
-use mathlib.Core.Bool.{Bool, true, false, cond}
+use mathlib.Core.Bool.{Bool, true, false}
 use mathlib.Core.Path.{_≡_, refl}
-use Prim.Native.Nat.{ℕ, _+_, _*_, _/_, _%_, _<_, _≤_}
+use Prim.Native.Nat.{ℕ, _+_, _/_, _%_, _<_, _≤_}
 use native.Mathlib.Omega.{arith}
 use lib.Dec.{eqb, ltb}
 use Rattle.bit_utils.specs.Bits.{isSet}
+use Rattle.rules.proofs.Tests.{cond-both}
 use Rattle.hdma.specs.PanDocs.{sourceOf, destinationOf, lengthOf, hblank, general}
 use Rattle.hdma.specs.Hdma.{Address, InRange, keptBelow, sourceHigh, sourceLow, destinationHigh, destinationLow}
 use Rattle.hdma.specs.Hdma.{running, stopped, firstBlock, starts, sourceUsed, destinationUsed, risen, stepped}
@@ -13,7 +14,6 @@ use Rattle.hdma.specs.Hdma.{stillOn, blockEnded, generalEnded, startOf}
 use Rattle.hdma.specs.declared.Hdma.{Hdma}
 use Rattle.hdma.specs.declared.Start.{Start}
 use Rattle.hdma.specs.declared.Start.the-variants.{Set, Block, General}
-use Rattle.hdma.specs.declared.Written.{Written}
 use Rattle.hdma.specs.declared.Ended.{Ended}
 
 -- the upper four bits of a byte
@@ -23,19 +23,14 @@ upper-bits v h = omega arith
 abbrev Byte : ℕ → Type 0
 Byte x = x < 256
 
--- what holds of both cases
-either : {A : Type 0} (P : A → Type 0) (b : Bool) (x y : A) → P x → P y → P (cond b x y)
-either P true x y p q = p
-either P false x y p q = q
-
 -- What holds of each thing that a write of FF55 may do holds of what it does
 
 pub by-start : (P : Start → Type 0) (h : Hdma) (mode v : ℕ) → P (Set (running h v)) → P (Block (running h v)) → P (Set (stopped h))
     → P General → P (starts h mode v)
 unfolding starts firstBlock
 by-start P h mode v s b t g =
-    either P (general (h .on) v) General _ g
-    (either P (hblank v) _ _ (either P (h .on) _ _ s (either P (eqb mode 0) (Block (running h v)) (Set (running h v)) b s)) t)
+    cond-both P (general (h .on) v) g
+    (cond-both P (hblank v) (cond-both P (h .on) s (cond-both P (eqb mode 0) b s)) t)
 
 -- Addresses
 
@@ -51,12 +46,12 @@ risen-address a n h k = (omega arith, omega arith)
 pub stepped-address : (edge past a : ℕ) → Address past → Address a → Address (stepped edge past a)
 unfolding stepped
 stepped-address edge past a p h =
-    either Address (eqb (risen a 16) edge) past (risen a 16) p (risen-address a 16 (h .0) refl)
+    cond-both Address (eqb (risen a 16) edge) p (risen-address a 16 (h .0) refl)
 
 pub kept-byte : (limit v : ℕ) → v < 256 → keptBelow limit v < 256
 unfolding keptBelow
 kept-byte limit v h =
-    either Byte (ltb v 0x80) v _ h (either Byte (ltb v limit) 0 v (omega arith) h)
+    cond-both Byte (ltb v 0x80) h (cond-both Byte (ltb v limit) (omega arith) h)
 
 -- In range stays in range, through every function
 

@@ -104,7 +104,7 @@ set-append-right (x ∷ xs) ys i v = rw (suc-add (length xs) i, set-append-right
 set-behind : (p l : List ℕ) (o : ℕ) → length p ≡ o → (k v : ℕ) → set (p ++ l) (o + k) v ≡ p ++ set l k v
 set-behind p l o e k v = rw (← e) (set-append-right p l k v)
 
-below-set : (k : ℕ) (l : List ℕ) (i v : ℕ) → Below k l → v < k → Below k (set l i v)
+pub below-set : (k : ℕ) (l : List ℕ) (i v : ℕ) → Below k l → v < k → Below k (set l i v)
 below-set k [] i v h b j = h j
 below-set k (x ∷ l) zero v h b zero = b
 below-set k (x ∷ l) zero v h b (suc j) = h (suc j)

@@ -10,14 +10,13 @@ use lib.ListN.{length, take}
 use mir.Syntax.{w32}
 use mir.Facts.{fits-ofZ}
 use borrow.Author.Tests.{eqb-true}
-use Rattle.rules.proofs.Tests.{both-true}
+use Rattle.rules.proofs.Tests.{both-true, or-cases}
 use Rattle.packing.specs.Packing.{Below, Fit, repacked, eights, fives}
 use Rattle.packing.proofs.Laws.{below-fit, fit-append}
 use Rattle.places.specs.Places.{number, setAll}
 use Rattle.places.proofs.Puts.{put-bytes}
 use Rattle.mbc.specs.Mbc as mbc
 use Rattle.mbc.specs.Mbc.{registersOf}
-use Rattle.mbc.proofs.Bools.{or-cases}
 use Rattle.mbc.proofs.Cases.{lawful}
 use Rattle.mbc.proofs.Ranges.{in-described, in-held}
 use Rattle.mbc.specs.declared.cartridge.Cartridge.{Cartridge}

@@ -1,6 +1,6 @@
 -- What the timer asks for: cycles that are not refused, and `tima_cycles` of a state in range. So what the bus does not refuse, the timer's own call does not.
-use mathlib.Core.Bool.{Bool, true, false, cond}
-use mathlib.Core.Path.{_≡_, refl}
+use mathlib.Core.Bool.{true}
+use mathlib.Core.Path.{_≡_}
 use Prim.Native.Nat.{ℕ, _<_, _≤_}
 use native.Mathlib.Omega.{arith}
 use lib.Dec.{leb}
@@ -8,6 +8,7 @@ use borrow.Author.Tests.{leb-true}
 use Rattle.memory.specs.Ranges.{stateInRange}
 use Rattle.memory.proofs.Laws.{range-clock}
 use Rattle.memory.specs.declared.Memory.{Memory}
+use Rattle.rules.proofs.Tests.{passes}
 use Rattle.input_calls.specs.Input.{updateTimerCall}
 use Rattle.refusals.proofs.Answers.{where-done, both-pass, state-passes, range-state}
 use Rattle.refusals.specs.Answers.{changed}
@@ -18,11 +19,7 @@ use Rattle.timer.specs.Timer.{updateCall, updated}
 
 pub cycles-pass : (c : ℕ) → cyclesRefused c ≡ 0 → c ≤ 65536
 unfolding cyclesRefused
-cycles-pass c h = leb-true c 65536 (passes (leb c 65536) h)
-  where
-    passes : (b : Bool) → _≡_ {A = ℕ} (cond b 0 5) 0 → b ≡ true
-    passes true h = refl
-    passes false h = absurd (omega arith)
+cycles-pass c h = leb-true c 65536 (passes (leb c 65536) 5 (omega arith) h)
 
 -- `tima_cycles` of a state in range
 pub tima-below : (m : Memory) → stateInRange m ≡ true → m .core .clock .tima < 1024

@@ -1,11 +1,11 @@
 -- Bytes stay bytes over each call: of the controller, and FF0F.
-use mathlib.Core.Bool.{Bool, true, false, cond, _&&_}
-use Prim.Native.Nat.{ℕ, _*_, _-_, _%_, _^_, _<_}
+use mathlib.Core.Bool.{_&&_}
+use Prim.Native.Nat.{ℕ, _%_, _<_}
 use native.Mathlib.Omega.{arith}
-use lib.Bits.{or-lt}
 use lib.Dec.{lit<}
-use Rattle.bit_utils.specs.Bits.{isSet, setBit, unsetBit}
-use Rattle.bit_utils.proofs.Laws.{set-mask}
+use Rattle.bit_utils.specs.Bits.{isSet, setBit}
+use Rattle.bit_utils.proofs.Laws.{set-byte, unset-byte}
+use Rattle.rules.proofs.Tests.{cond-both}
 use Rattle.joypad.specs.Joypad.{Bytes, named, bitOf, afterPress, afterRelease, onButton, pressCall, releaseCall, actionsAnswer, directionsAnswer, polled}
 use Rattle.joypad.specs.declared.Controller.{Controller}
 use Rattle.joypad.specs.declared.Polled.{Polled}
@@ -13,10 +13,6 @@ use Rattle.joypad.specs.declared.buttons.Button.{Button}
 use Rattle.joypad.specs.declared.buttons.Button.the-variants.{Up, Down, Left, Right, A, B, Start, Select}
 use Rattle.joypad.specs.declared.buttons.Named.{Named}
 use Rattle.joypad.specs.declared.buttons.Named.the-variants.{Some, None}
-
-either : {A : Type 0} (P : A → Type 0) (t : Bool) (x y : A) → P x → P y → P (cond t x y)
-either P true x y p q = p
-either P false x y p q = q
 
 pub bit-below : (b : Button) → bitOf b < 8
 unfolding bitOf
@@ -29,13 +25,6 @@ bit-below B = lit< tt
 bit-below Start = lit< tt
 bit-below Select = lit< tt
 
-pub set-byte : (x n : ℕ) → x < 256 → n < 8 → setBit x n < 256
-set-byte x n h l = rw (← set-mask x n l) (or-lt 8 x (1 * 2 ^ n % 256) h (omega arith))
-
-pub unset-byte : (x n : ℕ) → x < 256 → unsetBit x n < 256
-unfolding unsetBit
-unset-byte x n h = either (λ (r : ℕ). r < 256) (isSet x n) (x - 2 ^ n) x (omega arith) h
-
 on-button : (f : Controller → Button → Controller) → ((c : Controller) (b : Button) → Bytes c → Bytes (f c b))
     → (c : Controller) (m : Named) → Bytes c → Bytes (onButton f c m .controller)
 on-button f keeps c (Some b) h = keeps c b h
@@ -44,7 +33,7 @@ on-button f keeps c None h = h
 pressed-bytes : (c : Controller) (b : Button) → Bytes c → Bytes (afterPress c b)
 unfolding afterPress
 pressed-bytes c b h =
-    either Bytes (isSet (c .released) (bitOf b)) _ c (unset-byte (c .released) (bitOf b) (h .0), h .1) h
+    cond-both Bytes (isSet (c .released) (bitOf b)) (unset-byte (c .released) (bitOf b) (h .0), h .1) h
 
 released-bytes : (c : Controller) (b : Button) → Bytes c → Bytes (afterRelease c b)
 unfolding afterRelease
@@ -62,5 +51,5 @@ unfolding polled
 update-bytes c control flags h l =
     let P : Polled → Type 0 = λ p. Bytes (p .controller) × (p .flags < 256) in
     let asked : setBit (flags % 32) 4 < 256 = set-byte (flags % 32) 4 (omega arith) (omega arith) in
-    either P (actionsAnswer control && c .action) _ _ ((h .0, h .0), asked)
-    (either P (directionsAnswer control && c .direction) _ _ ((h .0, h .0), asked) ((h .0, h .0), l))
+    cond-both P (actionsAnswer control && c .action) ((h .0, h .0), asked)
+    (cond-both P (directionsAnswer control && c .direction) ((h .0, h .0), asked) ((h .0, h .0), l))

@@ -5,6 +5,7 @@ use Prim.Native.Nat.{ℕ, zero, suc, _+_, _*_, _/_, _%_, _<_}
 use native.Mathlib.Omega.{arith}
 use lib.Dec.{eqb, leb, ltb}
 use Rattle.bit_utils.specs.Bits.{isSet}
+use Rattle.rules.proofs.Tests.{untrue}
 use Rattle.joypad.specs.PanDocs.{lineOf, isAction, selectsActions, selectsDirections, lowFour}
 use Rattle.joypad.specs.Joypad.{bitOf, actionsAnswer, directionsAnswer, padRead}
 use Rattle.joypad.specs.declared.buttons.Button.{Button}
@@ -38,17 +39,14 @@ pub second-false : (a b : Bool) → b ≡ false → (a && b) ≡ false
 second-false true b e = e
 second-false false b e = refl
 
-apart : true ≡ false → ⊥
-apart e = let z : _≡_ {A = ℕ} 0 1 = cc in omega arith
-
 -- FF00's bits 5..4 are q, bit 4 is a and bit 5 is b: where one of the two is 0, q is 01 or 10
 module _ (q : ℕ) where
   one-clear : (a b : ℕ) → a < 2 → b < 2 → q ≡ a + 2 * b → eqb b 1 ≡ not (eqb a 1)
       → (not (eqb q 1) ≡ not (eqb a 1)) × (not (eqb q 2) ≡ not (eqb b 1))
-  one-clear zero zero h k e s = absurd (apart (sym s))
+  one-clear zero zero h k e s = untrue s
   one-clear zero (suc zero) h k e s = (rw e, rw e)
   one-clear (suc zero) zero h k e s = (rw e, rw e)
-  one-clear (suc zero) (suc zero) h k e s = absurd (apart s)
+  one-clear (suc zero) (suc zero) h k e s = untrue (sym s)
   one-clear (suc (suc a)) b h k e s = absurd (omega arith)
   one-clear zero (suc (suc b)) h k e s = absurd (omega arith)
   one-clear (suc zero) (suc (suc b)) h k e s = absurd (omega arith)

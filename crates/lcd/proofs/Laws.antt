@@ -1,16 +1,16 @@
 -- What a caller that keeps a screen cites. A property that every single change keeps is kept by each of the functions; that the bytes are
 -- bytes is such a property, and so is that the four signed numbers fit 32 bits.
-use mathlib.Core.Bool.{Bool, true, false, cond}
-use Prim.Native.Nat.{ℕ, _-_, _*_, _%_, _^_, _<_}
+use Prim.Native.Nat.{ℕ, _%_, _^_, _<_}
 use native.Mathlib.Omega.{arith}
-use lib.Bits.{and-le-l, or-lt}
+use lib.Bits.{and-le-l}
 use lib.Dec.{eqb, ltb, lit<}
 use borrow.Author.Needs.{needs}
 use lib.IntN.{pos}
 use mir.Syntax.{w32}
 use mir.Val.{ofZ, SFits}
-use Rattle.bit_utils.specs.Bits.{isSet, setBit, unsetBit}
-use Rattle.bit_utils.proofs.Laws.{set-mask}
+use Rattle.bit_utils.specs.Bits.{isSet, setBit}
+use Rattle.bit_utils.proofs.Laws.{set-byte, unset-byte}
+use Rattle.rules.proofs.Tests.{cond-both}
 use Rattle.lcd.specs.PanDocs.{sources, modeSelected}
 use Rattle.lcd.specs.Lcd.{with-signal, with-delay, with-window, with-lcd, with-control, with-status, with-compare, lcdRequested, screenEnabled, screenDisabled, windowLineReset, lycSignalled, lyEqual, lyDiffers, lyCompared, scanlineWritten, lycWritten, controlPut, controlWritten, statusPut, modeSignalled, statusWritten}
 use Rattle.lcd.specs.declared.Screen.{Screen}
@@ -28,14 +28,10 @@ pub record Kept (P : Screen → Type 0) : Type 1 where
   pub control : (s : Screen) (value : ℕ) → value < 256 → P s → P (with-control s value)
   pub status : (s : Screen) (value : ℕ) → P s → P (statusPut s value)
 
-either : (P : Screen → Type 0) (b : Bool) {x y : Screen} → P x → P y → P (cond b x y)
-either P true p q = p
-either P false p q = q
-
 module _ (P : Screen → Type 0) (k : Kept P) (s : Screen) (h : P s) where
   pub keeps-enabled : P (screenEnabled s)
   unfolding screenEnabled
-  keeps-enabled = either P (s .lcd .disabled) (k .delay s h) h
+  keeps-enabled = cond-both P (s .lcd .disabled) (k .delay s h) h
 
   pub keeps-disabled : P (screenDisabled s)
   keeps-disabled = k .disabled s h
@@ -43,49 +39,49 @@ module _ (P : Screen → Type 0) (k : Kept P) (s : Screen) (h : P s) where
   pub keeps-window : P (windowLineReset s)
   unfolding windowLineReset
   keeps-window =
-      either P (eqb (ofZ w32 (s .lcd .window)) 0)
-      (either P (ltb (s .lcd .line) 144) (either P (ltb (s .wy) (s .lcd .line)) (k .window s h) h) h)
+      cond-both P (eqb (ofZ w32 (s .lcd .window)) 0)
+      (cond-both P (ltb (s .lcd .line) 144) (cond-both P (ltb (s .wy) (s .lcd .line)) (k .window s h) h) h)
       h
 
   keeps-signal : P (lycSignalled s)
   unfolding lycSignalled
-  keeps-signal = either P (eqb (s .lcd .signal) 0) (k .request _ (k .signal s h)) (k .signal s h)
+  keeps-signal = cond-both P (eqb (s .lcd .signal) 0) (k .request _ (k .signal s h)) (k .signal s h)
 
   keeps-mode : P (modeSignalled s)
   unfolding modeSignalled
-  keeps-mode = either P (eqb (s .lcd .signal) 0) (either P (modeSelected (s .status) (s .lcd .mode)) (k .request s h) h) h
+  keeps-mode = cond-both P (eqb (s .lcd .signal) 0) (cond-both P (modeSelected (s .status) (s .lcd .mode)) (k .request s h) h) h
 
   pub keeps-scanline : (value : ℕ) → P (scanlineWritten s value)
   unfolding scanlineWritten
-  keeps-scanline value = either P (isSet (s .lcd .line) 7) (either P (isSet value 7) h (k .disabled s h)) h
+  keeps-scanline value = cond-both P (isSet (s .lcd .line) 7) (cond-both P (isSet value 7) h (k .disabled s h)) h
 
 module _ (P : Screen → Type 0) (k : Kept P) (s : Screen) (h : P s) where
   pub keeps-compared : P (lyCompared s)
   unfolding lyCompared lyEqual
   keeps-compared =
       let e = k .equal s h in
-      either P (s .lcd .disabled) h
-      (either P (eqb (s .compare) (s .lcd .line)) (either P (isSet (s .status) 6) (keeps-signal P k _ e) e) (k .differs s h))
+      cond-both P (s .lcd .disabled) h
+      (cond-both P (eqb (s .compare) (s .lcd .line)) (cond-both P (isSet (s .status) 6) (keeps-signal P k _ e) e) (k .differs s h))
 
 module _ (P : Screen → Type 0) (k : Kept P) (s : Screen) (h : P s) (value : ℕ) where
   pub keeps-lyc : value < 256 → P (lycWritten s value)
   unfolding lycWritten
   keeps-lyc b =
       let n = k .compare s value b h in
-      either P (eqb (s .compare) value) h (either P (isSet (s .control) 7) (keeps-compared P k _ n) n)
+      cond-both P (eqb (s .compare) value) h (cond-both P (isSet (s .control) 7) (keeps-compared P k _ n) n)
 
   pub keeps-control : value < 256 → P (controlWritten s value)
   unfolding controlWritten controlPut
   keeps-control b =
       let n = k .control s value b h in
-      let w : P (controlPut s value) = either P (isSet (s .control) 5) n (either P (isSet value 5) (keeps-window P k _ n) n) in
-      either P (isSet value 7) (keeps-enabled P k _ w) (k .disabled _ w)
+      let w : P (controlPut s value) = cond-both P (isSet (s .control) 5) n (cond-both P (isSet value 5) (keeps-window P k _ n) n) in
+      cond-both P (isSet value 7) (keeps-enabled P k _ w) (k .disabled _ w)
 
   pub keeps-status : P (statusWritten s value)
   unfolding statusWritten
   keeps-status =
       let n = k .status s value h in
-      either P (isSet (s .control) 7) (keeps-compared P k _ (keeps-mode P k _ n)) n
+      cond-both P (isSet (s .control) 7) (keeps-compared P k _ (keeps-mode P k _ n)) n
 
 pub record ScreenBytes (s : Screen) : Type 0 where
   pub line : s .lcd .line < 256
@@ -103,26 +99,15 @@ pub record ScreenNumbers (s : Screen) : Type 0 where
   pub aux : SFits w32 (s .lcd .aux)
   pub window : SFits w32 (s .lcd .window)
 
-pub set-byte : (x n : ℕ) → n < 8 → x < 256 → setBit x n < 256
-set-byte x n h l = rw (← set-mask x n h) (or-lt 8 x (1 * 2 ^ n % 256) l (omega arith))
-
-lower : (b : Bool) (x m : ℕ) → x < 256 → cond b (x - m) x < 256
-lower true x m l = omega arith
-lower false x m l = l
-
-pub unset-byte : (x n : ℕ) → x < 256 → unsetBit x n < 256
-unfolding unsetBit
-unset-byte x n l = lower (isSet x n) x (2 ^ n) l
-
 pub bytes : Kept ScreenBytes
 bytes =
     record {
-      request = λ s h. let x = set-byte (s .flags % 32) 1 (lit< tt) (omega arith) in search needs;
+      request = λ s h. let x = set-byte (s .flags % 32) 1 (omega arith) (lit< tt) in search needs;
       delay = λ s h. search needs;
       window = λ s h. search needs;
       disabled = λ s h. search needs;
-      signal = λ s h. let x = set-byte (s .lcd .signal) 3 (lit< tt) (h .signal) in search needs;
-      equal = λ s h. let x = set-byte (s .status) 2 (lit< tt) (h .status) in search needs;
+      signal = λ s h. let x = set-byte (s .lcd .signal) 3 (h .signal) (lit< tt) in search needs;
+      equal = λ s h. let x = set-byte (s .status) 2 (h .status) (lit< tt) in search needs;
       differs =
           λ s h. let x = unset-byte (s .status) 2 (h .status) in
           let y = unset-byte (s .lcd .signal) 3 (h .signal) in

@@ -1,12 +1,13 @@
 -- Laws of the tests that the ranges are made of: `&&`, `oneOf`, `implies`. They go both ways between a test and what it says.
 use mathlib.Core.Path.{_≡_, refl, sym, _∙_}
-use mathlib.Core.Bool.{Bool, true, false, cond, _&&_, _||_, or-true}
+use mathlib.Core.Bool.{Bool, true, false, _&&_, _||_, or-true}
 use mathlib.Core.List.{List, [], _∷_}
 use mathlib.Core.Logic.{_⊎_, inl, inr, ⊎-elim}
 use Prim.Native.Nat.{ℕ, _≤_}
 use native.Mathlib.Omega.{arith}
 use lib.Dec.{eqb}
 use borrow.Author.Tests.{eq-eqb, ne-eqb, eqb-true, not-true}
+use Rattle.rules.proofs.Tests.{or-cases}
 use Rattle.mbc.specs.Mbc.{oneOf, implies}
 
 pub and-left : (a b : Bool) → (a && b) ≡ true → a ≡ true
@@ -40,19 +41,10 @@ abbrev pub AllFrom : ℕ → List ℕ → Type 0
 AllFrom k [] = Unit {0}
 AllFrom k (x ∷ xs) = (k ≤ x) × AllFrom k xs
 
-pub or-cases : (a b : Bool) → (a || b) ≡ true → (a ≡ true) ⊎ (b ≡ true)
-or-cases true b e = inl refl
-or-cases false b e = inr e
-
 pub from : (k : ℕ) (xs : List ℕ) (n : ℕ) → AllFrom k xs → oneOf xs n ≡ true → k ≤ n
 from k [] n all e = let z : _≡_ {A = ℕ} 0 1 = cc in omega arith
 from k (x ∷ xs) n all e =
     ⊎-elim (λ h. omega (arith, eqb-true n x h, all .0)) (λ h. from k xs n (all .1) h) (or-cases (eqb n x) (oneOf xs n) e)
-
--- what holds of both arms holds of a `cond`
-pub by-cond : {A : Type 0} (P : A → Type 0) (b : Bool) (x y : A) → (b ≡ true → P x) → (b ≡ false → P y) → P (cond b x y)
-by-cond P true x y t f = t refl
-by-cond P false x y t f = f refl
 
 pub and-implied : (a b : Bool) → (a ≡ true → b ≡ true) → (a && b) ≡ a
 and-implied true b h = h refl

@@ -7,9 +7,10 @@ use Prim.Native.Nat.{ℕ, zero, suc, _≤_, _*_}
 use native.Mathlib.Omega.{arith}
 use lib.Dec.{eqb, leb, lit≤}
 use borrow.Author.Tests.{leb-true, eqb-true}
+use Rattle.rules.proofs.Tests.{or-cases, by-cond}
 use Rattle.mbc.specs.Cartridge.{oneOf, powers, hasBanks, hasCode, ramBanks, log2, banksOf}
 use Rattle.mbc.specs.declared.cartridge.Cartridge.{Cartridge}
-use Rattle.mbc.proofs.Bools.{and-left, and-right, or-cases, from, by-cond}
+use Rattle.mbc.proofs.Bools.{and-left, and-right, from}
 
 pub banks-most : (most : ℕ) (c : Cartridge) → hasBanks most c ≡ true → c .banks ≤ most
 unfolding hasBanks

@@ -3,11 +3,11 @@ use mathlib.Core.Path.{_≡_}
 use mathlib.Core.Bool.{cond}
 use Prim.Native.Nat.{ℕ}
 use lib.Dec.{eqb}
+use Rattle.rules.proofs.Tests.{by-cond}
 use Rattle.mbc.specs.Mbc.{described, inRange, start, starting, kindRomOnly, kindMbc1, from1, from2}
 use Rattle.mbc.specs.declared.cartridge.Cartridge.{Cartridge}
 use Rattle.mbc.specs.declared.mbc.Mapper.{Mapper}
 use Rattle.mbc.specs.declared.mbc.Mapper.the-variants.{RomOnly, Mbc1, Mbc2}
-use Rattle.mbc.proofs.Bools.{by-cond}
 use Rattle.mbc.proofs.Lawful.{Lawful}
 use Rattle.mbc.proofs.RomOnlyLaws.{rom-only-lawful, rom-only-starts}
 use Rattle.mbc.proofs.Mbc1Laws.{mbc1-lawful, mbc1-starts}

@@ -9,6 +9,7 @@ use lib.ListN.{getD}
 use mathlib.Core.List.{List}
 use mathlib.Core.Logic.{⊎-elim}
 use borrow.Author.Tests.{ltb-true, lt-ltb}
+use Rattle.rules.proofs.Tests.{by-cond}
 use Rattle.mbc.specs.PanDocs.{zeroAsOne, romAddress, halfByte}
 use Rattle.mbc.specs.Mbc.{ramLen, hasBanks, described, inRange, behaviour, start, romBank, ramSource, source, byteOf, readAt, storedAt, answer, low1, high1, after1, enable2, after2, after, cartridgeOf}
 use Rattle.mbc.specs.declared.cartridge.Cartridge.{Cartridge}
@@ -18,7 +19,6 @@ use Rattle.mbc.specs.declared.mbc.Source.{Source}
 use Rattle.mbc.specs.declared.mbc.Source.the-variants.{Rom, Save, Half, Fixed}
 use Rattle.mbc.specs.declared.mbc.Answer.{Answer}
 use Rattle.mbc.specs.declared.mbc.Answer.the-variants.{Stored, NotStored}
-use Rattle.mbc.proofs.Bools.{by-cond}
 use Rattle.mbc.proofs.Cartridges.{by-ram-banks}
 use Rattle.mbc.proofs.Lawful.{Whole}
 use Rattle.mbc.proofs.Cases.{lawful}

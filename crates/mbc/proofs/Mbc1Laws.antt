@@ -8,13 +8,14 @@ use native.Mathlib.Omega.{arith}
 use native.Mathlib.Nat.{mod-lt, mod-le}
 use lib.Dec.{eqb, ltb, leb, lit<}
 use borrow.Author.Tests.{ltb-true, leb-true, eqb-true, lt-ltb, le-ltb, le-leb, eq-eqb}
+use Rattle.rules.proofs.Tests.{by-cond}
 use Rattle.mbc.specs.PanDocs.{enables, mbc1Bank, twoBits, modeBit, masked, ramAddress}
 use Rattle.mbc.specs.Mbc.{oneOf, implies, hasBanks, hasCode, ramBanks, romLen, ramLen, described, held, held1, inRange, suits, ramBank1, ramSource, starting, from1, kindMbc1, withRom, withRam, withMode, withEnabled, withHigh, enable1, low1, high1, mode1, after1}
 use Rattle.mbc.specs.declared.cartridge.Cartridge.{Cartridge}
 use Rattle.mbc.specs.declared.mbc1.Mbc1.{Mbc1 as Registers1}
 use Rattle.mbc.specs.declared.mbc.Mapper.the-variants.{Mbc1}
 use Rattle.mbc.specs.declared.mbc.Source.the-variants.{Save, Fixed}
-use Rattle.mbc.proofs.Bools.{and-left, and-right, implied, by-cond, and-implied, weaker}
+use Rattle.mbc.proofs.Bools.{and-left, and-right, implied, and-implied, weaker}
 use Rattle.mbc.proofs.Cartridges.{banks-most, banks-least, banks-power, code-most, four-banks, has-ram, some-ram}
 use Rattle.mbc.proofs.Lawful.{Lawful, Whole, Within}
 use Rattle.mbc.proofs.Bits.{bit-back, bit-small}

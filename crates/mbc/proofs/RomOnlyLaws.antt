@@ -4,12 +4,13 @@ use mathlib.Core.Bool.{true, _&&_, and-true}
 use mathlib.Core.Logic.{inl}
 use native.Mathlib.Omega.{arith}
 use lib.Dec.{eqb, lit<}
+use Rattle.rules.proofs.Tests.{by-cond}
 use Rattle.mbc.specs.PanDocs.{ramAddress}
 use Rattle.mbc.specs.Mbc.{hasBanks, hasCode, described, held, inRange, romLen, ramLen, ramSource}
 use Rattle.mbc.specs.declared.cartridge.Cartridge.{Cartridge}
 use Rattle.mbc.specs.declared.mbc.Mapper.the-variants.{RomOnly}
 use Rattle.mbc.specs.declared.mbc.Source.the-variants.{Save, Fixed}
-use Rattle.mbc.proofs.Bools.{and-left, and-right, by-cond}
+use Rattle.mbc.proofs.Bools.{and-left, and-right}
 use Rattle.mbc.proofs.Cartridges.{banks-most, banks-least, banks-power, code-most, has-ram, some-ram}
 use Rattle.mbc.proofs.Lawful.{Lawful, Whole, Within}
 

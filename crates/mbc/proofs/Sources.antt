@@ -5,12 +5,12 @@ use Prim.Native.Nat.{ℕ, _<_, _≤_}
 use native.Mathlib.Omega.{arith}
 use lib.Dec.{ltb}
 use borrow.Author.Tests.{ltb-true, ltb-false, lt-ltb, le-ltb}
+use Rattle.rules.proofs.Tests.{by-cond}
 use Rattle.mbc.specs.PanDocs.{romAddress}
 use Rattle.mbc.specs.Mbc.{romLen, ramLen, inRange, mapped, romBank, ramSource, source}
 use Rattle.mbc.specs.declared.cartridge.Cartridge.{Cartridge}
 use Rattle.mbc.specs.declared.mbc.Mapper.{Mapper}
 use Rattle.mbc.specs.declared.mbc.Source.the-variants.{Rom}
-use Rattle.mbc.proofs.Bools.{by-cond}
 use Rattle.mbc.proofs.Lawful.{Within, Whole}
 use Rattle.mbc.proofs.Cases.{lawful}
 use Rattle.mbc.proofs.Ranges.{some-banks, in-ram, rom-below}

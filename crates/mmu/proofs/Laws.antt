@@ -1,7 +1,7 @@
 -- Every write leaves a world in which the next one can be made; and a copy and a write by cases, as the code makes them.
 use mathlib.Core.Path.{_≡_, refl, sym, ap, subst, _∙_}
-use mathlib.Core.Bool.{Bool, true, false, _||_}
-use mathlib.Core.List.{List, []}
+use mathlib.Core.Bool.{true, false, _||_}
+use mathlib.Core.List.{[]}
 use mathlib.Core.Logic.{⊎-elim}
 use Prim.Native.Nat.{ℕ, zero, suc, _+_, _-_, _/_, _%_, _≤_}
 use native.Mathlib.Numerals.{add-one, sub-one}
@@ -9,7 +9,7 @@ use native.Mathlib.Omega.{arith}
 use lib.Dec.{eqb}
 use lib.ListN.{length, set, length-set, length-append, length-take, length-drop}
 use borrow.Author.Tests.{eqb-true, eqb-false, ne-eqb}
-use Rattle.mbc.proofs.Bools.{or-cases, by-cond}
+use Rattle.rules.proofs.Tests.{by-cond, neither, or-cases}
 use Rattle.mbc.proofs.Laws.{ram-len-after}
 use Rattle.mbc.specs.Mbc.{answer}
 use Rattle.mbc.specs.declared.mbc.Answer.{Answer}
@@ -245,10 +245,6 @@ module _ (x : Fixed) (f : World → ℕ → ℕ → World) where
   transfer-done c n v w a e q = rw (q, e, a)
 
 -- what starts a transfer
-
-neither : (a b : Bool) → (a || b) ≡ false → (a ≡ false) × (b ≡ false)
-neither true b e = let z : _≡_ {A = ℕ} 0 1 = cc in absurd (omega arith)
-neither false b e = (refl, e)
 
 starting-above : (d index : ℕ) → starting (suc d) index ≡ (eqb index 0xFF46 || eqb index 0xFF55)
 unfolding starting

@@ -10,8 +10,7 @@ use types.Run.{OneOf, miss}
 use lib.Dec.{ltb, lit≤}
 use lib.ListN.{length, set}
 use borrow.Author.Tests.{ltb-true, ltb-false}
-use Rattle.mbc.proofs.Bools.{by-cond}
-use Rattle.rules.proofs.Tests.{cond-true, cond-false}
+use Rattle.rules.proofs.Tests.{by-cond, cond-both, cond-false, cond-true, neither}
 use Rattle.mbc.proofs.Laws.{mapped-rom, mapped-ram}
 use Rattle.mbc.specs.Mbc.{mapped, readAt, after, answer, inRange}
 use Rattle.mbc.specs.declared.cartridge.Cartridge.{Cartridge}
@@ -26,7 +25,6 @@ use Rattle.memory.specs.World.{World, world, Fixed, withMapper, withUsed}
 use Rattle.memory.specs.declared.Memory.{Memory}
 use Rattle.memory.specs.declared.region.Region.{Region}
 use Rattle.memory.specs.declared.region.Region.the-variants.{Rom, Vram, Save, Wram, Oam, Page}
-use Rattle.registers.proofs.Kept.{cond-both}
 use Rattle.registers.specs.Page.{writeRegister}
 use Rattle.savelog.specs.Log.{width, appended, full}
 use Rattle.mmu.specs.PanDocs.{echo, vramAt, wramAt}

@@ -4,6 +4,7 @@ use Prim.Native.Nat.{ℕ, zero, suc, _+_, _-_, _<_, _≤_}
 use native.Mathlib.Omega.{arith}
 use lib.Dec.{ltb}
 use lib.ListN.{set}
+use Rattle.rules.proofs.Tests.{cond-both}
 use Rattle.hdma.specs.Hdma.{destinationUsed}
 use Rattle.hdma.specs.declared.Hdma.{Hdma}
 use Rattle.memory.proofs.Regions.{within}
@@ -12,7 +13,7 @@ use Rattle.memory.specs.World.{World, Fixed}
 use Rattle.memory.specs.declared.Memory.{Memory}
 use Rattle.memory.specs.declared.region.Region.{Region}
 use Rattle.memory.specs.declared.region.Region.the-variants.{Rom, Vram, Save, Wram, Oam, Page}
-use Rattle.registers.proofs.Kept.{Kept, cond-both, oam-kept, write-kept, finished-kept}
+use Rattle.registers.proofs.Kept.{Kept, oam-kept, write-kept, finished-kept}
 use Rattle.registers.proofs.Starts.{by-copy}
 use Rattle.registers.specs.Transfers.{oamCopy, blockCopy, generalCopy, copyOf, nothing, finished}
 use Rattle.registers.specs.declared.transfers.Copy.{Copy}

@@ -1,5 +1,5 @@
 -- What a write to a palette keeps, for the bus above; and document 01's corner 13 with its like, computed.
-use mathlib.Core.Bool.{Bool, true, false, cond, and-eq-true-iff}
+use mathlib.Core.Bool.{true, and-eq-true-iff}
 use mathlib.Core.List.{List, [], _∷_}
 use mathlib.Core.Path.{_≡_, refl, _∙_}
 use Prim.Native.Nat.{ℕ, zero, suc, _/_, _%_, _<_}
@@ -8,6 +8,7 @@ use lib.Bits.{bitOr}
 use lib.ListN.{length, set, replicate, length-set}
 use borrow.Author.Tests.{lt-ltb}
 use Rattle.bit_utils.specs.Bits.{isSet}
+use Rattle.rules.proofs.Tests.{cond-both}
 use Rattle.palette.specs.PanDocs.{addressOf, isHigh, channels, byteAt, putAt, colorAt}
 use Rattle.palette.specs.Palette.{
   updateColorPalette,
@@ -29,13 +30,9 @@ pub record Ready (p : Palette) : Type 0 where
   pub size : length (p .colors) ≡ 32
   pub range : colorsInRange (p .colors) ≡ true
 
-below : (b : Bool) {x y k : ℕ} → x < k → y < k → cond b x y < k
-below true h l = h
-below false h l = l
-
 pub byte-below : (colors : List Color) (a : ℕ) → byteAt colors a < 256
 unfolding byteAt
-byte-below colors a = below (isHigh a) (omega arith) (omega arith)
+byte-below colors a = cond-both (λ (n : ℕ). n < 256) (isHigh a) (omega arith) (omega arith)
 
 pub channels-range : (n : ℕ) → inRange (channels n) ≡ true
 unfolding inRange
@@ -66,13 +63,9 @@ update-ready p v h =
 pub index-ready : (p : Palette) (v : ℕ) → v < 256 → Ready p → Ready (writeIndex p v)
 index-ready p v l h = record { index = l; shown = byte-below (p .colors) (addressOf v); size = h .size; range = h .range }
 
-either : (b : Bool) {p q : Palette} → Ready p → Ready q → Ready (cond b p q)
-either true h l = h
-either false h l = l
-
 moved-ready : (p : Palette) → Ready p → Ready (moved p)
 unfolding moved
-moved-ready p h = either (isSet (p .index) 7) (index-ready p _ (omega arith) h) h
+moved-ready p h = cond-both Ready (isSet (p .index) 7) (index-ready p _ (omega arith) h) h
 
 colored-ready : (p : Palette) (i v : ℕ) → Ready p → Ready (colored p i v)
 colored-ready p i v h =

@@ -16,8 +16,7 @@ use Rattle.mbc.specs.declared.mbc.Mapper.the-variants.{RomOnly, Mbc1, Mbc2}
 use Rattle.mbc.specs.declared.mbc.Answer.{Answer}
 use Rattle.mbc.specs.declared.mbc.Answer.the-variants.{Stored, NotStored}
 use Rattle.memory.specs.World.{World}
-use Rattle.registers.proofs.Kept.{cond-both}
-use Rattle.rules.proofs.Tests.{both-true}
+use Rattle.rules.proofs.Tests.{both-true, cond-both}
 use Rattle.savelog.proofs.Laws.{stored-sound, records-none}
 use Rattle.savelog.proofs.Prefix.{records-append}
 use Rattle.savelog.proofs.Use.{record-first}

@@ -1,11 +1,10 @@
 -- What holds of each call, on any world.
-use mathlib.Core.Bool.{Bool, true, false, _||_}
-use mathlib.Core.Path.{_≡_, refl, sym}
+use mathlib.Core.Bool.{false, _||_}
+use mathlib.Core.Path.{_≡_, refl}
 use Prim.Native.Nat.{ℕ, _/_, _%_}
 use lib.Dec.{eqb}
 use Rattle.dispatch.proofs.Numbered.{by-unless}
-use Rattle.dispatch.proofs.States.{not-done, Answers, reads, changes, clears, state-answers}
-use Rattle.mbc.proofs.Bools.{by-cond}
+use Rattle.dispatch.proofs.States.{Answers, reads, changes, clears, state-answers}
 use Rattle.memory.specs.World.{World, Fixed}
 use Rattle.memory.specs.declared.Memory.{Memory}
 use Rattle.mmu.proofs.Saves.{Spares, Clear, spares-trans, write-spares, transfer-spares, oam-clear, block-clear}
@@ -13,6 +12,7 @@ use Rattle.mmu.specs.Access.{put}
 use Rattle.mmu.specs.Write.{transferred, writeAt, wordAt}
 use Rattle.registers.specs.Transfers.{oamCopy, blockCopy}
 use Rattle.registers.specs.declared.transfers.Copy.{Copy}
+use Rattle.rules.proofs.Tests.{by-cond, neither}
 use Rattle.promise.specs.Bus.{Outcome, outcome, step, inSave, nextIndex, Performed, Done, Kind, Reading, Clearing, Other, kindOf}
 use Rattle.promise.specs.Bus.call as call
 use Rattle.promise.specs.Calls.{writesOf}
@@ -57,10 +57,6 @@ spared k t = (t .save, t .log, λ h. t .used)
 unless-spared : (k : Kind) (n : ℕ) (w : World) (m v : ℕ) (u : World) → Spares w u → Spared k w (unless n w (outcome m v u) .after)
 unless-spared k n w m v u s =
     by-unless (λ (o : Outcome). Spared k w (o .after)) n w _ (λ z. spared k (untouched w u s)) (λ h. spared k (same w))
-
-neither : (a b : Bool) → (a || b) ≡ false → (a ≡ false) × (b ≡ false)
-neither true b e = not-done (sym e)
-neither false b e = (refl, e)
 
 changed-used : (w : World) (n : ℕ) (next : Memory) → next .core .used ≡ w .state .core .used → changed n (w .state) next .memory .core .used ≡ w .state .core .used
 unfolding changed

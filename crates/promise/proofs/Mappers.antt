@@ -4,6 +4,7 @@ use Prim.Native.Nat.{ℕ, zero, suc, _+_, _-_, _<_, _≤_}
 use native.Mathlib.Omega.{arith}
 use lib.Dec.{ltb}
 use lib.ListN.{set}
+use Rattle.rules.proofs.Tests.{cond-both}
 use Rattle.hdma.specs.Hdma.{destinationUsed}
 use Rattle.hdma.specs.declared.Hdma.{Hdma}
 use Rattle.mbc.specs.declared.mbc.Answer.{Answer}
@@ -17,7 +18,7 @@ use Rattle.memory.specs.declared.region.Region.the-variants.{Rom, Vram, Save, W
 use Rattle.mmu.proofs.Saves.{Outside, Clear, copy-clear}
 use Rattle.mmu.specs.Access.{saved, putIn, put}
 use Rattle.mmu.specs.Write.{copyBy, transferred, writeAt}
-use Rattle.registers.proofs.Kept.{cond-both, oam-kept, write-kept, finished-kept}
+use Rattle.registers.proofs.Kept.{oam-kept, write-kept, finished-kept}
 use Rattle.registers.proofs.Starts.{by-copy}
 use Rattle.registers.specs.Transfers.{oamCopy, blockCopy, generalCopy, copyOf, nothing}
 use Rattle.registers.specs.declared.transfers.Copy.{Copy}

@@ -10,7 +10,6 @@ use borrow.Author.Tests.{le-leb, eqb-false}
 use Rattle.dispatch.proofs.Numbered.{by-unless, state-refusal, byte-refusal, word-refusal, byte-fits, low-fits, high-fits, byte-done, word-done}
 use Rattle.dispatch.proofs.Open.{Good, stays-good}
 use Rattle.dispatch.proofs.States.{Answers, reads, changes, clears, state-answers}
-use Rattle.mbc.proofs.Bools.{by-cond}
 use Rattle.memory.proofs.Laws.{used-range}
 use Rattle.memory.specs.World.{World, Fixed, withUsed}
 use Rattle.mmu.proofs.Laws.{kept-stays, write-stays, transfer-stays}
@@ -20,6 +19,7 @@ use Rattle.mmu.specs.Write.{transferred, writeAt, wordAt}
 use Rattle.refusals.proofs.Answers.{both-pass}
 use Rattle.registers.specs.Transfers.{oamCopy, blockCopy}
 use Rattle.registers.specs.declared.transfers.Copy.{Copy}
+use Rattle.rules.proofs.Tests.{by-cond}
 use Rattle.savelog.specs.Log.{width, logLimit, joined, applyAll, useInRange}
 use Rattle.promise.specs.Bus.{Outcome, outcome, step, Performed, Call, inSave, nextIndex, Done, refused, Kind, Reading, Clearing, Other, kindOf}
 use Rattle.promise.specs.Bus.call as call

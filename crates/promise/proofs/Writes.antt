@@ -8,8 +8,7 @@ use native.Mathlib.Omega.{arith}
 use lib.Dec.{ltb, leb}
 use lib.ListN.{length}
 use borrow.Author.Tests.{ltb-true, leb-true}
-use Rattle.dispatch.proofs.States.{not-done}
-use Rattle.mbc.proofs.Bools.{by-cond, or-cases}
+use Rattle.rules.proofs.Tests.{both-true, by-cond, or-cases}
 use Rattle.mbc.proofs.Laws.{mapped-rom, mapped-ram}
 use Rattle.mbc.specs.Mbc.{mapped, answer}
 use Rattle.mbc.specs.declared.mbc.Mapper.{Mapper}
@@ -25,7 +24,6 @@ use Rattle.mmu.specs.Access.{mapperPut, saved, savePut, inState, putIn, put}
 use Rattle.mmu.specs.Write.{writeAt}
 use Rattle.refusals.proofs.Window.{in-save-true, in-save-false, in-save-at}
 use Rattle.registers.specs.Transfers.{copyOf}
-use Rattle.rules.proofs.Tests.{both-true}
 use Rattle.savelog.proofs.Use.{lacks-room, appended-length, used-more}
 use Rattle.savelog.specs.Log.{width, applyAll, full}
 use Rattle.savelog.specs.declared.Rec.{Rec}
@@ -125,8 +123,8 @@ module _ (w : World) (i v : ℕ) where
       ⊎-elim (λ a. ap (λ (r : Region). putIn r w i v .state .core .mapper) a)
       (λ b. ap (λ (u : World). u .state .core .mapper) (put-done room b) ∙ saved-mapper _ _) (asked i t))
       (λ f.
-      put-unasked w i v (λ e. not-done (sym f ∙ mapped-rom i (within i e)))
-      (λ e. let b = within i e in not-done (sym f ∙ mapped-ram i (b .0) (b .1))))
+      put-unasked w i v (λ e. untrue (sym f ∙ mapped-rom i (within i e)))
+      (λ e. let b = within i e in untrue (sym f ∙ mapped-ram i (b .0) (b .1))))
 
 -- with it
 

@@ -12,7 +12,7 @@ use Rattle.dispatch.specs.declared.Call.the-variants as call
 use Rattle.image.proofs.OpenLaws.{load-range, load-oam, load-page, open-number, open-core}
 use Rattle.image.specs.Load.{loadCall, openCall}
 use Rattle.image.specs.declared.Opened.{Opened}
-use Rattle.mbc.proofs.Bools.{by-cond}
+use Rattle.rules.proofs.Tests.{by-cond}
 use Rattle.memory.proofs.Regions.{within}
 use Rattle.memory.specs.Region.{regionOf}
 use Rattle.memory.specs.World.{world, Fixed}

@@ -12,7 +12,6 @@ use Rattle.image.proofs.PatchLaws.{typed-with, typed-bytes, bytes-set, oam-imag
 use Rattle.image.specs.Laws.{Typed}
 use Rattle.image.specs.Layout.{imageOf}
 use Rattle.image.specs.Load.{storable}
-use Rattle.mbc.proofs.Bools.{by-cond}
 use Rattle.mbc.specs.Mbc.{after, answer}
 use Rattle.mbc.specs.declared.mbc.Answer.{Answer}
 use Rattle.mbc.specs.declared.mbc.Answer.the-variants.{Stored, NotStored}
@@ -23,10 +22,10 @@ use Rattle.mmu.proofs.Places.{put-rom, put-oam, put-register}
 use Rattle.mmu.specs.Access.{Holds, mapperPut, savedState, saved, savePut, inState, putAt, put}
 use Rattle.mmu.specs.PanDocs.{echo}
 use Rattle.mmu.specs.Write.{writeAt}
-use Rattle.registers.proofs.Kept.{cond-both}
 use Rattle.registers.proofs.Rest.{rest-write, sound-write, high-write}
 use Rattle.registers.specs.Page.{plainWrite, writeRegister}
 use Rattle.registers.specs.State.{stored}
+use Rattle.rules.proofs.Tests.{by-cond, cond-both}
 use Rattle.savelog.specs.Log.{width, full}
 use Rattle.entry.specs.Entry.{left}
 use Rattle.quick_writes.specs.Writes.{quick, leftBy, ownPut}

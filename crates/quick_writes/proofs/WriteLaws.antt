@@ -24,7 +24,6 @@ use Rattle.image.specs.Load.{storable, loaded, loadCall, openCall}
 use Rattle.image.specs.Patches.{Slim, mappingPut}
 use Rattle.image.specs.declared.Loaded.{Loaded}
 use Rattle.image.specs.declared.Opened.{Opened}
-use Rattle.mbc.proofs.Bools.{by-cond}
 use Rattle.mbc.specs.Mbc.{inRange, ramLen, after}
 use Rattle.memory.specs.World.{World, world, Fixed, fixed, withUsed}
 use Rattle.memory.specs.declared.Core.{Core}
@@ -39,6 +38,7 @@ use Rattle.packing.specs.Packing.{Below}
 use Rattle.refusals.proofs.Answers.{both-pass}
 use Rattle.refusals.proofs.Core.{write-lent}
 use Rattle.refusals.specs.Refusal.{orElse, useRefused, lentRefused, writeRefused, refusedWrite, inSound, nextIndex, byteRoom, wordRoom, byteOwed, wordOwed}
+use Rattle.rules.proofs.Tests.{by-cond}
 use Rattle.savelog.specs.Log.{logLimit, useInRange}
 use Rattle.entry.specs.Entry.{Left, left, leftIn, encodedIn, worldEntry}
 use Rattle.quick_writes.specs.Writes.{quick, worldOf, Taken, leftBy, ownPut}

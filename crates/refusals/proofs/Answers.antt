@@ -10,7 +10,7 @@ use Rattle.memory.specs.declared.Memory.{Memory}
 use Rattle.refusals.specs.Answers.{changed, byteGiven, wordGiven}
 use Rattle.refusals.specs.Refusal.{orElse, stateRefused}
 use Rattle.refusals.specs.declared.Done.{Done}
-use Rattle.rules.proofs.Tests.{both-true}
+use Rattle.rules.proofs.Tests.{both-true, passes}
 
 module _ {n k : ℕ} (e : n ≡ k) where
   module _ (h : n ≡ 0 → ⊥) where
@@ -43,20 +43,16 @@ where-done n m a b f = chosen _ _ _ (eqb n 0) (λ e. rw (f (eqb-true n 0 e)))
 -- none of two refusals is due
 pub both-pass : (n k : ℕ) → orElse n k ≡ 0 → (n ≡ 0) × (k ≡ 0)
 unfolding orElse
-both-pass n k h = passes (eqb n 0) n k refl h
+both-pass n k h = by-test (eqb n 0) n k refl h
   where
-    passes : (b : Bool) (n k : ℕ) → b ≡ eqb n 0 → cond b k n ≡ 0 → (n ≡ 0) × (k ≡ 0)
-    passes true n k e h = (eqb-true n 0 (sym e), h)
-    passes false n k e h = absurd (eqb-false n 0 (sym e) h)
+    by-test : (b : Bool) (n k : ℕ) → b ≡ eqb n 0 → cond b k n ≡ 0 → (n ≡ 0) × (k ≡ 0)
+    by-test true n k e h = (eqb-true n 0 (sym e), h)
+    by-test false n k e h = absurd (eqb-false n 0 (sym e) h)
 
 -- a state that is not refused is in range
 pub state-passes : (m : Memory) (limit : ℕ) → stateRefused m limit ≡ 0 → inRange m limit ≡ true
 unfolding stateRefused
-state-passes m limit h = passes (inRange m limit) h
-  where
-    passes : (b : Bool) → _≡_ {A = ℕ} (cond b 0 3) 0 → b ≡ true
-    passes true h = refl
-    passes false h = absurd (omega arith)
+state-passes m limit h = passes (inRange m limit) 3 (omega arith) h
 
 pub range-state : (m : Memory) (limit : ℕ) → inRange m limit ≡ true → stateInRange m ≡ true
 unfolding inRange

@@ -1,6 +1,6 @@
 -- A register write keeps the state in range, and leaves the machine's kind, the cartridge, its mapper and the log use. So do the calls on the state
 -- alone and the end of a transfer. Leans on the laws of the ranges (crate memory) and of the groups' crates.
-use mathlib.Core.Bool.{Bool, true, false, cond, not, _||_, or-true}
+use mathlib.Core.Bool.{Bool, true, not, _||_, or-true}
 use mathlib.Core.List.{List}
 use mathlib.Core.Path.{_≡_, refl, _∙_}
 use Prim.Native.Nat.{ℕ, _+_, _%_, _≤_}
@@ -20,7 +20,6 @@ use Rattle.joypad.specs.declared.Controller.{Controller}
 use Rattle.lcd.specs.Lcd.{scanlineWritten, lycWritten, controlWritten, statusWritten}
 use Rattle.lcd.specs.declared.Lcd.{Lcd}
 use Rattle.lcd.specs.declared.Screen.{Screen}
-use Rattle.mbc.proofs.Bools.{by-cond}
 use Rattle.memory.specs.Ranges.{stateInRange, banksInRange}
 use Rattle.memory.specs.World.{withOam, withBanks, withHdma}
 use Rattle.memory.specs.declared.Banks.{Banks}
@@ -48,6 +47,7 @@ use Rattle.palette.specs.Palette.{colorsInRange, moved, withData, writeIndex, w
 use Rattle.palette.specs.PanDocs.{addressOf, moves}
 use Rattle.palette.specs.declared.Palette.{Palette}
 use Rattle.palette.proofs.Laws.{put-range}
+use Rattle.rules.proofs.Tests.{cond-both, by-cond}
 use Rattle.timer.specs.PanDocs.{counting}
 use Rattle.timer.specs.Timer.{divided, counted, updated}
 use Rattle.timer.specs.declared.Timer.{Timer}
@@ -93,11 +93,6 @@ kept-trans a b =
       mapper = b .mapper ∙ a .mapper;
       used = b .used ∙ a .used;
     }
-
--- what holds of both ends of a test holds of the test's value
-pub cond-both : {A : Type 0} (P : A → Type 0) (b : Bool) {x y : A} → P x → P y → P (cond b x y)
-cond-both P true p q = p
-cond-both P false p q = q
 
 -- Changes that no range reads
 

@@ -6,7 +6,7 @@ use Rattle.hdma.proofs.Laws.{by-start}
 use Rattle.hdma.specs.Hdma.{starts}
 use Rattle.hdma.specs.declared.Start.{Start}
 use Rattle.memory.specs.declared.Memory.{Memory}
-use Rattle.registers.proofs.Kept.{cond-both}
+use Rattle.rules.proofs.Tests.{cond-both}
 use Rattle.registers.specs.Transfers.{nothing, oamCopy, blockCopy, generalCopy, startedBy, started, copyOf}
 use Rattle.registers.specs.declared.transfers.Copy.{Copy}
 use Rattle.registers.specs.declared.transfers.Started.{Started}

@@ -1,6 +1,6 @@
 -- The laws that the functions' proofs cite: bytes and the number that they make, and the records of what is left of a log, one step further and at its end.
 -- They lean on `width` being a numeral, and on nothing else of the layout but `number-below` and `fields-number`.
-use mathlib.Core.Bool.{Bool, true, false, _&&_, _||_}
+use mathlib.Core.Bool.{Bool, true, false, _&&_}
 use mathlib.Core.Logic.{_⊎_, inl, inr}
 use mathlib.Core.Path.{_≡_, refl, ap, sym, _∙_}
 use mathlib.Core.List.{List, [], _∷_, _++_, append-assoc, append-nil}
@@ -11,6 +11,7 @@ use lib.Dec.{eqb}
 use lib.ListN.{length, getD, take, drop, set, length-append, length-drop, length-set, take-append-drop}
 use lib.Seq.{drop-cons, drop-drop, take-set-le, drop-set-lt, getD-set-same}
 use borrow.Author.Tests.{lt-ltb, ltb-true, ne-eqb}
+use Rattle.rules.proofs.Tests.{both-true}
 use Rattle.savelog.specs.Log.{Rec, width, addressEnd, bytesOf, numberFrom, recordNumber, recordBytes, fieldsOf, recordOf, stored, firstRecords, records, soundRecord, allSound, applyAll, oneOf, saveLengths, saveLimit}
 
 -- k bytes make the numbers below `bytesEnd k`
@@ -137,10 +138,6 @@ records-step l i h =
 pub records-end : (l : List ℕ) (i : ℕ) → length l - i < width → records (drop i l) ≡ []
 records-end l i h = records-none (drop i l) (rw length-drop h)
 
-pub both : (a b : Bool) → (a && b) ≡ true → (a ≡ true) × (b ≡ true)
-both true b h = (refl, h)
-both false b h = let z : _≡_ {A = ℕ} 0 1 = cc in absurd (omega arith)
-
 pub allSound-end : (ram : ℕ) (l : List ℕ) (i : ℕ) → length l - i < width → allSound ram (records (drop i l)) ≡ true
 unfolding allSound
 allSound-end ram l i h = ap (allSound ram) (records-end l i h)
@@ -168,8 +165,8 @@ module _ (l : List ℕ) (i : ℕ) (h : i + width ≤ length l) {r : Rec} (e : r 
   -- one record of a sound log: its address is in the save, and the rest is sound
   pub sound-next : (ram : ℕ) → allSound ram (records (drop i l)) ≡ true → (r .address < ram) × (allSound ram (records (drop (i + width) l)) ≡ true)
   sound-next ram q =
-      let t = both (soundRecord ram r) _ (sym (sound-turn ram) ∙ q) in
-      let u = both (eqb (r .mark) 1) _ (t .0) in
+      let t = both-true (soundRecord ram r) _ (sym (sound-turn ram) ∙ q) in
+      let u = both-true (eqb (r .mark) 1) _ (t .0) in
       (ltb-true _ ram (u .1), t .1)
 
   pub applied : (s : List ℕ) → applyAll s (records (drop i l)) ≡ applyAll (set s (r .address) (r .value)) (records (drop (i + width) l))

@@ -1,9 +1,9 @@
 -- What survives: the records of a joined and of a cut log, and recovery over a cut log, in one piece or copy by copy.
 -- Each law on records goes by induction over `Whole`, a log taken apart record by record.
-use mathlib.Core.Bool.{Bool, true, false, _&&_, cond}
+use mathlib.Core.Bool.{Bool, true, false, cond}
 use mathlib.Core.Path.{_≡_, refl, ap, sym, _∙_}
 use mathlib.Core.List.{List, [], _∷_, _++_, append-assoc, append-nil}
-use Prim.Native.Nat.{ℕ, zero, suc, _+_, _-_, _/_, _%_, _≤_, _<_, min}
+use Prim.Native.Nat.{ℕ, zero, suc, _+_, _-_, _/_, _%_, _≤_, _<_}
 use native.Mathlib.Decide.{decLt}
 use native.Mathlib.Nat.{min-le-left, min-le-right}
 use native.Mathlib.Omega.{arith}
@@ -12,9 +12,10 @@ use lib.ListN.{length, take, drop, set, length-append, length-set, length-take, 
 use lib.Seq.{take-nil, take-take, take-append-le, drop-append-le, take-at, length-take-le}
 use borrow.Author.Tests.{leb-true, le-leb}
 use Rattle.numbers.specs.Numbers.{done, wrongLength, damaged}
+use Rattle.rules.proofs.Tests.{both-true}
 use Rattle.savelog.specs.Log.{Rec, width, addressEnd, bytesOf, recordNumber, recordBytes, stored, firstRecords, records, soundRecord, allSound, applyAll, saveLengths, logLimit, oneOf, lengthsFit, outcome, recovery, appended, recoverAll, joined, cutCopies}
 use Rattle.savelog.specs.Laws.{Corner, AppendLaw, PrefixLaw, Copy, Copies, none, more, CopiesLaw}
-use Rattle.savelog.proofs.Laws.{both, records-cons, records-none}
+use Rattle.savelog.proofs.Laws.{records-cons, records-none}
 use Rattle.savelog.proofs.Use.{used-more, record-first}
 
 -- a log is less than a record, or a record and a log
@@ -120,7 +121,7 @@ pub allSound-append : (ram : ℕ) (a b : List Rec) → allSound ram a ≡ true �
 unfolding allSound
 allSound-append ram [] b h k = k
 allSound-append ram (r ∷ a) b h k =
-    let t = both (soundRecord ram r) (allSound ram a) h in
+    let t = both-true (soundRecord ram r) (allSound ram a) h in
     rw (t .0) (allSound-append ram a b (t .1) k)
 
 pub allSound-take : (ram : ℕ) (rs : List Rec) (k : ℕ) → allSound ram rs ≡ true → allSound ram (take k rs) ≡ true
@@ -128,7 +129,7 @@ unfolding allSound
 allSound-take ram [] k h = rw take-nil
 allSound-take ram (r ∷ rs) zero h = refl
 allSound-take ram (r ∷ rs) (suc k) h =
-    let t = both (soundRecord ram r) (allSound ram rs) h in
+    let t = both-true (soundRecord ram r) (allSound ram rs) h in
     rw (t .0, allSound-take ram rs k (t .1))
 
 -- what recovery takes and finds sound, it plays
@@ -147,7 +148,7 @@ pub prefix : PrefixLaw
 unfolding recovery lengthsFit
 prefix s l n z =
     let t = done-by (lengthsFit (length s) (length l)) (allSound (length s) (records l)) _ s s z in
-    let f = both (oneOf (length s) saveLengths) (leb (length l) logLimit) (t .0) in
+    let f = both-true (oneOf (length s) saveLengths) (leb (length l) logLimit) (t .0) in
     let k : length (take n l) ≤ logLimit = rw length-take (omega (arith, leb-true (length l) logLimit (f .1), min-le-right n (length l))) in
     let g = ap (allSound (length s)) (records-take l n) ∙ allSound-take (length s) (records l) (n / width) (t .1) in
     recovery-done s (take n l) (f .0) k g ∙ ap (λ rs. outcome done (applyAll s rs)) (records-take l n)

@@ -8,14 +8,15 @@ use lib.Dec.{eqb, leb}
 use lib.ListN.{length, take, drop, length-append, length-take, length-drop}
 use lib.Seq.{take-at, drop-at, length-take-le}
 use borrow.Author.Tests.{eqb-true, leb-true, eq-eqb, le-leb, ltb-true, ltb-false}
+use Rattle.rules.proofs.Tests.{both-true}
 use Rattle.savelog.specs.Log.{width, addressEnd, recordBytes, stored, records, appended, useInRange, full}
-use Rattle.savelog.proofs.Laws.{both, record-length, records-cons, round}
+use Rattle.savelog.proofs.Laws.{record-length, records-cons, round}
 
 -- a use in range is whole records within the log, and the other way round
 pub use-parts : (used len : ℕ) → useInRange used len ≡ true → (used % width ≡ 0) × (used ≤ len)
 unfolding useInRange
 use-parts used len e =
-    let b = both (eqb (used % width) 0) (leb used len) e in
+    let b = both-true (eqb (used % width) 0) (leb used len) e in
     (eqb-true (used % width) 0 (b .0), leb-true used len (b .1))
 
 pub use-joins : (used len : ℕ) → used % width ≡ 0 → used ≤ len → useInRange used len ≡ true

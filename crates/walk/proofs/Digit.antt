@@ -8,33 +8,33 @@ use Rattle.input_calls.specs.Input.{updateTimerCall}
 use Rattle.memory.specs.Ranges.{inRange}
 use Rattle.memory.specs.World.{World, Fixed}
 use Rattle.memory.specs.declared.Memory.{Memory}
-use Rattle.numbers.specs.Numbers.{done, owed, noRoom, outOfRange, wrongLength, tooManyCycles}
+use Rattle.numbers.specs.Numbers.{done}
 use Rattle.refusals.specs.Answers.{changed}
 use Rattle.refusals.specs.declared.Done.{Done}
 use Rattle.refusals.specs.Refusal.{orElse, inSave, inSound, byteRoom, byteOwed, cyclesRefused}
 use Rattle.refusals.specs.Refusal.{stateRefused, lengthsFit, lengthsRefused, logRefused, lentRefused, writeRefused}
+use Rattle.rules.proofs.Tests.{cond-both}
 use Rattle.savelog.specs.Log.{logLimit, full}
 use Rattle.write_calls.specs.Writes.{writeByteCall}
 
-either : (b : Bool) (x y : ℕ) → x < 10 → y < 10 → cond b x y < 10
-either true x y p q = p
-either false x y p q = q
+abbrev Digit : ℕ → Type 0
+Digit n = n < 10
 
 first : (n next : ℕ) → n < 10 → next < 10 → orElse n next < 10
 unfolding orElse
-first n next p q = either (eqb n done) next n q p
+first n next p q = cond-both Digit (eqb n done) q p
 
 state : (m : Memory) (limit : ℕ) → stateRefused m limit < 10
 unfolding stateRefused
-state m limit = either (inRange m limit) done outOfRange (omega arith) (omega arith)
+state m limit = cond-both Digit (inRange m limit) (omega arith) (omega arith)
 
 lengths : (m : Memory) (a b c d e : ℕ) → lengthsRefused (m .core) a b c d e < 10
 unfolding lengthsRefused
-lengths m a b c d e = either (lengthsFit (m .core) a b c d e) done wrongLength (omega arith) (omega arith)
+lengths m a b c d e = cond-both Digit (lengthsFit (m .core) a b c d e) (omega arith) (omega arith)
 
 log : (n : ℕ) → logRefused n < 10
 unfolding logRefused
-log n = either (leb n logLimit) done wrongLength (omega arith) (omega arith)
+log n = cond-both Digit (leb n logLimit) (omega arith) (omega arith)
 
 write : (m : Memory) (a b c d e l : ℕ) → writeRefused m a b c d e l < 10
 unfolding writeRefused lentRefused
@@ -42,15 +42,15 @@ write m a b c d e l = first _ _ (state m l) (first _ _ (lengths m a b c d e) (lo
 
 room : (used n i : ℕ) → byteRoom used n i < 10
 unfolding byteRoom
-room used n i = either (inSave i && full n used 1) noRoom done (omega arith) (omega arith)
+room used n i = cond-both Digit (inSave i && full n used 1) (omega arith) (omega arith)
 
 sound : (i : ℕ) → byteOwed i < 10
 unfolding byteOwed
-sound i = either (inSound i) owed done (omega arith) (omega arith)
+sound i = cond-both Digit (inSound i) (omega arith) (omega arith)
 
 cycles : (n : ℕ) → cyclesRefused n < 10
 unfolding cyclesRefused
-cycles n = either (leb n 65536) done tooManyCycles (omega arith) (omega arith)
+cycles n = cond-both Digit (leb n 65536) (omega arith) (omega arith)
 
 unless-digit : (n : ℕ) (w : World) (o : Outcome) → n < 10 → o .number < 10 → unless n w o .number < 10
 unfolding unless
