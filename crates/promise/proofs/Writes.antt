@@ -8,9 +8,9 @@ use native.Mathlib.Omega.{arith}
 use lib.Dec.{ltb, leb}
 use lib.ListN.{length}
 use borrow.Author.Tests.{ltb-true, leb-true}
-use Rattle.rules.proofs.Tests.{both-true, by-cond, or-cases}
+use Rattle.rules.proofs.Tests.{both-true, by-cond, or-cases, untrue}
 use Rattle.mbc.proofs.Laws.{mapped-rom, mapped-ram}
-use Rattle.mbc.specs.Mbc.{mapped, answer}
+use Rattle.mbc.specs.Mbc.{mapped, after, answer}
 use Rattle.mbc.specs.declared.mbc.Mapper.{Mapper}
 use Rattle.mbc.specs.declared.mbc.Answer.{Answer}
 use Rattle.mbc.specs.declared.mbc.Answer.the-variants.{Stored, NotStored}
@@ -96,8 +96,14 @@ module _ (w : World) (i v : ℕ) where
   abbrev Room : Type 0
   Room = inSave i ≡ true → w .state .core .used + width ≤ length (w .log)
 
+  abbrev asked-for : Answer
+  asked-for = answer (w .state .core .cartridge) (w .state .core .mapper) i v
+
+  abbrev turned : World
+  turned = inState w (mapperPut (w .state) i v)
+
   abbrev done : World
-  done = saved (answer (w .state .core .cartridge) (w .state .core .mapper) i v) (inState w (mapperPut (w .state) i v))
+  done = saved asked-for turned
 
   save-done : w .state .core .used + width ≤ length (w .log) → savePut w i v ≡ done
   unfolding savePut
@@ -112,7 +118,7 @@ module _ (w : World) (i v : ℕ) where
   unfolding letIn
   put-stores room =
       by-cond (λ (rs : List Rec). Stores rs w (put w i v)) (inSave i) _ []
-      (λ t. rw (put-done room (in-save-true i t)) (saved-stores w _ _ (room t)))
+      (λ t. rw (put-done room (in-save-true i t)) (saved-stores w (after (w .state .core .cartridge) (w .state .core .mapper) i v) asked-for (room t)))
       (λ f. stores-none w (put w i v) (put-spares w i v (outside-save i f)))
 
   put-after : Room → put w i v .state .core .mapper ≡ mapperAfter (w .state .core .cartridge) (w .state .core .mapper) (byte i v)
@@ -121,7 +127,7 @@ module _ (w : World) (i v : ℕ) where
       by-cond (λ (m : Mapper). put w i v .state .core .mapper ≡ m) (mapped i) _ _
       (λ t.
       ⊎-elim (λ a. ap (λ (r : Region). putIn r w i v .state .core .mapper) a)
-      (λ b. ap (λ (u : World). u .state .core .mapper) (put-done room b) ∙ saved-mapper _ _) (asked i t))
+      (λ b. ap (λ (u : World). u .state .core .mapper) (put-done room b) ∙ saved-mapper turned asked-for) (asked i t))
       (λ f.
       put-unasked w i v (λ e. untrue (sym f ∙ mapped-rom i (within i e)))
       (λ e. let b = within i e in untrue (sym f ∙ mapped-ram i (b .0) (b .1))))

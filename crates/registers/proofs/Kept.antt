@@ -1,6 +1,6 @@
 -- A register write keeps the state in range, and leaves the machine's kind, the cartridge, its mapper and the log use. So do the calls on the state
 -- alone and the end of a transfer. Leans on the laws of the ranges (crate memory) and of the groups' crates.
-use mathlib.Core.Bool.{Bool, true, not, _||_, or-true}
+use mathlib.Core.Bool.{Bool, true, not, _||_, or-true, false}
 use mathlib.Core.List.{List}
 use mathlib.Core.Path.{_≡_, refl, _∙_}
 use Prim.Native.Nat.{ℕ, _+_, _%_, _≤_}
