@@ -116,8 +116,14 @@ module _ (w : World) (i v : ℕ) where
   abbrev Room : Type 0
   Room = inSave i ≡ true → w .state .core .used + width ≤ length (w .log)
 
+  abbrev asked : Answer
+  asked = answer (w .state .core .cartridge) (w .state .core .mapper) i v
+
+  abbrev turned : World
+  turned = inState w (mapperPut (w .state) i v)
+
   abbrev done : World
-  done = saved (answer (w .state .core .cartridge) (w .state .core .mapper) i v) (inState w (mapperPut (w .state) i v))
+  done = saved asked turned
 
   save-done : w .state .core .used + width ≤ length (w .log) → savePut w i v ≡ done
   unfolding savePut
@@ -131,7 +137,7 @@ module _ (w : World) (i v : ℕ) where
   put-stores : Room → Stores lets w (put w i v)
   unfolding letIn
   put-stores room =
-      by-cond (λ (rs : List Rec). Stores rs w (put w i v)) (inSave i) _ [] (λ t. rw (put-done room t) (saved-stores w _ _ (room t)))
+      by-cond (λ (rs : List Rec). Stores rs w (put w i v)) (inSave i) _ [] (λ t. rw (put-done room t) (saved-stores w (turned .state .core .mapper) asked (room t)))
       (λ f. stores-none w (put w i v) (put-spares w i v (in-save-false i f)))
 
   put-after : Room → put w i v .state .core .mapper ≡ mapperAfter (w .state .core .cartridge) (w .state .core .mapper) (byte i v)
@@ -143,7 +149,7 @@ module _ (w : World) (i v : ℕ) where
       (λ (a : ltb i 0x8000 ≡ true).
       let h = ltb-true i 0x8000 a in
       ap (λ (u : World). u .state .core .mapper) (sym (put-rom w i i v (echo-low i h) h refl)))
-      (λ (b : inSave i ≡ true). ap (λ (u : World). u .state .core .mapper) (put-done room b) ∙ saved-mapper _ _) (or-cases (ltb i 0x8000) (inSave i) t))
+      (λ (b : inSave i ≡ true). ap (λ (u : World). u .state .core .mapper) (put-done room b) ∙ saved-mapper turned asked) (or-cases (ltb i 0x8000) (inSave i) t))
       (λ f. let n = unmapped i f in put-mapper w i v (n .0) (n .1))
 
 -- with it
