@@ -12,11 +12,15 @@ use Rattle.image.proofs.PatchLaws.{typed-with, typed-bytes, bytes-set, oam-imag
 use Rattle.image.specs.Laws.{Typed}
 use Rattle.image.specs.Layout.{imageOf}
 use Rattle.image.specs.Load.{storable}
+use Rattle.image.specs.Patches.{Slim}
 use Rattle.mbc.proofs.Bools.{by-cond}
 use Rattle.mbc.specs.Mbc.{after, answer}
+use Rattle.mbc.specs.declared.cartridge.Cartridge.{Cartridge}
 use Rattle.mbc.specs.declared.mbc.Answer.{Answer}
 use Rattle.mbc.specs.declared.mbc.Answer.the-variants.{Stored, NotStored}
-use Rattle.memory.specs.World.{World, world, Fixed, withOam, withUsed}
+use Rattle.mbc.specs.declared.mbc.Mapper.{Mapper}
+use Rattle.memory.specs.Start.{zeroed}
+use Rattle.memory.specs.World.{World, world, Fixed, withOam, withCore, withMapper, withUsed}
 use Rattle.memory.specs.declared.Memory.{Memory}
 use Rattle.mmu.proofs.Laws.{write-plain}
 use Rattle.mmu.proofs.Places.{put-rom, put-oam, put-register}
@@ -92,11 +96,11 @@ module _ (w : World) (t : Typed (w .state)) (i v : ℕ) (hv : v < 256) where
       typed-with (w .state) t (w .state .oam) (w .state .page) (w .state .core .joypad) (w .state .core .clock) (after (w .state .core .cartridge) (w .state .core .mapper) i v)
       (w .state .core .used) (t .oam) (t .page) (t .released) (t .state) (t .div)
 
-  saved-typed : (a : Answer) → TypedIn (saved a w)
+  saved-typed : (a : Answer) → TypedIn (saved a (inState w (mapperPut (w .state) i v)))
   saved-typed (Stored at b) =
-      typed-with (w .state) t (w .state .oam) (w .state .page) (w .state .core .joypad) (w .state .core .clock) (w .state .core .mapper) (w .state .core .used + width) (t .oam)
-      (t .page) (t .released) (t .state) (t .div)
-  saved-typed NotStored = t
+      typed-with (w .state) t (w .state .oam) (w .state .page) (w .state .core .joypad) (w .state .core .clock) (after (w .state .core .cartridge) (w .state .core .mapper) i v)
+      (w .state .core .used + width) (t .oam) (t .page) (t .released) (t .state) (t .div)
+  saved-typed NotStored = mapper-typed
 
   save-typed : TypedIn (savePut w i v)
   unfolding savePut
@@ -127,6 +131,28 @@ module _ (w : World) (t : Typed (w .state)) (i v : ℕ) (hv : v < 256) where
 
 pub put-typed : (w : World) → Typed (w .state) → (index v : ℕ) → v < 256 → quick (echo index) ≡ true → Typed (put w index v .state)
 put-typed w t index v hv q = put-at-typed w t (echo index) v hv q
+
+-- The mapper that a write in A000..BFFF leaves goes to the image: it is the one before or the one after
+module _ (w : World) (i v : ℕ) (a : Slim (w .state .core .mapper)) (b : Slim (after (w .state .core .cartridge) (w .state .core .mapper) i v)) where
+  saved-slim : (k : Answer) → Slim (saved k (inState w (mapperPut (w .state) i v)) .state .core .mapper)
+  saved-slim (Stored at u) = b
+  saved-slim NotStored = b
+
+  save-slim : Slim (savePut w i v .state .core .mapper)
+  unfolding savePut
+  save-slim =
+      cond-both (λ (u : World). Slim (u .state .core .mapper)) (full (length (w .log)) (w .state .core .used) 1) a
+      (saved-slim (answer (w .state .core .cartridge) (w .state .core .mapper) i v))
+
+pub mapping-slim : {c : Cartridge} {t : Mapper} {used : ℕ} (s l : List ℕ) (i v : ℕ) {p : Mapper} {u : ℕ} {y z : List ℕ}
+    → ((m : Memory) → m .core .cartridge ≡ c → m .core .mapper ≡ t → m .core .used ≡ used
+    → world (withUsed (withMapper m p) u) [] [] y z ≡ savePut (world m [] [] s l) i v)
+    → Slim t → Slim (after c t i v) → Slim p
+mapping-slim {c} {t} {used} s l i v n a b =
+    let k = zeroed .core in
+    let m : Memory = withCore zeroed
+    (record { banks = k .banks; lcd = k .lcd; hdma = k .hdma; joypad = k .joypad; clock = k .clock; cartridge = c; mapper = t; used = used }) in
+    subst Slim (sym (ap (λ (w : World). w .state .core .mapper) (n m refl refl refl))) (save-slim (world m [] [] s l) i v a b)
 
 -- A byte of OAM or page in the image: what a write leaves, as the world with another state, and the image that it has
 pub record Own (w : World) (index i v : ℕ) : Type 0 where

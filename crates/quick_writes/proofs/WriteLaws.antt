@@ -17,6 +17,7 @@ use Rattle.dispatch.specs.declared.Call.the-variants as call
 use Rattle.image.proofs.LoadedPatches.{loaded-typed, loaded-storable, loaded-mapping}
 use Rattle.image.proofs.OpenLaws.{load-length, load-range, load-image, open-number, open-core}
 use Rattle.image.proofs.PatchLaws.{slim}
+use Rattle.image.proofs.StateLaws.{storable-state}
 use Rattle.image.proofs.Round.{state-back}
 use Rattle.image.specs.Laws.{Typed}
 use Rattle.image.specs.Layout.{imageLen, imageOf}
@@ -26,7 +27,10 @@ use Rattle.image.specs.declared.Loaded.{Loaded}
 use Rattle.image.specs.declared.Opened.{Opened}
 use Rattle.mbc.proofs.Bools.{by-cond}
 use Rattle.mbc.specs.Mbc.{inRange, ramLen, after}
-use Rattle.memory.specs.World.{World, world, Fixed, fixed, withUsed}
+use Rattle.mbc.specs.declared.mbc.Mapper.{Mapper}
+use Rattle.memory.proofs.Laws.{mapper-kept}
+use Rattle.memory.specs.Ranges as ranges
+use Rattle.memory.specs.World.{World, world, Fixed, fixed, withMapper, withUsed}
 use Rattle.memory.specs.declared.Core.{Core}
 use Rattle.memory.specs.declared.Memory.{Memory}
 use Rattle.mmu.proofs.Laws.{Stays, put-stays}
@@ -37,6 +41,7 @@ use Rattle.mmu.specs.Write.{writeAt, wordAt}
 use Rattle.numbers.specs.Numbers.{done}
 use Rattle.packing.specs.Packing.{Below}
 use Rattle.refusals.proofs.Answers.{both-pass}
+use Rattle.rules.proofs.Tests.{both-true}
 use Rattle.refusals.proofs.Core.{write-lent}
 use Rattle.refusals.specs.Refusal.{orElse, useRefused, lentRefused, writeRefused, refusedWrite, inSound, nextIndex, byteRoom, wordRoom, byteOwed, wordOwed}
 use Rattle.savelog.specs.Log.{logLimit, useInRange}
@@ -49,6 +54,12 @@ use Rattle.quick_writes.proofs.Quick.{quick-plain, put-typed, own-put}
 as-left : (w : World) (index b : ℕ) {u : World} {j : List ℕ} → u ≡ put w index b → j ≡ imageOf (u .state)
     → left 0 0 j (u .vram) (u .wram) (u .save) (u .log) ≡ leftBy (put w index b)
 as-left w index b e f = rw f (ap leftBy e)
+
+-- a write to the mapper, wherever it goes
+mapper-storable : (m : Memory) → storable m ≡ true → (index b : ℕ) → storable (mapperPut m index b) ≡ true
+unfolding storable ranges.inRange
+mapper-storable m h index b =
+    rw (mapper-kept m (storable-state m h) index b) (both-true (ranges.stateInRange m) (useInRange (m .core .used) logLimit) h .1)
 
 module _ {i v w s l : List ℕ} (t : Taken i v w s l) where
   taken-storable : storable (loadCall i .state) ≡ true
@@ -79,6 +90,9 @@ module _ {i v w s l : List ℕ} (t : Taken i v w s l) where
     pub taken-slim : Slim (c .mapper)
     taken-slim = rw e (slim (loadCall i .state) taken-storable)
 
+    pub after-slim : (k b : ℕ) → Slim (after (c .cartridge) (c .mapper) k b)
+    after-slim k b = rw e (slim (mapperPut (loadCall i .state) k b) (mapper-storable (loadCall i .state) taken-storable k b))
+
     pub taken-save : length s ≡ ramLen (c .cartridge) (c .mapper)
     taken-save = rw e (t .holds .save)
 
@@ -90,9 +104,6 @@ module _ {i v w s l : List ℕ} (t : Taken i v w s l) where
 
     -- each region
     module _ (index k b : ℕ) (q : k ≡ echo index) where
-      pub after-slim : k < 0x8000 → Slim (after (c .cartridge) (c .mapper) k b)
-      after-slim h = rw e (slim (mapperPut (loadCall i .state) k b) (left-storable index b (put-rom (worldOf i v w s l) index k b q h refl)))
-
       pub left-rom : k < 0x8000 → {j : List ℕ} → j ≡ mappingPut i (after (c .cartridge) (c .mapper) k b) (c .used)
           → left 0 0 j v w s l ≡ leftBy (put (worldOf i v w s l) index b)
       left-rom h f =
@@ -108,18 +119,15 @@ module _ {i v w s l : List ℕ} (t : Taken i v w s l) where
       left-vram g h f =
           as-left (worldOf i v w s l) index b (put-vram (worldOf i v w s l) index k b q g h (f ∙ ap (λ (d : Core). set v (vramAt (d .banks .vram) k) b) e)) taken-image
 
-      pub left-save : 0xA000 ≤ k → k < 0xC000 → {r : ℕ} {j s' l' : List ℕ} → j ≡ mappingPut i (c .mapper) r
+      pub left-save : 0xA000 ≤ k → k < 0xC000 → {p : Mapper} {r : ℕ} {j s' l' : List ℕ} → j ≡ mappingPut i p r
           → ((m : Memory) → m .core .cartridge ≡ c .cartridge → m .core .mapper ≡ c .mapper → m .core .used ≡ c .used
-          → world (withUsed m r) [] [] s' l' ≡ savePut (world m [] [] s l) k b)
+          → world (withUsed (withMapper m p) r) [] [] s' l' ≡ savePut (world m [] [] s l) k b)
           → left 0 0 j v w s' l' ≡ leftBy (put (worldOf i v w s l) index b)
-      left-save g h {r} f n =
+      left-save g h {p} {r} f n =
           let m = loadCall i .state in
-          let p = put-save (worldOf i v w s l) index k b q g h
+          let y = put-save (worldOf i v w s l) index k b q g h
           (n m (sym (ap (λ (d : Core). d .cartridge) e)) (sym (ap (λ (d : Core). d .mapper) e)) (sym (ap (λ (d : Core). d .used) e))) in
-          as-left (worldOf i v w s l) index b p
-          (f
-          ∙ ap (λ (d : Core). mappingPut i (d .mapper) r) e
-          ∙ loaded-mapping i (t .bytes) (t .number) (m .core .mapper) r (left-storable index b p))
+          as-left (worldOf i v w s l) index b y (f ∙ loaded-mapping i (t .bytes) (t .number) p r (left-storable index b y))
 
       pub left-wram : 0xC000 ≤ k → k < 0xE000 → {j : List ℕ} → j ≡ set w (wramAt (c .banks .wram) k) b
           → left 0 0 i v j s l ≡ leftBy (put (worldOf i v w s l) index b)

@@ -10,7 +10,7 @@ ghost use Rattle.image.specs.Layout.{imageLen};
 ghost use Rattle.image.specs.Load.{loadCall};
 ghost use Rattle.image.specs.Patches.{Slim, mappingPut};
 ghost use Rattle.mbc.specs.Mbc.{inRange, ramLen, after};
-ghost use Rattle.memory.specs.World.{world, fixed, withUsed};
+ghost use Rattle.memory.specs.World.{world, fixed, withMapper, withUsed};
 ghost use Rattle.memory.specs.declared.Memory.{Memory};
 ghost use Rattle.mmu.specs.Access.{savePut, put};
 ghost use Rattle.mmu.specs.PanDocs.{echo};
@@ -22,6 +22,7 @@ use dispatch::Call;
 use entry::on_bus;
 use image::Opened;
 use memory::Core;
+use mmu::regions::Mapping;
 
 // Whether a write at an index is quick: all but those to a register.
 fn is_quick(index: u16) -> bool
@@ -52,7 +53,7 @@ fn put_mapper(core: Core, image: &mut [u8], at: u16, value: u8)
     image::put_mapping(image, next, core.used);
 }
 
-// A000..BFFF: the save, its log, and the log's use, which it gives.
+// A000..BFFF: the save, its log, and the mapper with the log's use, which it gives.
 fn put_save(
     core: Core,
     image: &mut [u8],
@@ -60,15 +61,16 @@ fn put_save(
     log: &mut [u8],
     at: u16,
     value: u8,
-) -> u16
-    requires { ⌜ ((length (now image) ≡ imageLen) × Slim (core .mapper)) × (((0xA000 ≤ at) × (at < 0xC000)) × ((inRange (core .cartridge) (core .mapper) ≡ true) × ((length (now save) ≡ ramLen (core .cartridge) (core .mapper)) × (length (now log) ≤ logLimit)))) ⌝ }
-    ensures { λ r. ⌜ (now (image .exit) ≡ mappingPut (now (image .entry)) (core .mapper) r) × ((m : Memory) → m .core .cartridge ≡ core .cartridge → m .core .mapper ≡ core .mapper → m .core .used ≡ core .used → world (withUsed m r) [] [] (now (save .exit)) (now (log .exit)) ≡ savePut (world m [] [] (now (save .entry)) (now (log .entry))) at value) ⌝ }
+) -> Mapping
+    requires { ⌜ ((length (now image) ≡ imageLen) × (Slim (core .mapper) × Slim (after (core .cartridge) (core .mapper) at value))) × (((0xA000 ≤ at) × (at < 0xC000)) × ((inRange (core .cartridge) (core .mapper) ≡ true) × ((length (now save) ≡ ramLen (core .cartridge) (core .mapper)) × (length (now log) ≤ logLimit)))) ⌝ }
+    ensures { λ r. ⌜ (now (image .exit) ≡ mappingPut (now (image .entry)) (r .mapper) (r .used)) × ((m : Memory) → m .core .cartridge ≡ core .cartridge → m .core .mapper ≡ core .mapper → m .core .used ≡ core .used → world (withUsed (withMapper m (r .mapper)) (r .used)) [] [] (now (save .exit)) (now (log .exit)) ≡ savePut (world m [] [] (now (save .entry)) (now (log .entry))) at value) ⌝ }
 {
     let cartridge = core.cartridge;
     let mapper = core.mapper;
-    let used = mmu::regions::store_save(cartridge, mapper, core.used, save, log, at, value);
-    image::put_mapping(image, mapper, used);
-    used
+    let mapping = mmu::regions::store_save(cartridge, mapper, core.used, save, log, at, value);
+    let next = mapping.mapper;
+    image::put_mapping(image, next, mapping.used);
+    mapping
 }
 
 // FE00..FEFF and the page.
