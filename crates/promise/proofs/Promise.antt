@@ -121,5 +121,5 @@ promise l ts z =
     }
 
 pub example : Example
-unfolding letInAll letIn mapperAfter inSave regionOf mbc.start mbc.after2 mbc.enable2 mbc.source mbc.ramSource mbc.ramLen
+unfolding letInAll letIn mapperAfter inSave regionOf mbc.mapped mbc.start mbc.after2 mbc.enable2 mbc.source mbc.ramSource mbc.ramLen
 example = refl

@@ -80,9 +80,9 @@ stores-spared rs w u y s p =
 pub outside-save : (i : ℕ) → inSave i ≡ false → Outside i
 outside-save i f a b = in-save-false i f (region-at Save i (a, b))
 
-asked : (i : ℕ) → mapped i ≡ true → (regionOf i ≡ Rom) ⊎ (regionOf i ≡ Save)
+where-asked : (i : ℕ) → mapped i ≡ true → (regionOf i ≡ Rom) ⊎ (regionOf i ≡ Save)
 unfolding mapped
-asked i t =
+where-asked i t =
     ⊎-elim (λ a. inl (region-at Rom i (ltb-true i 0x8000 a)))
     (λ a.
     let b = both-true (leb 0xA000 i) (ltb i 0xC000) a in
@@ -98,8 +98,14 @@ module _ (w : World) (i v : ℕ) where
   abbrev Room : Type 0
   Room = inSave i ≡ true → w .state .core .used + width ≤ length (w .log)
 
+  abbrev asked : Answer
+  asked = answer (w .state .core .cartridge) (w .state .core .mapper) i v
+
+  abbrev turned : World
+  turned = inState w (mapperPut (w .state) i v)
+
   abbrev done : World
-  done = saved (answer (w .state .core .cartridge) (w .state .core .mapper) i v) (inState w (mapperPut (w .state) i v))
+  done = saved asked turned
 
   save-done : w .state .core .used + width ≤ length (w .log) → savePut w i v ≡ done
   unfolding savePut
@@ -114,7 +120,7 @@ module _ (w : World) (i v : ℕ) where
   unfolding letIn
   put-stores room =
       by-cond (λ (rs : List Rec). Stores rs w (put w i v)) (inSave i) _ []
-      (λ t. rw (put-done room (in-save-true i t)) (saved-stores w _ _ (room t)))
+      (λ t. rw (put-done room (in-save-true i t)) (saved-stores w (turned .state .core .mapper) asked (room t)))
       (λ f. stores-none w (put w i v) (put-spares w i v (outside-save i f)))
 
   put-after : Room → put w i v .state .core .mapper ≡ mapperAfter (w .state .core .cartridge) (w .state .core .mapper) (byte i v)
@@ -123,7 +129,7 @@ module _ (w : World) (i v : ℕ) where
       by-cond (λ (m : Mapper). put w i v .state .core .mapper ≡ m) (mapped i) _ _
       (λ t.
       ⊎-elim (λ a. ap (λ (r : Region). putIn r w i v .state .core .mapper) a)
-      (λ b. ap (λ (u : World). u .state .core .mapper) (put-done room b) ∙ saved-mapper _ _) (asked i t))
+      (λ b. ap (λ (u : World). u .state .core .mapper) (put-done room b) ∙ saved-mapper turned asked) (where-asked i t))
       (λ f.
       put-unasked w i v (λ e. not-done (sym f ∙ mapped-rom i (within i e)))
       (λ e. let b = within i e in not-done (sym f ∙ mapped-ram i (b .0) (b .1))))

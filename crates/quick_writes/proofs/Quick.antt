@@ -15,13 +15,14 @@ use Rattle.image.specs.Load.{storable}
 use Rattle.image.specs.Patches.{Slim}
 use Rattle.mbc.proofs.Bools.{by-cond}
 use Rattle.mbc.specs.Mbc.{after, answer}
+use Rattle.mbc.specs.declared.cartridge.Cartridge.{Cartridge}
 use Rattle.mbc.specs.declared.mbc.Answer.{Answer}
 use Rattle.mbc.specs.declared.mbc.Answer.the-variants.{Stored, NotStored}
 use Rattle.mbc.specs.declared.mbc.Mapper.{Mapper}
 use Rattle.memory.proofs.Regions.{Within, within}
 use Rattle.memory.specs.Region.{regionOf}
-use Rattle.memory.specs.World.{World, world, Fixed, withOam, withMapper, withUsed}
-use Rattle.memory.specs.declared.Core.{Core}
+use Rattle.memory.specs.Start.{zeroed}
+use Rattle.memory.specs.World.{World, world, Fixed, withOam, withCore, withMapper, withUsed}
 use Rattle.memory.specs.declared.Memory.{Memory}
 use Rattle.memory.specs.declared.region.Region.{Region}
 use Rattle.memory.specs.declared.region.Region.the-variants.{Rom, Vram, Save, Wram, Oam, Page}
@@ -137,14 +138,18 @@ module _ (w : World) (i v : ℕ) (a : Slim (w .state .core .mapper)) (b : Slim (
 
   save-slim : Slim (savePut w i v .state .core .mapper)
   unfolding savePut
-  save-slim = cond-both (λ (u : World). Slim (u .state .core .mapper)) (full (length (w .log)) (w .state .core .used) 1) a (saved-slim _)
+  save-slim =
+      cond-both (λ (u : World). Slim (u .state .core .mapper)) (full (length (w .log)) (w .state .core .used) 1) a
+      (saved-slim (answer (w .state .core .cartridge) (w .state .core .mapper) i v))
 
-pub mapping-slim : (c : Core) (s l : List ℕ) (i v : ℕ) {p : Mapper} {u : ℕ} {y z : List ℕ}
-    → ((m : Memory) → m .core .cartridge ≡ c .cartridge → m .core .mapper ≡ c .mapper → m .core .used ≡ c .used
+pub mapping-slim : {c : Cartridge} {t : Mapper} {used : ℕ} (s l : List ℕ) (i v : ℕ) {p : Mapper} {u : ℕ} {y z : List ℕ}
+    → ((m : Memory) → m .core .cartridge ≡ c → m .core .mapper ≡ t → m .core .used ≡ used
     → world (withUsed (withMapper m p) u) [] [] y z ≡ savePut (world m [] [] s l) i v)
-    → Slim (c .mapper) → Slim (after (c .cartridge) (c .mapper) i v) → Slim p
-mapping-slim c s l i v n a b =
-    let m : Memory = record { oam = []; page = []; background = []; sprites = []; core = c } in
+    → Slim t → Slim (after c t i v) → Slim p
+mapping-slim {c} {t} {used} s l i v n a b =
+    let k = zeroed .core in
+    let m : Memory = withCore zeroed
+    (record { banks = k .banks; lcd = k .lcd; hdma = k .hdma; joypad = k .joypad; clock = k .clock; cartridge = c; mapper = t; used = used }) in
     subst Slim (sym (ap (λ (w : World). w .state .core .mapper) (n m refl refl refl))) (save-slim (world m [] [] s l) i v a b)
 
 -- A byte of OAM or page in the image: what a write leaves, as the world with another state, and that the image j is its
