@@ -26,7 +26,7 @@ use Rattle.memory.specs.World.{World, Fixed}
 use Rattle.memory.specs.declared.Memory.{Memory}
 use Rattle.memory.specs.declared.region.Region.{Region}
 use Rattle.memory.specs.declared.region.Region.the-variants.{Rom, Vram, Save, Wram, Oam, Page}
-use Rattle.mmu.specs.Access.{byteIn, readIn, saved, savePut, putIn, put}
+use Rattle.mmu.specs.Access.{byteIn, readIn, mapperPut, saved, savePut, inState, putIn, put}
 use Rattle.mmu.specs.Write.{copyBy, transferred, writeAt, wordAt}
 use Rattle.packing.specs.Packing.{Below}
 use Rattle.registers.specs.Page.{byKind, lineRead, plainRead, shownAs, readRegister}
@@ -109,23 +109,24 @@ module _ {m : Memory} (f : Fine m) (sound : List ℕ) (b : Below 256 sound) wher
 -- What is written
 
 module _ (w : World) (g : Whole w) (v : ℕ) (b : v < 256) where
-  saved-whole : (i : ℕ) (a : Answer) → answer (w .state .core .cartridge) (w .state .core .mapper) i v ≡ a → Whole (saved a w)
+  state-whole : {m : Memory} → Fine m → Whole (record { state = m; vram = w .vram; wram = w .wram; save = w .save; log = w .log })
+  state-whole f = record { state = f; vram = g .vram; wram = g .wram; save = g .save }
+
+  saved-whole : (i : ℕ) (a : Answer) → answer (w .state .core .cartridge) (w .state .core .mapper) i v ≡ a
+      → Whole (saved a (inState w (mapperPut (w .state) i v)))
   saved-whole i (Stored at u) e =
       let s = stored-within (w .state .core .cartridge) (w .state .core .mapper) i v at u b e in
       record {
-        state = used-fine (g .state) (w .state .core .used + width);
+        state = used-fine (mapper-fine (g .state) _) (w .state .core .used + width);
         vram = g .vram;
         wram = g .wram;
         save = below-set 256 (w .save) at u (g .save) (s .1 .1);
       }
-  saved-whole i NotStored e = g
+  saved-whole i NotStored e = state-whole (mapper-fine (g .state) _)
 
   save-whole : (i : ℕ) → Whole (savePut w i v)
   unfolding savePut
   save-whole i = cond-both Whole (full (length (w .log)) (w .state .core .used) 1) g (saved-whole i _ refl)
-
-  state-whole : {m : Memory} → Fine m → Whole (record { state = m; vram = w .vram; wram = w .wram; save = w .save; log = w .log })
-  state-whole f = record { state = f; vram = g .vram; wram = g .wram; save = g .save }
 
   put-in-whole : (r : Region) (i : ℕ) → Whole (putIn r w i v)
   put-in-whole Rom i = state-whole (mapper-fine (g .state) _)

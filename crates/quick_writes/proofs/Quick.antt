@@ -1,5 +1,5 @@
 -- A quick write: it starts no transfer, what it leaves is a state in range with the types of one, and the image changed in place is that state's.
-use mathlib.Core.Bool.{Bool, true, false, cond}
+use mathlib.Core.Bool.{Bool, true, false}
 use mathlib.Core.List.{List, []}
 use mathlib.Core.Logic.{_⊎_, inl, inr, ⊎-elim}
 use mathlib.Core.Path.{_≡_, refl, sym, ap, subst, _∙_}
@@ -12,15 +12,22 @@ use Rattle.image.proofs.PatchLaws.{typed-with, typed-bytes, bytes-set, oam-imag
 use Rattle.image.specs.Laws.{Typed}
 use Rattle.image.specs.Layout.{imageOf}
 use Rattle.image.specs.Load.{storable}
+use Rattle.image.specs.Patches.{Slim}
 use Rattle.mbc.specs.Mbc.{after, answer}
+use Rattle.mbc.specs.declared.cartridge.Cartridge.{Cartridge}
 use Rattle.mbc.specs.declared.mbc.Answer.{Answer}
 use Rattle.mbc.specs.declared.mbc.Answer.the-variants.{Stored, NotStored}
-use Rattle.memory.specs.World.{World, world, Fixed, withOam, withUsed}
+use Rattle.mbc.specs.declared.mbc.Mapper.{Mapper}
+use Rattle.memory.proofs.Regions.{Within, within}
+use Rattle.memory.specs.Region.{regionOf}
+use Rattle.memory.specs.Start.{zeroed}
+use Rattle.memory.specs.World.{World, world, Fixed, withOam, withCore, withMapper, withUsed}
 use Rattle.memory.specs.declared.Memory.{Memory}
+use Rattle.memory.specs.declared.region.Region.{Region}
+use Rattle.memory.specs.declared.region.Region.the-variants.{Rom, Vram, Save, Wram, Oam, Page}
 use Rattle.mmu.proofs.Laws.{write-plain}
-use Rattle.mmu.proofs.Places.{put-rom, put-oam, put-register}
-use Rattle.mmu.specs.Access.{Holds, mapperPut, savedState, saved, savePut, inState, putAt, put}
-use Rattle.mmu.specs.PanDocs.{echo}
+use Rattle.mmu.proofs.Places.{put-by, put-register}
+use Rattle.mmu.specs.Access.{Holds, mapperPut, savedState, saved, savePut, inState, putIn, put}
 use Rattle.mmu.specs.Write.{writeAt}
 use Rattle.registers.proofs.Rest.{rest-write, sound-write, high-write}
 use Rattle.registers.specs.Page.{plainWrite, writeRegister}
@@ -28,7 +35,7 @@ use Rattle.registers.specs.State.{stored}
 use Rattle.rules.proofs.Tests.{by-cond, cond-both}
 use Rattle.savelog.specs.Log.{width, full}
 use Rattle.entry.specs.Entry.{left}
-use Rattle.quick_writes.specs.Writes.{quick, leftBy, ownPut}
+use Rattle.quick_writes.specs.Writes.{quick, leftBy, ownPut, pagePut}
 
 -- The page's quick indexes are the sound window and the bytes behind the registers
 
@@ -53,15 +60,11 @@ quick-page i q h =
 quick-other : (i k : ℕ) → quick i ≡ true → 0xFF40 ≤ k → k < 0xFF80 → i ≡ k → ⊥
 quick-other i k q a b e = ⊎-elim (λ s. omega (arith, s)) (λ s. omega (arith, s)) (quick-page i q (omega arith))
 
-echo-above : (index : ℕ) → 0xFE00 ≤ index → echo index ≡ index
-unfolding echo
-echo-above index h = rw (le-ltb index 0xE000 (omega arith), le-ltb index 0xFE00 h)
-
-pub quick-plain : (x : Fixed) (w : World) (d index v : ℕ) → quick (echo index) ≡ true → writeAt x d w index v ≡ put w index v
+pub quick-plain : (x : Fixed) (w : World) (d index v : ℕ) → quick index ≡ true → writeAt x d w index v ≡ put w index v
 quick-plain x w d index v q =
     write-plain x w d index v
-    (λ e. quick-other (echo index) 0xFF46 q (omega arith) (omega arith) (echo-above index (omega arith) ∙ e))
-    (λ e. quick-other (echo index) 0xFF55 q (omega arith) (omega arith) (echo-above index (omega arith) ∙ e))
+    (λ e. quick-other index 0xFF46 q (omega arith) (omega arith) e)
+    (λ e. quick-other index 0xFF55 q (omega arith) (omega arith) e)
 
 -- no register is named there
 module _ (m : Memory) (at v : ℕ) where
@@ -91,11 +94,11 @@ module _ (w : World) (t : Typed (w .state)) (i v : ℕ) (hv : v < 256) where
       typed-with (w .state) t (w .state .oam) (w .state .page) (w .state .core .joypad) (w .state .core .clock) (after (w .state .core .cartridge) (w .state .core .mapper) i v)
       (w .state .core .used) (t .oam) (t .page) (t .released) (t .state) (t .div)
 
-  saved-typed : (a : Answer) → TypedIn (saved a w)
+  saved-typed : (a : Answer) → TypedIn (saved a (inState w (mapperPut (w .state) i v)))
   saved-typed (Stored at b) =
-      typed-with (w .state) t (w .state .oam) (w .state .page) (w .state .core .joypad) (w .state .core .clock) (w .state .core .mapper) (w .state .core .used + width) (t .oam)
-      (t .page) (t .released) (t .state) (t .div)
-  saved-typed NotStored = t
+      typed-with (w .state) t (w .state .oam) (w .state .page) (w .state .core .joypad) (w .state .core .clock) (after (w .state .core .cartridge) (w .state .core .mapper) i v)
+      (w .state .core .used + width) (t .oam) (t .page) (t .released) (t .state) (t .div)
+  saved-typed NotStored = mapper-typed
 
   save-typed : TypedIn (savePut w i v)
   unfolding savePut
@@ -115,61 +118,77 @@ module _ (w : World) (t : Typed (w .state)) (i v : ℕ) (hv : v < 256) where
       (λ s. subst Typed (sym (behind-register (w .state) (i - 0xFF00) v (omega (arith, s)) (omega (arith, s)))) (stored-typed (i - 0xFF00)))
       (quick-page i q h)
 
-  put-at-typed : quick i ≡ true → TypedIn (putAt w i v)
-  unfolding putAt
-  put-at-typed q =
-      cond-both TypedIn (ltb i 0x8000) mapper-typed
-      (cond-both TypedIn (ltb i 0xA000) t
-      (cond-both TypedIn (ltb i 0xC000) save-typed
-      (cond-both TypedIn (ltb i 0xE000) t
-      (by-cond TypedIn (ltb i 0xFF00) _ _ (λ b. oam-typed) (λ b. register-typed q (ltb-false i 0xFF00 b))))))
+  put-in-typed : (r : Region) → Within r i → quick i ≡ true → TypedIn (putIn r w i v)
+  put-in-typed Rom b q = mapper-typed
+  put-in-typed Vram b q = t
+  put-in-typed Save b q = save-typed
+  put-in-typed Wram b q = t
+  put-in-typed Oam b q = oam-typed
+  put-in-typed Page b q = register-typed q b
 
-pub put-typed : (w : World) → Typed (w .state) → (index v : ℕ) → v < 256 → quick (echo index) ≡ true → Typed (put w index v .state)
-put-typed w t index v hv q = put-at-typed w t (echo index) v hv q
+pub put-typed : (w : World) → Typed (w .state) → (index v : ℕ) → v < 256 → quick index ≡ true → Typed (put w index v .state)
+put-typed w t index v hv q = put-in-typed w t index v hv (regionOf index) (within index refl) q
 
--- A byte of OAM or page in the image: what a write leaves, as the world with another state, and the image that it has
-pub record Own (w : World) (index i v : ℕ) : Type 0 where
+-- The mapper that a write in A000..BFFF leaves goes to the image: it is the one before or the one after
+module _ (w : World) (i v : ℕ) (a : Slim (w .state .core .mapper)) (b : Slim (after (w .state .core .cartridge) (w .state .core .mapper) i v)) where
+  saved-slim : (k : Answer) → Slim (saved k (inState w (mapperPut (w .state) i v)) .state .core .mapper)
+  saved-slim (Stored at u) = b
+  saved-slim NotStored = b
+
+  save-slim : Slim (savePut w i v .state .core .mapper)
+  unfolding savePut
+  save-slim =
+      cond-both (λ (u : World). Slim (u .state .core .mapper)) (full (length (w .log)) (w .state .core .used) 1) a
+      (saved-slim (answer (w .state .core .cartridge) (w .state .core .mapper) i v))
+
+pub mapping-slim : {c : Cartridge} {t : Mapper} {used : ℕ} (s l : List ℕ) (i v : ℕ) {p : Mapper} {u : ℕ} {y z : List ℕ}
+    → ((m : Memory) → m .core .cartridge ≡ c → m .core .mapper ≡ t → m .core .used ≡ used
+    → world (withUsed (withMapper m p) u) [] [] y z ≡ savePut (world m [] [] s l) i v)
+    → Slim t → Slim (after c t i v) → Slim p
+mapping-slim {c} {t} {used} s l i v n a b =
+    let k = zeroed .core in
+    let m : Memory = withCore zeroed
+    (record { banks = k .banks; lcd = k .lcd; hdma = k .hdma; joypad = k .joypad; clock = k .clock; cartridge = c; mapper = t; used = used }) in
+    subst Slim (sym (ap (λ (w : World). w .state .core .mapper) (n m refl refl refl))) (save-slim (world m [] [] s l) i v a b)
+
+-- A byte of OAM or page in the image: what a write leaves, as the world with another state, and that the image j is its
+pub record Own (w : World) (index v : ℕ) (j : List ℕ) : Type 0 where
   pub next : Memory
   pub same : inState w next ≡ put w index v
-  pub image : ownPut (imageOf (w .state)) i v ≡ imageOf next
+  pub image : j ≡ imageOf next
 
-module _ (w : World) (t : Typed (w .state)) (h : storable (w .state) ≡ true) (index i v : ℕ) (hv : v < 256) (e : i ≡ echo index) where
-  own-oam : 0xFE00 ≤ i → i < 0xFF00 → Own w index i v
-  unfolding ownPut
-  own-oam a l =
+module _ (w : World) (t : Typed (w .state)) (h : storable (w .state) ≡ true) (i v : ℕ) (hv : v < 256) where
+  pub own-oam : regionOf i ≡ Oam → Own w i v (ownPut (imageOf (w .state)) i v)
+  own-oam e =
+      let b = within i e in
       record {
         next = withOam (w .state) (set (w .state .oam) (i - 0xFE00) v);
-        same = put-oam w index i v e (omega arith) l refl;
-        image = rw (lt-ltb i 0xFF00 l) (sym (oam-image (w .state) t h (i - 0xFE00) v (omega arith) hv));
+        same = put-by w i v e refl;
+        image = sym (oam-image (w .state) t h (i - 0xFE00) v (omega (arith, b .0, b .1)) hv);
       }
 
-  own-sound : Sound i → Own w index i v
-  unfolding ownPut
-  own-sound s =
+  own-sound : regionOf i ≡ Page → Sound i → Own w i v (pagePut (imageOf (w .state)) i v)
+  unfolding pagePut
+  own-sound e s =
       let k = s .0 in
       let l = s .1 in
       record {
         next = w .state;
-        same = put-register w index i v e (omega arith) (sym (sound-register (w .state) (i - 0xFF00) v (omega arith) (omega arith)));
-        image = rw (le-ltb i 0xFF00 (omega arith), lt-ltb i 0xFF40 l);
+        same = put-register w i v e (sym (sound-register (w .state) (i - 0xFF00) v (omega arith) (omega arith)));
+        image = rw (lt-ltb i 0xFF40 l);
       }
 
-  own-behind : Behind i → Own w index i v
-  unfolding ownPut
-  own-behind s =
+  own-behind : regionOf i ≡ Page → Behind i → Own w i v (pagePut (imageOf (w .state)) i v)
+  unfolding pagePut
+  own-behind e s =
       let k = s .0 in
       let l = s .1 in
       let p : i - 0xFE00 ≡ 256 + (i - 0xFF00) = omega arith in
       record {
         next = stored (w .state) (i - 0xFF00) v;
-        same = put-register w index i v e (omega arith) (sym (behind-register (w .state) (i - 0xFF00) v (omega arith) (omega arith)));
-        image =
-            rw (le-ltb i 0xFF00 (omega arith), le-ltb i 0xFF40 (omega arith), p) (sym (page-image (w .state) t h (i - 0xFF00) v (omega arith) hv));
+        same = put-register w i v e (sym (behind-register (w .state) (i - 0xFF00) v (omega arith) (omega arith)));
+        image = rw (le-ltb i 0xFF40 (omega arith), p) (sym (page-image (w .state) t h (i - 0xFF00) v (omega arith) hv));
       }
 
-  own-by : (b : Bool) → ltb i 0xFF00 ≡ b → quick i ≡ true → 0xFE00 ≤ i → Own w index i v
-  own-by true f q a = own-oam a (ltb-true i 0xFF00 f)
-  own-by false f q a = ⊎-elim (λ s. own-sound s) (λ s. own-behind s) (quick-page i q (ltb-false i 0xFF00 f))
-
-  pub own-put : quick i ≡ true → 0xFE00 ≤ i → Own w index i v
-  own-put q a = own-by (ltb i 0xFF00) refl q a
+  pub own-page : quick i ≡ true → regionOf i ≡ Page → Own w i v (pagePut (imageOf (w .state)) i v)
+  own-page q e = ⊎-elim (λ s. own-sound e s) (λ s. own-behind e s) (quick-page i q (within i e))

@@ -17,6 +17,7 @@ use Rattle.dispatch.specs.declared.Call.the-variants as call
 use Rattle.image.proofs.LoadedPatches.{loaded-typed, loaded-storable, loaded-mapping}
 use Rattle.image.proofs.OpenLaws.{load-length, load-range, load-image, open-number, open-core}
 use Rattle.image.proofs.PatchLaws.{slim}
+use Rattle.image.proofs.StateLaws.{storable-state}
 use Rattle.image.proofs.Round.{state-back}
 use Rattle.image.specs.Laws.{Typed}
 use Rattle.image.specs.Layout.{imageLen, imageOf}
@@ -25,30 +26,41 @@ use Rattle.image.specs.Patches.{Slim, mappingPut}
 use Rattle.image.specs.declared.Loaded.{Loaded}
 use Rattle.image.specs.declared.Opened.{Opened}
 use Rattle.mbc.specs.Mbc.{inRange, ramLen, after}
-use Rattle.memory.specs.World.{World, world, Fixed, fixed, withUsed}
+use Rattle.mbc.specs.declared.mbc.Mapper.{Mapper}
+use Rattle.memory.proofs.Laws.{mapper-kept}
+use Rattle.memory.specs.Ranges as ranges
+use Rattle.memory.specs.Region.{regionOf}
+use Rattle.memory.specs.World.{World, world, Fixed, fixed, withMapper, withUsed}
 use Rattle.memory.specs.declared.Core.{Core}
 use Rattle.memory.specs.declared.Memory.{Memory}
+use Rattle.memory.specs.declared.region.Region.the-variants.{Rom, Vram, Save, Wram, Oam, Page}
 use Rattle.mmu.proofs.Laws.{Stays, put-stays}
 use Rattle.mmu.proofs.Places.{holds-mapper, holds-vram, holds-wram, put-rom, put-vram, put-save, put-wram}
 use Rattle.mmu.specs.Access.{Holds, mapperPut, savePut, inState, inVram, inWram, put}
-use Rattle.mmu.specs.PanDocs.{echo, vramAt, wramAt}
+use Rattle.mmu.specs.PanDocs.{vramAt, wramAt}
 use Rattle.mmu.specs.Write.{writeAt, wordAt}
 use Rattle.numbers.specs.Numbers.{done}
 use Rattle.packing.specs.Packing.{Below}
 use Rattle.refusals.proofs.Answers.{both-pass}
+use Rattle.rules.proofs.Tests.{both-true, by-cond}
 use Rattle.refusals.proofs.Core.{write-lent}
 use Rattle.refusals.specs.Refusal.{orElse, useRefused, lentRefused, writeRefused, refusedWrite, inSound, nextIndex, byteRoom, wordRoom, byteOwed, wordOwed}
-use Rattle.rules.proofs.Tests.{by-cond}
 use Rattle.savelog.specs.Log.{logLimit, useInRange}
 use Rattle.entry.specs.Entry.{Left, left, leftIn, encodedIn, worldEntry}
-use Rattle.quick_writes.specs.Writes.{quick, worldOf, Taken, leftBy, ownPut}
+use Rattle.quick_writes.specs.Writes.{quick, worldOf, Taken, leftBy, ownPut, pagePut}
 use Rattle.entry.proofs.Laws.{stays-storable, in-log}
-use Rattle.quick_writes.proofs.Quick.{quick-plain, put-typed, own-put}
+use Rattle.quick_writes.proofs.Quick.{quick-plain, put-typed, own-oam, own-page}
 
 -- the image and the memories of what a write leaves
 as-left : (w : World) (index b : ℕ) {u : World} {j : List ℕ} → u ≡ put w index b → j ≡ imageOf (u .state)
     → left 0 0 j (u .vram) (u .wram) (u .save) (u .log) ≡ leftBy (put w index b)
 as-left w index b e f = rw f (ap leftBy e)
+
+-- a write to the mapper, wherever it goes
+mapper-storable : (m : Memory) → storable m ≡ true → (index b : ℕ) → storable (mapperPut m index b) ≡ true
+unfolding storable ranges.inRange
+mapper-storable m h index b =
+    rw (mapper-kept m (storable-state m h) index b) (both-true (ranges.stateInRange m) (useInRange (m .core .used) logLimit) h .1)
 
 module _ {i v w s l : List ℕ} (t : Taken i v w s l) where
   taken-storable : storable (loadCall i .state) ≡ true
@@ -79,6 +91,9 @@ module _ {i v w s l : List ℕ} (t : Taken i v w s l) where
     pub taken-slim : Slim (c .mapper)
     taken-slim = rw e (slim (loadCall i .state) taken-storable)
 
+    pub after-slim : (k b : ℕ) → Slim (after (c .cartridge) (c .mapper) k b)
+    after-slim k b = rw e (slim (mapperPut (loadCall i .state) k b) (mapper-storable (loadCall i .state) taken-storable k b))
+
     pub taken-save : length s ≡ ramLen (c .cartridge) (c .mapper)
     taken-save = rw e (t .holds .save)
 
@@ -89,51 +104,50 @@ module _ {i v w s l : List ℕ} (t : Taken i v w s l) where
     taken-wram = rw e (holds-wram (t .holds))
 
     -- each region
-    module _ (index k b : ℕ) (q : k ≡ echo index) where
-      pub after-slim : k < 0x8000 → Slim (after (c .cartridge) (c .mapper) k b)
-      after-slim h = rw e (slim (mapperPut (loadCall i .state) k b) (left-storable index b (put-rom (worldOf i v w s l) index k b q h refl)))
-
-      pub left-rom : k < 0x8000 → {j : List ℕ} → j ≡ mappingPut i (after (c .cartridge) (c .mapper) k b) (c .used)
+    module _ (index b : ℕ) where
+      pub left-rom : regionOf index ≡ Rom → {j : List ℕ} → j ≡ mappingPut i (after (c .cartridge) (c .mapper) index b) (c .used)
           → left 0 0 j v w s l ≡ leftBy (put (worldOf i v w s l) index b)
-      left-rom h f =
+      left-rom q f =
           let m = loadCall i .state in
-          let p = put-rom (worldOf i v w s l) index k b q h refl in
+          let p = put-rom (worldOf i v w s l) index b q refl in
           as-left (worldOf i v w s l) index b p
           (f
-          ∙ ap (λ (d : Core). mappingPut i (after (d .cartridge) (d .mapper) k b) (d .used)) e
-          ∙ loaded-mapping i (t .bytes) (t .number) (after (m .core .cartridge) (m .core .mapper) k b) (m .core .used) (left-storable index b p))
+          ∙ ap (λ (d : Core). mappingPut i (after (d .cartridge) (d .mapper) index b) (d .used)) e
+          ∙ loaded-mapping i (t .bytes) (t .number) (after (m .core .cartridge) (m .core .mapper) index b) (m .core .used) (left-storable index b p))
 
-      pub left-vram : 0x8000 ≤ k → k < 0xA000 → {j : List ℕ} → j ≡ set v (vramAt (c .banks .vram) k) b
+      pub left-vram : regionOf index ≡ Vram → {j : List ℕ} → j ≡ set v (vramAt (c .banks .vram) index) b
           → left 0 0 i j w s l ≡ leftBy (put (worldOf i v w s l) index b)
-      left-vram g h f =
-          as-left (worldOf i v w s l) index b (put-vram (worldOf i v w s l) index k b q g h (f ∙ ap (λ (d : Core). set v (vramAt (d .banks .vram) k) b) e)) taken-image
+      left-vram q f =
+          as-left (worldOf i v w s l) index b (put-vram (worldOf i v w s l) index b q (f ∙ ap (λ (d : Core). set v (vramAt (d .banks .vram) index) b) e)) taken-image
 
-      pub left-save : 0xA000 ≤ k → k < 0xC000 → {r : ℕ} {j s' l' : List ℕ} → j ≡ mappingPut i (c .mapper) r
+      pub left-save : regionOf index ≡ Save → {p : Mapper} {r : ℕ} {j s' l' : List ℕ} → j ≡ mappingPut i p r
           → ((m : Memory) → m .core .cartridge ≡ c .cartridge → m .core .mapper ≡ c .mapper → m .core .used ≡ c .used
-          → world (withUsed m r) [] [] s' l' ≡ savePut (world m [] [] s l) k b)
+          → world (withUsed (withMapper m p) r) [] [] s' l' ≡ savePut (world m [] [] s l) index b)
           → left 0 0 j v w s' l' ≡ leftBy (put (worldOf i v w s l) index b)
-      left-save g h {r} f n =
+      left-save q {p} {r} f n =
           let m = loadCall i .state in
-          let p = put-save (worldOf i v w s l) index k b q g h
+          let y = put-save (worldOf i v w s l) index b q
           (n m (sym (ap (λ (d : Core). d .cartridge) e)) (sym (ap (λ (d : Core). d .mapper) e)) (sym (ap (λ (d : Core). d .used) e))) in
-          as-left (worldOf i v w s l) index b p
-          (f
-          ∙ ap (λ (d : Core). mappingPut i (d .mapper) r) e
-          ∙ loaded-mapping i (t .bytes) (t .number) (m .core .mapper) r (left-storable index b p))
+          as-left (worldOf i v w s l) index b y (f ∙ loaded-mapping i (t .bytes) (t .number) p r (left-storable index b y))
 
-      pub left-wram : 0xC000 ≤ k → k < 0xE000 → {j : List ℕ} → j ≡ set w (wramAt (c .banks .wram) k) b
+      pub left-wram : regionOf index ≡ Wram → {j : List ℕ} → j ≡ set w (wramAt (c .banks .wram) index) b
           → left 0 0 i v j s l ≡ leftBy (put (worldOf i v w s l) index b)
-      left-wram g h f =
-          as-left (worldOf i v w s l) index b (put-wram (worldOf i v w s l) index k b q g h (f ∙ ap (λ (d : Core). set w (wramAt (d .banks .wram) k) b) e)) taken-image
+      left-wram q f =
+          as-left (worldOf i v w s l) index b (put-wram (worldOf i v w s l) index b q (f ∙ ap (λ (d : Core). set w (wramAt (d .banks .wram) index) b) e)) taken-image
 
-      pub left-own : 0xFE00 ≤ k → quick k ≡ true → b < 256 → {j : List ℕ} → j ≡ ownPut i k b
+      pub left-oam : regionOf index ≡ Oam → b < 256 → {j : List ℕ} → j ≡ ownPut i index b → left 0 0 j v w s l ≡ leftBy (put (worldOf i v w s l) index b)
+      left-oam q z f =
+          let o = own-oam (worldOf i v w s l) taken-typed taken-storable index b z q in
+          as-left (worldOf i v w s l) index b (o .same) (f ∙ ap (λ (a : List ℕ). ownPut a index b) taken-image ∙ o .image)
+
+      pub left-page : regionOf index ≡ Page → quick index ≡ true → b < 256 → {j : List ℕ} → j ≡ pagePut i index b
           → left 0 0 j v w s l ≡ leftBy (put (worldOf i v w s l) index b)
-      left-own g y z f =
-          let o = own-put (worldOf i v w s l) taken-typed taken-storable index k b z q y g in
-          as-left (worldOf i v w s l) index b (o .same) (f ∙ ap (λ (a : List ℕ). ownPut a k b) taken-image ∙ o .image)
+      left-page q y z f =
+          let o = own-page (worldOf i v w s l) taken-typed taken-storable index b z y q in
+          as-left (worldOf i v w s l) index b (o .same) (f ∙ ap (λ (a : List ℕ). pagePut a index b) taken-image ∙ o .image)
 
   -- and the next write finds an image that is taken
-  pub taken-put : (index b : ℕ) → b < 256 → quick (echo index) ≡ true → {j v' w' s' l' : List ℕ}
+  pub taken-put : (index b : ℕ) → b < 256 → quick index ≡ true → {j v' w' s' l' : List ℕ}
       → left 0 0 j v' w' s' l' ≡ leftBy (put (worldOf i v w s l) index b)
       → Taken j v' w' s' l' × (worldOf j v' w' s' l' ≡ put (worldOf i v w s l) index b)
   taken-put index b z q e =
@@ -196,7 +210,7 @@ module _ (x : Fixed) (i v w s l : List ℕ) (below : Below 256 i) (c : Call) (ro
 
 -- bytes and words
 
-byte-call : (x : Fixed) (w : World) (index b : ℕ) → quick (echo index) ≡ true
+byte-call : (x : Fixed) (w : World) (index b : ℕ) → quick index ≡ true
     → step x w (call.WriteByte index b)
     ≡ unless (orElse (refusedWrite x w) (byteRoom (w .state .core .used) (length (w .log)) index)) w (outcome (byteOwed index) 0 (put w index b))
 unfolding step
@@ -206,7 +220,7 @@ byte-owed : (index : ℕ) → byteOwed index ≤ 1
 unfolding byteOwed
 byte-owed index = by-cond (λ (n : ℕ). n ≤ 1) (inSound index) 1 0 (λ t. omega arith) (λ f. omega arith)
 
-word-call : (x : Fixed) (w : World) (index b : ℕ) → quick (echo index) ≡ true → quick (echo (nextIndex index)) ≡ true
+word-call : (x : Fixed) (w : World) (index b : ℕ) → quick index ≡ true → quick (nextIndex index) ≡ true
     → step x w (call.WriteWord index b)
     ≡ unless (orElse (refusedWrite x w) (wordRoom (w .state .core .used) (length (w .log)) index)) w
     (outcome (wordOwed index) 0 (put (put w index (b % 256)) (nextIndex index) (b / 256)))
@@ -236,7 +250,7 @@ module _ (rom sound i v w s l : List ℕ) (below : Below 256 i) {o : Opened} (r 
         used = in-log (fixed rom sound) (worldOf i v w s l) (loaded-storable i below (d .0)) (d .1);
       }
 
-  module _ (index b : ℕ) (q : quick (echo index) ≡ true) (y : r ≡ byteRoom (o .core .used) (length l) index) where
+  module _ (index b : ℕ) (q : quick index ≡ true) (y : r ≡ byteRoom (o .core .used) (length l) index) where
     byte-number : n
         ≡ orElse (orElse (loadCall i .number) (refusedWrite (fixed rom sound) (worldOf i v w s l))) (byteRoom (loadCall i .state .core .used) (length l) index)
     byte-number = numbered (byteRoom (loadCall i .state .core .used) (length l) index) (y ∙ ap (λ (d : Core). byteRoom (d .used) (length l) index) (p .1))
@@ -253,7 +267,7 @@ module _ (rom sound i v w s l : List ℕ) (below : Below 256 i) {o : Opened} (r 
         (write-done (fixed rom sound) i v w s l below (call.WriteByte index b) (byteRoom (loadCall i .state .core .used) (length l) index) (byteOwed index)
         (put (worldOf i v w s l) index b) (byte-call (fixed rom sound) (worldOf i v w s l) index b q) byte-number z (byte-owed index) g)
 
-  module _ (index b : ℕ) (q : (quick (echo index) ≡ true) × (quick (echo (nextIndex index)) ≡ true)) (y : r ≡ wordRoom (o .core .used) (length l) index) where
+  module _ (index b : ℕ) (q : (quick index ≡ true) × (quick (nextIndex index) ≡ true)) (y : r ≡ wordRoom (o .core .used) (length l) index) where
     word-number : n
         ≡ orElse (orElse (loadCall i .number) (refusedWrite (fixed rom sound) (worldOf i v w s l))) (wordRoom (loadCall i .state .core .used) (length l) index)
     word-number = numbered (wordRoom (loadCall i .state .core .used) (length l) index) (y ∙ ap (λ (d : Core). wordRoom (d .used) (length l) index) (p .1))

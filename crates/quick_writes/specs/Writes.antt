@@ -15,7 +15,7 @@ use Rattle.packing.specs.Packing.{Below}
 use Rattle.savelog.specs.Log.{useInRange}
 use Rattle.entry.specs.Entry.{Left, leftIn}
 
--- an index, no echo, whose write changes nothing of the state but its mapper, its log use, or one byte of OAM or page: all but the registers
+-- an index whose write changes nothing of the state but its mapper, its log use, or one byte of OAM or page: all but the registers
 unfoldable pub quick : ℕ → Bool
 quick at = cond (ltb at 0xFF10) (ltb at 0xFF00) (cond (ltb at 0xFF40) true (cond (ltb at 0xFF80) false (ltb at 0xFFFF)))
 
@@ -34,6 +34,10 @@ pub record Taken (i v w s l : List ℕ) : Type 0 where
 abbrev pub leftBy : World → Left
 leftBy w = leftIn done 0 (imageOf (w .state)) w
 
--- OAM and page are the first 512 bytes of an image; a write to the sound window changes none
-unfoldable pub ownPut : List ℕ → ℕ → ℕ → List ℕ
-ownPut i at v = cond (ltb at 0xFF00) (set i (at - 0xFE00) v) (cond (ltb at 0xFF40) i (set i (at - 0xFE00) v))
+-- OAM and page are the first 512 bytes of an image
+abbrev pub ownPut : List ℕ → ℕ → ℕ → List ℕ
+ownPut i at v = set i (at - 0xFE00) v
+
+-- a quick write to the page: one to the sound window changes no byte
+unfoldable pub pagePut : List ℕ → ℕ → ℕ → List ℕ
+pagePut i at v = cond (ltb at 0xFF40) i (ownPut i at v)

@@ -10,34 +10,34 @@ ghost use Rattle.image.specs.Layout.{imageLen};
 ghost use Rattle.image.specs.Load.{loadCall};
 ghost use Rattle.image.specs.Patches.{Slim, mappingPut};
 ghost use Rattle.mbc.specs.Mbc.{inRange, ramLen, after};
-ghost use Rattle.memory.specs.World.{world, fixed, withUsed};
+ghost use Rattle.memory.specs.World.{world, fixed, withMapper, withUsed};
 ghost use Rattle.memory.specs.declared.Memory.{Memory};
 ghost use Rattle.mmu.specs.Access.{savePut, put};
-ghost use Rattle.mmu.specs.PanDocs.{echo};
 ghost use Rattle.refusals.specs.Refusal.{orElse, writeRefused, nextIndex};
 ghost use Rattle.savelog.specs.Log.{logLimit};
 ghost use Rattle.entry.specs.Entry.{left, worldEntry};
-ghost use Rattle.quick_writes.specs.Writes.{quick, worldOf, Taken, leftBy, ownPut};
+ghost use Rattle.quick_writes.specs.Writes.{quick, worldOf, Taken, leftBy, ownPut, pagePut};
 use dispatch::Call;
 use entry::on_bus;
 use image::Opened;
 use memory::Core;
+use memory::Region;
+use mmu::regions::Mapping;
 
 // Whether a write at an index is quick: all but those to a register.
 fn is_quick(index: u16) -> bool
-    ensures { λ r. ⌜ r ≡ quick (echo index) ⌝ }
+    ensures { λ r. ⌜ r ≡ quick index ⌝ }
 {
-    let at = mmu::regions::lowered(index);
-    if at < 0xFF10 {
-        return at < 0xFF00;
+    if index < 0xFF10 {
+        return index < 0xFF00;
     }
-    if at < 0xFF40 {
+    if index < 0xFF40 {
         return true;
     }
-    if at < 0xFF80 {
+    if index < 0xFF80 {
         return false;
     }
-    at < 0xFFFF
+    index < 0xFFFF
 }
 
 // Below 8000: the mapper's registers.
@@ -52,7 +52,7 @@ fn put_mapper(core: Core, image: &mut [u8], at: u16, value: u8)
     image::put_mapping(image, next, core.used);
 }
 
-// A000..BFFF: the save, its log, and the log's use, which it gives.
+// A000..BFFF: the save, its log, and the mapper with the log's use, which it gives.
 fn put_save(
     core: Core,
     image: &mut [u8],
@@ -60,31 +60,36 @@ fn put_save(
     log: &mut [u8],
     at: u16,
     value: u8,
-) -> u16
-    requires { ⌜ ((length (now image) ≡ imageLen) × Slim (core .mapper)) × (((0xA000 ≤ at) × (at < 0xC000)) × ((inRange (core .cartridge) (core .mapper) ≡ true) × ((length (now save) ≡ ramLen (core .cartridge) (core .mapper)) × (length (now log) ≤ logLimit)))) ⌝ }
-    ensures { λ r. ⌜ (now (image .exit) ≡ mappingPut (now (image .entry)) (core .mapper) r) × ((m : Memory) → m .core .cartridge ≡ core .cartridge → m .core .mapper ≡ core .mapper → m .core .used ≡ core .used → world (withUsed m r) [] [] (now (save .exit)) (now (log .exit)) ≡ savePut (world m [] [] (now (save .entry)) (now (log .entry))) at value) ⌝ }
+) -> Mapping
+    requires { ⌜ ((length (now image) ≡ imageLen) × (Slim (core .mapper) × Slim (after (core .cartridge) (core .mapper) at value))) × (((0xA000 ≤ at) × (at < 0xC000)) × ((inRange (core .cartridge) (core .mapper) ≡ true) × ((length (now save) ≡ ramLen (core .cartridge) (core .mapper)) × (length (now log) ≤ logLimit)))) ⌝ }
+    ensures { λ r. ⌜ (now (image .exit) ≡ mappingPut (now (image .entry)) (r .mapper) (r .used)) × ((m : Memory) → m .core .cartridge ≡ core .cartridge → m .core .mapper ≡ core .mapper → m .core .used ≡ core .used → world (withUsed (withMapper m (r .mapper)) (r .used)) [] [] (now (save .exit)) (now (log .exit)) ≡ savePut (world m [] [] (now (save .entry)) (now (log .entry))) at value) ⌝ }
 {
     let cartridge = core.cartridge;
     let mapper = core.mapper;
-    let used = mmu::regions::store_save(cartridge, mapper, core.used, save, log, at, value);
-    image::put_mapping(image, mapper, used);
-    used
+    let mapping = mmu::regions::store_save(cartridge, mapper, core.used, save, log, at, value);
+    let next = mapping.mapper;
+    image::put_mapping(image, next, mapping.used);
+    mapping
 }
 
-// FE00..FEFF and the page.
+// A byte of OAM or page.
 fn put_own(image: &mut [u8], at: u16, value: u8)
     requires { ⌜ (length (now image) ≡ imageLen) × (0xFE00 ≤ at) ⌝ }
     ensures { λ _. ⌜ now (image .exit) ≡ ownPut (now (image .entry)) at value ⌝ }
 {
     let i = (at - 0xFE00) as usize;
-    if at < 0xFF00 {
-        image[i] = value;
-        return;
-    }
+    image[i] = value;
+}
+
+// The page: the sound window, or a byte behind the registers.
+fn put_page(image: &mut [u8], at: u16, value: u8)
+    requires { ⌜ (length (now image) ≡ imageLen) × (0xFF00 ≤ at) ⌝ }
+    ensures { λ _. ⌜ now (image .exit) ≡ pagePut (now (image .entry)) at value ⌝ }
+{
     if at < 0xFF40 {
         return;
     }
-    image[i] = value;
+    put_own(image, at, value);
 }
 
 // A quick write that nothing refuses.
@@ -98,28 +103,20 @@ fn put_quick(
     index: u16,
     value: u8,
 )
-    requires { ⌜ Taken (now image) (now vram) (now wram) (now save) (now log) × ((core ≡ loadCall (now image) .state .core) × (quick (echo index) ≡ true)) ⌝ }
+    requires { ⌜ Taken (now image) (now vram) (now wram) (now save) (now log) × ((core ≡ loadCall (now image) .state .core) × (quick index ≡ true)) ⌝ }
     ensures { λ _. ⌜ left 0 0 (now (image .exit)) (now (vram .exit)) (now (wram .exit)) (now (save .exit)) (now (log .exit)) ≡ leftBy (put (worldOf (now (image .entry)) (now (vram .entry)) (now (wram .entry)) (now (save .entry)) (now (log .entry))) index value) ⌝ }
 {
-    let at = mmu::regions::lowered(index);
     let banks = core.banks;
-    if at < 0x8000 {
-        put_mapper(core, image, at, value);
-        return;
+    match memory::region_of(index) {
+        Region::Rom => put_mapper(core, image, index, value),
+        Region::Vram => mmu::regions::write_cgb_lcd_ram(vram, banks.vram, index, value),
+        Region::Save => {
+            put_save(core, image, save, log, index, value);
+        }
+        Region::Wram => mmu::regions::write_cgb_wram(wram, banks.wram, index, value),
+        Region::Oam => put_own(image, index, value),
+        Region::Page => put_page(image, index, value),
     }
-    if at < 0xA000 {
-        mmu::regions::write_cgb_lcd_ram(vram, banks.vram, at, value);
-        return;
-    }
-    if at < 0xC000 {
-        put_save(core, image, save, log, at, value);
-        return;
-    }
-    if at < 0xE000 {
-        mmu::regions::write_cgb_wram(wram, banks.wram, at, value);
-        return;
-    }
-    put_own(image, at, value);
 }
 
 // An image with the lengths of what is lent beside it.
@@ -159,7 +156,7 @@ fn write_quick(
     index: u16,
     value: u8,
 ) -> u8
-    requires { ⌜ quick (echo index) ≡ true ⌝ }
+    requires { ⌜ quick index ≡ true ⌝ }
     ensures { λ r. ⌜ left r 0 (now (image .exit)) (now (vram .exit)) (now (wram .exit)) (now (save .exit)) (now (log .exit)) ≡ worldEntry (fixed (now (rom .entry)) (now (sound .entry))) (now (image .entry)) (now (vram .entry)) (now (wram .entry)) (now (save .entry)) (now (log .entry)) (WriteByte index value) ⌝ }
 {
     let opened = open_lent(
@@ -221,7 +218,7 @@ fn put_again(
     index: u16,
     value: u8,
 )
-    requires { ⌜ Taken (now image) (now vram) (now wram) (now save) (now log) × (quick (echo index) ≡ true) ⌝ }
+    requires { ⌜ Taken (now image) (now vram) (now wram) (now save) (now log) × (quick index ≡ true) ⌝ }
     ensures { λ _. ⌜ left 0 0 (now (image .exit)) (now (vram .exit)) (now (wram .exit)) (now (save .exit)) (now (log .exit)) ≡ leftBy (put (worldOf (now (image .entry)) (now (vram .entry)) (now (wram .entry)) (now (save .entry)) (now (log .entry))) index value) ⌝ }
 {
     let opened = image::open(image);
@@ -240,7 +237,7 @@ fn put_both(
     index: u16,
     value: u16,
 )
-    requires { ⌜ Taken (now image) (now vram) (now wram) (now save) (now log) × ((core ≡ loadCall (now image) .state .core) × ((quick (echo index) ≡ true) × (quick (echo (nextIndex index)) ≡ true))) ⌝ }
+    requires { ⌜ Taken (now image) (now vram) (now wram) (now save) (now log) × ((core ≡ loadCall (now image) .state .core) × ((quick index ≡ true) × (quick (nextIndex index) ≡ true))) ⌝ }
     ensures { λ _. ⌜ left 0 0 (now (image .exit)) (now (vram .exit)) (now (wram .exit)) (now (save .exit)) (now (log .exit)) ≡ leftBy (put (put (worldOf (now (image .entry)) (now (vram .entry)) (now (wram .entry)) (now (save .entry)) (now (log .entry))) index (value % 256)) (nextIndex index) (value / 256)) ⌝ }
 {
     let low = (value % 256) as u8;
@@ -261,7 +258,7 @@ fn write_both(
     index: u16,
     value: u16,
 ) -> u8
-    requires { ⌜ (quick (echo index) ≡ true) × (quick (echo (nextIndex index)) ≡ true) ⌝ }
+    requires { ⌜ (quick index ≡ true) × (quick (nextIndex index) ≡ true) ⌝ }
     ensures { λ r. ⌜ left r 0 (now (image .exit)) (now (vram .exit)) (now (wram .exit)) (now (save .exit)) (now (log .exit)) ≡ worldEntry (fixed (now (rom .entry)) (now (sound .entry))) (now (image .entry)) (now (vram .entry)) (now (wram .entry)) (now (save .entry)) (now (log .entry)) (WriteWord index value) ⌝ }
 {
     let opened = open_lent(
@@ -285,7 +282,7 @@ fn write_both(
 
 // Whether both bytes of a word are quick.
 fn both_quick(index: u16) -> bool
-    ensures { λ r. ⌜ (r ≡ true → (quick (echo index) ≡ true) × (quick (echo (nextIndex index)) ≡ true)) ⌝ }
+    ensures { λ r. ⌜ (r ≡ true → (quick index ≡ true) × (quick (nextIndex index) ≡ true)) ⌝ }
 {
     if is_quick(index) {
         return is_quick(refusals::next_index(index));

@@ -8,7 +8,7 @@ lowered-requires : tie.Need-lowered-requires
 lowered-requires c κs = search needs
 
 put-mapper-requires : tie.Need-put-mapper-requires
-put-mapper-requires c κs = let P = c .before .before .before .before .before .before .before .before .before .pre in (taken-length (P .0), (c .before .if1 .taken, (taken-mapper (P .0) (P .1 .0), after-slim (P .0) (P .1 .0) _ _ _ (c .before .before .before .lowered .ensures .0) (c .before .if1 .taken))))
+put-mapper-requires c κs = let P = c .before .before .before .before .before .before .before .before .before .pre in (taken-length (P .0), (c .before .if1 .taken, (taken-mapper (P .0) (P .1 .0), after-slim (P .0) (P .1 .0) _ _)))
 
 same-length : tie.Need-same-length
 same-length c = search needs
@@ -26,7 +26,7 @@ returns-2 : tie.Need-returns-2
 returns-2 c = let P = c .before .before .before .before .before .before .before .before .before .before .before .before .before .pre in left-vram (P .0) (P .1 .0) _ _ _ (c .before .before .before .before .before .before .before .lowered .ensures .0) (c .before .before .before .before .before .if1 .left) (c .before .before .before .before .if2 .taken) (c .before .before .write-cgb-lcd-ram .ensures)
 
 put-save-requires : tie.Need-put-save-requires
-put-save-requires c κs = let P = c .before .before .before .before .before .before .before .before .before .before .before .before .before .pre in ((taken-length (P .0), taken-slim (P .0) (P .1 .0)), ((c .before .before .before .before .if2 .left, c .before .before .before .if3 .taken), (taken-mapper (P .0) (P .1 .0), (taken-save (P .0) (P .1 .0), P .0 .holds .log))))
+put-save-requires c κs = let P = c .before .before .before .before .before .before .before .before .before .before .before .before .before .pre in ((taken-length (P .0), (taken-slim (P .0) (P .1 .0), after-slim (P .0) (P .1 .0) _ _)), ((c .before .before .before .before .if2 .left, c .before .before .before .if3 .taken), (taken-mapper (P .0) (P .1 .0), (taken-save (P .0) (P .1 .0), P .0 .holds .log))))
 
 same-length-3 : tie.Need-same-length-3
 same-length-3 c = search needs
