@@ -1,41 +1,79 @@
--- One law for each place (`byte-lent` ..), at the index that `lowered` gives.
-use mathlib.Core.Path.{_∙_}
+-- By the region: one law for each place (`byte-oam` ..), and what `read_lent` gives.
+use mathlib.Core.Path.{sym, _∙_}
 use native.Mathlib.Omega.{arith}
 use Rattle.image.proofs.OpenLaws.{load-length}
-use Rattle.quick_reads.proofs.ReadLaws.{core-reaches, byte-lent, byte-oam, byte-page}
+use Rattle.memory.proofs.Regions.{within}
+use Rattle.mmu.proofs.Places.{lent-below}
+use Rattle.quick_reads.proofs.ReadLaws.{core-reaches, byte-oam, byte-page}
 use borrow.Author.Needs.{needs}
 use Rattle.quick_reads.proofs.byte_at.Statement.{statement}
 use Rattle.quick_reads.proofs.byte_at.Tie as tie
 
-lowered-requires : tie.Need-lowered-requires
-lowered-requires c κs = search needs
+region-of-requires : tie.Need-region-of-requires
+region-of-requires c κs = search needs
 
-read-lent-requires : tie.Need-read-lent-requires
-read-lent-requires c κs = (core-reaches _ _ _ _ _ (c .before .before .before .before .before .before .before .before .before .before .pre .0 .1) (c .before .before .before .before .before .before .before .before .before .before .pre .1), c .before .if1 .taken)
-
-returns : tie.Need-returns
-returns c = c .read-lent .ensures ∙ byte-lent _ _ _ _ _ (c .before .before .before .before .before .before .before .before .before .before .before .pre .0 .1) _ _ (c .before .before .before .before .lowered .ensures .0) (c .before .before .if1 .taken)
+enum-told : tie.Need-enum-told
+enum-told c = search needs
 
 sub-i : tie.Need-sub-i
-sub-i c = c .before .before .lowered .ensures .1 (c .if1 .left)
+sub-i c = within _ (sym (c .before .before .region-of .ensures) ∙ c .enum-told .given .1) .0
 
 cast-i : tie.Need-cast-i
 cast-i c = search needs
 
+shared-slice-read-result : tie.Need-shared-slice-read-result
+shared-slice-read-result c = let b = within _ (sym (c .before .before .before .region-of .ensures) ∙ c .before .enum-told .given .1) in omega (arith, b .0, b .1, load-length _ (c .before .before .before .before .before .before .before .before .before .before .pre .0 .0))
+
+enum-told-2 : tie.Need-enum-told-2
+enum-told-2 c = search needs
+
+sub-i-2 : tie.Need-sub-i-2
+sub-i-2 c = let b = within _ (sym (c .before .before .region-of .ensures) ∙ c .enum-told2 .given .1) in omega (arith, b)
+
+cast-i-2 : tie.Need-cast-i-2
+cast-i-2 c = search needs
+
 shared-slice-read-byte : tie.Need-shared-slice-read-byte
 shared-slice-read-byte c = omega (arith, load-length _ (c .before .before .before .before .before .before .before .before .before .before .pre .0 .0))
 
-returns-2 : tie.Need-returns-2
-returns-2 c = byte-oam _ _ _ _ _ (c .before .before .before .before .before .before .before .before .before .before .before .pre .0 .1) _ _ (c .before .before .before .before .lowered .ensures .0) (c .before .before .before .before .before .before .before .before .before .before .before .pre .0 .0) (λ k. c .before .before .before .before .before .before .before .before .before .before .shared-slice-known .given k .fits) (c .before .before .before .before .lowered .ensures .1 (c .before .before .if1 .left)) (c .if2 .taken)
+sub-shown : tie.Need-sub-shown
+sub-shown c = within _ (sym (c .before .before .before .before .before .before .region-of .ensures) ∙ c .before .before .before .before .enum-told2 .given .1)
 
 cast-shown : tie.Need-cast-shown
-cast-shown c = search needs
+cast-shown c = let b = within _ (sym (c .before .before .before .before .before .before .region-of .ensures) ∙ c .before .before .before .before .enum-told2 .given .1) in search (needs, b)
 
 shown-requires : tie.Need-shown-requires
 shown-requires c κs = search needs
 
+read-lent-requires : tie.Need-read-lent-requires
+read-lent-requires c κs = (core-reaches _ _ _ _ _ (c .before .before .before .before .before .before .before .before .pre .0 .1) (c .before .before .before .before .before .before .before .before .pre .1), (c .before .region-of .ensures, lent-below _ (sym (c .before .region-of .ensures)) (c .match .keys3)))
+
+returns : tie.Need-returns
+returns c = byte-oam _ _ _ _ _ (c .before .before .before .before .before .before .before .before .before .before .pre .0 .1) _ (c .before .before .before .before .before .before .before .before .before .before .pre .0 .0) (λ k. c .before .before .before .before .before .before .before .before .before .shared-slice-known .given k .fits) (sym (c .before .before .before .region-of .ensures) ∙ c .before .enum-told .given .1)
+
+returns-2 : tie.Need-returns-2
+returns-2 c = c .shown .ensures ∙ byte-page _ _ _ _ _ (c .before .before .before .before .before .before .before .before .before .before .before .before .before .before .pre .0 .1) _ (c .before .before .before .before .before .before .before .before .before .before .before .before .before .before .pre .0 .0) (λ k. c .before .before .before .before .before .before .before .before .before .before .before .before .before .shared-slice-known .given k .fits) (sym (c .before .before .before .before .before .before .before .region-of .ensures) ∙ c .before .before .before .before .before .enum-told2 .given .1) (omega arith)
+
 returns-3 : tie.Need-returns-3
-returns-3 c = c .shown .ensures ∙ byte-page _ _ _ _ _ (c .before .before .before .before .before .before .before .before .before .before .before .before .before .before .pre .0 .1) _ _ (c .before .before .before .before .before .before .before .lowered .ensures .0) (c .before .before .before .before .before .before .before .before .before .before .before .before .before .before .pre .0 .0) (λ k. c .before .before .before .before .before .before .before .before .before .before .before .before .before .shared-slice-known .given k .fits) (c .before .before .before .if2 .left) (omega arith)
+returns-3 c = c .read-lent .ensures _ _ (sym (c .before .before .before .before .before .before .before .before .before .pre .0 .1))
 
 pub byte-at-spec : {M : Type 1} → statement M
-byte-at-spec = tie.close (tie.spec lowered-requires read-lent-requires returns sub-i cast-i shared-slice-read-byte returns-2 cast-shown shown-requires returns-3)
+byte-at-spec =
+    tie.close
+    (tie.spec
+    region-of-requires
+    enum-told
+    sub-i
+    cast-i
+    shared-slice-read-result
+    enum-told-2
+    sub-i-2
+    cast-i-2
+    shared-slice-read-byte
+    sub-shown
+    cast-shown
+    shown-requires
+    read-lent-requires
+    returns
+    returns-2
+    returns-3)
