@@ -18,7 +18,7 @@
  * Rules for the host, which no call can check:
  *
  *   - Each pointer has as many bytes behind it as the length says. None is NULL, not even with length 0.
- *   - What is lent to one call does not overlap, results (`value`) too.
+ *   - What is lent to one call does not overlap, results (`value` and others that a call sets) too.
  *   - A bool is 0 or 1. In C++ and in C with <stdbool.h> it always is.
  *
  * All else is checked: any image, any length, any number is taken, and every call ends. The library has no memory of its own, allocates nothing and
@@ -103,6 +103,7 @@ enum pouch_kind {
 #define POUCH_SAVE_LEN_MBC2 512     /* Mbc2, RAM code 0 */
 #define POUCH_SOUND_LEN 48
 #define POUCH_LOG_LEN_MAX 65535
+#define POUCH_COLORS_LEN 192 /* red, green and blue of 64 colours */
 
 /* A log is records of 3 bytes, most significant bit first: a 1 bit, 15 bits of address in the save, 8 bits of value. */
 #define POUCH_RECORD_LEN 3
@@ -124,6 +125,11 @@ uint8_t pouch_log_used(const uint8_t *image, size_t image_len, uint16_t *value);
 /* Sets the log's use to 0; its bytes stay. The host has copied the used bytes off: what it did not copy cannot be recovered.
  * 0; 4, 3 image. */
 uint8_t pouch_clear_log(uint8_t *image, size_t image_len);
+
+/* Sets the log's use, for a host that goes on from an older image with the log that it has. It belongs to the log's bytes, which no image holds: take it
+ * by pouch_log_used from the image that is left. Where no such log is at hand, pouch_clear_log.
+ * 0; 4, 3 image; 3 used is not a multiple of POUCH_RECORD_LEN. */
+uint8_t pouch_set_log_used(uint8_t *image, size_t image_len, uint16_t used);
 
 /* Recovery: stores the log's records in the save, in order. Takes no image. Copies of a log that was cleared in between are given one by one, in order.
  * Last bytes that are no whole record are ignored.
@@ -237,6 +243,16 @@ uint8_t pouch_are_direction_keys_enabled(const uint8_t *image, size_t image_len,
 uint8_t pouch_host(
     uint8_t *image, size_t image_len, bool disabled, uint8_t line, uint8_t signal, uint8_t mode, int32_t delay, int32_t counter, int32_t aux,
     int32_t window);
+
+/* What pouch_host sets, as it stands now; `disabled` is 1 or 0. Refused, all are 0.
+ * 0; 4, 3 image. */
+uint8_t pouch_host_numbers(
+    const uint8_t *image, size_t image_len, uint8_t *disabled, uint8_t *line, uint8_t *signal, uint8_t *mode, int32_t *delay, int32_t *counter,
+    int32_t *aux, int32_t *window);
+
+/* The colours of the palettes, for drawing: red, green, blue of each, 0 to 31; colours 0 to 3 of the background's palettes 0 to 7, then the sprites'.
+ * 0; 4, 3 image; 4 colors_len is not POUCH_COLORS_LEN. */
+uint8_t pouch_colors(const uint8_t *image, size_t image_len, uint8_t *colors, size_t colors_len);
 
 /* What a write of `byte` does to FF40 (control), FF41 (status), FF44 (scan line), FF45 (the line to compare with).
  * 0; 4, 3 image. */

@@ -87,6 +87,8 @@ static void check_buttons(void)
 
 static void check_screen(void)
 {
+    uint8_t disabled = 0xEE, line = 0xEE, signal = 0xEE, mode = 0xEE;
+    int32_t delay = 0, counter = 0, aux = 0, window = 0;
     start_mbc1(false);
     IS(pouch_host(LEND(image), false, 0x12, 0x34, 0x56, -2, 0x11111111, 0x22222222, INT32_MIN), POUCH_DONE);
     IS(field(DISABLED, 1), 0);
@@ -97,12 +99,23 @@ static void check_screen(void)
     IS(field(COUNTER, 32), 0x11111111);
     IS(field(AUX, 32), 0x22222222);
     IS(field(WINDOW, 32), 0x80000000);
+    IS(pouch_host_numbers(LEND(image), &disabled, &line, &signal, &mode, &delay, &counter, &aux, &window), POUCH_DONE);
+    IS(disabled, 0);
+    IS(line, 0x12);
+    IS(signal, 0x34);
+    IS(mode, 0x56);
+    IS(delay, -2);
+    IS(counter, 0x11111111);
+    IS(aux, 0x22222222);
+    IS(window, INT32_MIN);
     IS(rd(0xFF44), 0x12);
     IS(pouch_store(LEND(image), 0xFF45, 0x12), POUCH_DONE);
     IS(pouch_compare_ly_to_lyc(LEND(image)), POUCH_DONE);
     IS(load(0xFF41) & 4, 4);
     IS(pouch_disable_screen(LEND(image)), POUCH_DONE);
     IS(field(DISABLED, 1), 1);
+    IS(pouch_host_numbers(LEND(image), &disabled, &line, &signal, &mode, &delay, &counter, &aux, &window), POUCH_DONE);
+    IS(disabled, 1);
     IS(field(SCAN_LINE, 8), 0);
     IS(pouch_enable_screen(LEND(image)), POUCH_DONE);
     IS(field(DELAY, 32), 244);
@@ -126,6 +139,24 @@ static void check_screen(void)
         IS(calls[i](LEND(image), 0x35), POUCH_DONE);
         IS(memcmp(by_write, image.at, image.len), 0);
     }
+}
+
+/* Each colour at its three bytes: the background's second and the sprites' last, and no others. */
+static void check_colors(void)
+{
+    uint8_t colors[POUCH_COLORS_LEN], wanted[POUCH_COLORS_LEN];
+    start_mbc1(true);
+    IS(pouch_colors(LEND(image), wanted, sizeof wanted), POUCH_DONE);
+    IS(wr(0xFF68, 0x82), POUCH_DONE);
+    IS(wr(0xFF69, 0xE2), POUCH_DONE);
+    IS(wr(0xFF69, 0x0F), POUCH_DONE);
+    IS(wr(0xFF6A, 0xBE), POUCH_DONE);
+    IS(wr(0xFF6B, 0x1F), POUCH_DONE);
+    IS(wr(0xFF6B, 0x7C), POUCH_DONE);
+    memcpy(wanted + 3, "\x02\x1F\x03", 3);
+    memcpy(wanted + POUCH_COLORS_LEN - 3, "\x1F\x00\x1F", 3);
+    IS(pouch_colors(LEND(image), colors, sizeof colors), POUCH_DONE);
+    IS(memcmp(colors, wanted, sizeof colors), 0);
 }
 
 static void check_blocks(void)
@@ -153,6 +184,16 @@ static void check_log(void)
     IS(ask(pouch_log_used), 0);
     IS(field(LOG_USE, 16), 0);
     IS(log_.at[0], 0x80);
+
+    /* an older image with the log as it is now */
+    uint8_t older[POUCH_IMAGE_LEN];
+    memcpy(older, image.at, image.len);
+    IS(wr(0xA002, 0x44), POUCH_DONE);
+    IS(wr(0xA003, 0x55), POUCH_DONE);
+    uint16_t used = ask(pouch_log_used);
+    IS(used, 2 * POUCH_RECORD_LEN);
+    IS(pouch_set_log_used(older, sizeof older, used), POUCH_DONE);
+    IS(memcmp(older, image.at, image.len), 0);
 }
 
 /* The corners that the bus's rules name, each from a fresh bus */
@@ -310,6 +351,7 @@ int main(void)
     check_interrupts();
     check_buttons();
     check_screen();
+    check_colors();
     check_blocks();
     check_log();
     check_timer_corners();

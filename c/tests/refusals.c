@@ -48,6 +48,29 @@ static uint8_t try_mapper_write(void)
     return number;
 }
 
+/* all eight numbers are set to 0 */
+static uint8_t try_host_numbers(void)
+{
+    uint8_t bytes[] = {0xEE, 0xEE, 0xEE, 0xEE};
+    int32_t counters[] = {-1, -1, -1, -1};
+    uint8_t number = pouch_host_numbers(
+        LEND(image), &bytes[0], &bytes[1], &bytes[2], &bytes[3], &counters[0], &counters[1], &counters[2], &counters[3]);
+    value = 0;
+    for (int i = 0; i < 4; i++)
+        value |= bytes[i] != 0 || counters[i] != 0;
+    return number;
+}
+
+/* the lent bytes stay */
+static uint8_t try_colors(void)
+{
+    uint8_t colors[POUCH_COLORS_LEN];
+    memset(colors, FILL, sizeof colors);
+    uint8_t number = pouch_colors(LEND(image), colors, sizeof colors);
+    value = !all_are(colors, sizeof colors, FILL);
+    return number;
+}
+
 #define ASKS(name, ...) static uint8_t try_##name(void) { value = 0xEEEE; return pouch_##name(__VA_ARGS__, &value); }
 #define DOES(name, ...) static uint8_t try_##name(void) { value = 0; return pouch_##name(__VA_ARGS__); }
 ASKS(read_word, READS, 0x0000)
@@ -78,6 +101,7 @@ DOES(press, LEND(image), POUCH_A)
 DOES(release, LEND(image), POUCH_A)
 DOES(update_joypad, LEND(image))
 DOES(clear_log, LEND(image))
+DOES(set_log_used, LEND(image), POUCH_RECORD_LEN)
 DOES(host, LEND(image), true, 1, 2, 3, 4, 5, 6, 7)
 
 static const struct entry {
@@ -92,7 +116,7 @@ static const struct entry {
     ENTRY(do_scanline_write, 0), ENTRY(do_lyc_write, 0), ENTRY(compare_ly_to_lyc, 0), ENTRY(enable_screen, 0), ENTRY(disable_screen, 0),
     ENTRY(reset_window_line, 0), ENTRY(get_interrupts, 0), ENTRY(request_interrupt, 0), ENTRY(remove_interrupt, 0), ENTRY(is_hdma_enabled, 0),
     ENTRY(update_timer, 0), ENTRY(press, 0), ENTRY(release, 0), ENTRY(update_joypad, 0), ENTRY(clear_log, 0), ENTRY(log_used, 0), ENTRY(host, 0),
-    ENTRY(mapper_read, ROM | SAVE), ENTRY(mapper_write, 0),
+    ENTRY(mapper_read, ROM | SAVE), ENTRY(mapper_write, 0), ENTRY(host_numbers, 0), ENTRY(colors, 0), ENTRY(set_log_used, 0),
 };
 
 /* The entry is refused by the number, gives 0 and changes nothing. */
@@ -243,6 +267,21 @@ static void check_numbers(void)
     REFUSED(wr(0xA000, 1), POUCH_NO_ROOM);
     IS(pouch_clear_log(LEND(image)), POUCH_DONE);
     IS(wr(0xA000, 1), POUCH_DONE);
+
+    /* 3: a use of the log that is no whole records */
+    start_mbc1(false);
+    REFUSED(pouch_set_log_used(LEND(image), 1), POUCH_OUT_OF_RANGE);
+    REFUSED(pouch_set_log_used(LEND(image), POUCH_LOG_LEN_MAX - 1), POUCH_OUT_OF_RANGE);
+    IS(pouch_set_log_used(LEND(image), POUCH_LOG_LEN_MAX), POUCH_DONE);
+    REFUSED(wr(0xC000, 1), POUCH_OUT_OF_RANGE); /* beyond the lent log */
+
+    /* 4: of the colours, into memory between guards; 3 before it */
+    start_mbc1(true);
+    REFUSED(pouch_colors(LEND(image), wram.at, POUCH_COLORS_LEN - 1), POUCH_WRONG_LENGTH);
+    REFUSED(pouch_colors(LEND(image), wram.at, POUCH_COLORS_LEN + 1), POUCH_WRONG_LENGTH);
+    REFUSED(pouch_colors(LEND(image), wram.at, 0), POUCH_WRONG_LENGTH);
+    memset(image.at, 0, image.len);
+    REFUSED(pouch_colors(LEND(image), wram.at, 0), POUCH_OUT_OF_RANGE);
 
     /* 5; 3 before it */
     start_mbc1(false);

@@ -62,6 +62,12 @@ entries! {
         value: &mut u16);
     fn pouch_recover(save: &mut [u8], log: &[u8];);
     fn pouch_log_used(image: &[u8]; value: &mut u16);
+    fn pouch_set_log_used(image: &mut [u8]; used: u16);
+
+    // src/screen.rt
+    fn pouch_host_numbers(image: &[u8]; disabled: &mut u8, line: &mut u8, signal: &mut u8, mode: &mut u8,
+        delay: &mut i32, counter: &mut i32, aux: &mut i32, window: &mut i32);
+    fn pouch_colors(image: &[u8], colors: &mut [u8];);
 
     // src/state.rt
     fn pouch_load(image: &[u8]; index: u16, value: &mut u16);

@@ -1,9 +1,10 @@
 use crate::cartridge::Cartridge;
 use crate::entries::*;
-use crate::image::{self, CGBColor, HostNumbers, Image, IMAGE_LEN};
+use crate::image::{CGBColor, HostNumbers, Image, COLORS_LEN, IMAGE_LEN};
 use crate::interrupt::Interrupt;
 use crate::joypad::Button;
 use crate::refusal::{done, outcome, Refusal, Written};
+use std::array;
 
 /// The longest log, in bytes: room for 21,845 records.
 pub const LONGEST_LOG: usize = 65535;
@@ -85,9 +86,7 @@ impl Memory {
 
     /// The log's used bytes: a record for each save byte stored since the last `take_log`.
     pub fn log(&self) -> &[u8] {
-        let mut used = 0;
-        done(pouch_log_used(&self.image, &mut used));
-        &self.log[..usize::from(used)]
+        &self.log[..usize::from(self.ask(pouch_log_used))]
     }
 
     /// Copies the log's used bytes off and clears the log. The host keeps them before anything else.
@@ -132,15 +131,28 @@ impl Memory {
     /// as it is now: it belongs to the log's bytes, which no image holds.
     pub fn set_image(&mut self, image: &Image) -> Result<(), Refusal> {
         outcome(pouch_read_byte(image, &self.rom, &self.vram, &self.wram, &self.save, &self.sound, 0, &mut 0))?;
-        let mut image = *image;
-        image::copy_log_use(&mut image, &self.image);
-        self.image = image;
+        let used = self.ask(pouch_log_used);
+        self.image = *image;
+        done(pouch_set_log_used(&mut self.image, used));
         Ok(())
     }
 
     /// The numbers of the screen.
     pub fn host_numbers(&self) -> HostNumbers {
-        image::host_numbers(&self.image)
+        let mut numbers = HostNumbers::default();
+        let mut disabled = 0;
+        done(pouch_host_numbers(
+            &self.image,
+            &mut disabled,
+            &mut numbers.scan_line,
+            &mut numbers.irq48_signal,
+            &mut numbers.lcd_status_mode,
+            &mut numbers.screen_enable_delay_cycles,
+            &mut numbers.cycles_counter,
+            &mut numbers.aux_cycles_counter,
+            &mut numbers.window_line,
+        ));
+        HostNumbers { screen_disabled: disabled == 1, ..numbers }
     }
 
     /// Sets them, to any values.
@@ -159,11 +171,21 @@ impl Memory {
     }
 
     pub fn cgb_background_palettes(&self) -> [[CGBColor; 4]; 8] {
-        image::palettes(&self.image, image::BACKGROUND)
+        let [background, _] = self.palettes();
+        background
     }
 
     pub fn cgb_sprite_palettes(&self) -> [[CGBColor; 4]; 8] {
-        image::palettes(&self.image, image::SPRITE)
+        let [_, sprites] = self.palettes();
+        sprites
+    }
+
+    /// The background's, then the sprites'.
+    fn palettes(&self) -> [[[CGBColor; 4]; 8]; 2] {
+        let mut colors = [0; COLORS_LEN];
+        done(pouch_colors(&self.image, &mut colors));
+        let mut colors = colors.chunks_exact(3).map(|color| CGBColor { red: color[0], green: color[1], blue: color[2] });
+        array::from_fn(|_| array::from_fn(|_| array::from_fn(|_| colors.next().unwrap())))
     }
 }
 

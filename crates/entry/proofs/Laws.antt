@@ -66,9 +66,12 @@ changed-storable : (k : ℕ) (m n : Memory) → storable m ≡ true → storable
 unfolding changed
 changed-storable k m n h e = by-cond (λ (d : Done). storable (d .memory) ≡ true) (eqb k 0) _ _ (λ t. e) (λ f. h)
 
-pub cleared : (m : Memory) → storable m ≡ true → storable (withUsed m 0) ≡ true
+pub used-storable : (m : Memory) → storable m ≡ true → (u : ℕ) → useInRange u logLimit ≡ true → storable (withUsed m u) ≡ true
+used-storable m h u e = joins (withUsed m u) (used-range m u ∙ parts m h .0) e
+
+cleared : (m : Memory) → storable m ≡ true → storable (withUsed m 0) ≡ true
 unfolding useInRange
-cleared m h = joins (withUsed m 0) (used-range m 0 ∙ parts m h .0) refl
+cleared m h = used-storable m h 0 refl
 
 answers-storable : {m : Memory} {k : Kind} {p : Performed} → Answers m k p → storable m ≡ true → storable (p .memory) ≡ true
 answers-storable (reads n v z) h = h

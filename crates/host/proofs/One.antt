@@ -3,7 +3,8 @@ use mathlib.Core.List.{List}
 use mathlib.Core.Path.{_≡_, ap, sym, _∙_}
 use Rattle.image.specs.Load.{Stored}
 use Rattle.entry.specs.Entry.{Changed, Given, Left, Fresh, Mapped}
-use Rattle.host.specs.One.{OneChanged, OneGiven, OneLeft, OneFresh, OneMapped, OneStored, OneEntry}
+use Rattle.entry.specs.Host.{Shown}
+use Rattle.host.specs.One.{OneChanged, OneGiven, OneLeft, OneFresh, OneMapped, OneShown, OneStored, OneEntry}
 
 -- two values that are both the same part of o
 part : {A B : Type 0} (f : A → B) {p q o : A} → p ≡ o → q ≡ o → f p ≡ f q
@@ -41,8 +42,21 @@ one-mapped o m n v w i j e g = (
   part (λ (r : Mapped). r .image) e g,
 )
 
+one-shown : OneShown
+one-shown o n d l s m n′ d′ l′ s′ m′ y c a w y′ c′ a′ w′ e g = (
+  part (λ (r : Shown). r .number) e g,
+  part (λ (r : Shown). r .disabled) e g,
+  part (λ (r : Shown). r .line) e g,
+  part (λ (r : Shown). r .signal) e g,
+  part (λ (r : Shown). r .mode) e g,
+  part (λ (r : Shown). r .delay) e g,
+  part (λ (r : Shown). r .counter) e g,
+  part (λ (r : Shown). r .aux) e g,
+  part (λ (r : Shown). r .window) e g,
+)
+
 one-stored : OneStored
 one-stored o m n i j e g = (part (λ (r : Stored). r .number) e g, part (λ (r : Stored). r .bytes) e g)
 
 pub one-entry : OneEntry
-one-entry = (one-changed, one-given, one-left, one-fresh, one-mapped, one-stored)
+one-entry = (one-changed, one-given, one-left, one-fresh, one-mapped, one-shown, one-stored)

@@ -3,8 +3,10 @@
 use mathlib.Core.List.{List}
 use mathlib.Core.Path.{_≡_}
 use Prim.Native.Nat.{ℕ}
+use lib.IntN.{ℤ}
 use Rattle.image.specs.Load.{Stored, stored}
 use Rattle.entry.specs.Entry.{Changed, changed, Given, given, Left, left, Fresh, fresh, Mapped, mapped}
+use Rattle.entry.specs.Host.{Shown, shown}
 
 abbrev pub OneChanged : Type 0
 OneChanged = (o : Changed) (m n : ℕ) (i j : List ℕ) → changed m i ≡ o → changed n j ≡ o → (m ≡ n) × (i ≡ j)
@@ -25,9 +27,14 @@ abbrev pub OneMapped : Type 0
 OneMapped =
     (o : Mapped) (m n v w : ℕ) (i j : List ℕ) → mapped m v i ≡ o → mapped n w j ≡ o → (m ≡ n) × (v ≡ w) × (i ≡ j)
 
--- the image's store
+abbrev pub OneShown : Type 0
+OneShown =
+    (o : Shown) (n d l s m n′ d′ l′ s′ m′ : ℕ) (y c a w y′ c′ a′ w′ : ℤ) → shown n d l s m y c a w ≡ o → shown n′ d′ l′ s′ m′ y′ c′ a′ w′ ≡ o
+    → (n ≡ n′) × (d ≡ d′) × (l ≡ l′) × (s ≡ s′) × (m ≡ m′) × (y ≡ y′) × (c ≡ c′) × (a ≡ a′) × (w ≡ w′)
+
+-- the colours, and the image's store
 abbrev pub OneStored : Type 0
 OneStored = (o : Stored) (m n : ℕ) (i j : List ℕ) → stored m i ≡ o → stored n j ≡ o → (m ≡ n) × (i ≡ j)
 
 abbrev pub OneEntry : Type 0
-OneEntry = OneChanged × OneGiven × OneLeft × OneFresh × OneMapped × OneStored
+OneEntry = OneChanged × OneGiven × OneLeft × OneFresh × OneMapped × OneShown × OneStored

@@ -6,7 +6,8 @@ ghost use Rattle.memory.specs.World.{fixed};
 ghost use Rattle.savelog.specs.Log.{outcome, recovery};
 ghost use lib.ListN.{length};
 ghost use Rattle.bus.specs.Fresh.{freshCall};
-ghost use Rattle.entry.specs.Entry.{given, readEntry, left, worldEntry, fresh, freshEntry, usedEntry};
+ghost use Rattle.entry.specs.Entry.{changed, given, readEntry, left, worldEntry, fresh, freshEntry, usedEntry};
+ghost use Rattle.entry.specs.Host.{useEntry};
 use dispatch::Call;
 use entry::on_bus;
 
@@ -194,4 +195,12 @@ pub extern "C" fn pouch_log_used(image: &[u8], value: &mut u16) -> u8
     let asked = quick_state::fields::log_used(image);
     *value = asked.value;
     asked.number
+}
+
+// The log's use set, for a host that goes on from an older image with the log it has.
+#[no_mangle]
+pub extern "C" fn pouch_set_log_used(image: &mut [u8], used: u16) -> u8
+    ensures { λ r. ⌜ changed r (now (image .exit)) ≡ useEntry (now (image .entry)) used ⌝ }
+{
+    quick_state::fields::set_log_used(image, used)
 }

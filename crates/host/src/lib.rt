@@ -4,6 +4,7 @@ ghost use Rattle.host.specs.One.{OneEntry};
 
 pub mod lent;
 pub mod mapper;
+pub mod screen;
 pub mod state;
 
 // That no second outcome fits a contract of these entries, as a contract: its proof hands the laws of specs/One.antt over.

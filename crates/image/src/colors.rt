@@ -8,7 +8,7 @@ ghost use Rattle.palette.specs.Palette.{colorsInRange};
 ghost use Rattle.image.specs.Layout.{channels};
 ghost use Rattle.image.specs.Load.{colorsOf};
 
-fn channels_of(colors: [Color; 32]) -> [u8; 96]
+pub fn channels_of(colors: [Color; 32]) -> [u8; 96]
     ensures { λ r. ⌜ r ≡ channels colors ⌝ }
 {
     let mut out = [0u8; 96];

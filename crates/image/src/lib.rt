@@ -14,6 +14,7 @@ mod colors;
 mod fields;
 mod layout;
 
+pub use colors::channels_of;
 pub use fields::banks_at;
 pub use fields::cartridge_at;
 pub use fields::clock_at;

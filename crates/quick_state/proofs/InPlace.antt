@@ -1,13 +1,13 @@
 -- A call on the state made on the image itself: what `open` gave is the number and the state without its arrays, the page's bytes are the image's,
 -- and the bytes that are put make the image of the changed state.
-use mathlib.Core.Bool.{Bool, true, false, cond}
+use mathlib.Core.Bool.{Bool, true, false, cond, not}
 use mathlib.Core.List.{List}
 use mathlib.Core.Path.{_≡_, refl, sym, ap, _∙_}
 use Prim.Native.Nat.{ℕ, _+_, _<_, _≤_}
 use native.Mathlib.Omega.{arith}
 use lib.ListN.{length, getD, set}
-use lib.Dec.{leb}
-use borrow.Author.Tests.{ne-eqb}
+use lib.Dec.{leb, eqb}
+use borrow.Author.Tests.{ne-eqb, eqb-true, eqb-false}
 use Rattle.dispatch.specs.Step.{stateStep, performed, performedDone, flagNumber, pendingNumber}
 use Rattle.dispatch.specs.declared.StateCall.{StateCall}
 use Rattle.dispatch.specs.declared.StateCall.the-variants as on
@@ -25,6 +25,7 @@ use Rattle.interrupt.specs.PanDocs.{firstOf}
 use Rattle.interrupt.specs.declared.Interrupt.{Interrupt}
 use Rattle.interrupt.specs.declared.Pending.{Pending}
 use Rattle.interrupt.specs.declared.Pending.the-variants.{Some, None}
+use Rattle.mbc.proofs.Bools.{by-cond}
 use Rattle.memory.proofs.Laws.{clock-range, range-clock}
 use Rattle.memory.specs.Ranges.{stateInRange, inRange}
 use Rattle.memory.specs.World.{withClock, withUsed}
@@ -36,7 +37,7 @@ use Rattle.refusals.proofs.Answers.{range-state}
 use Rattle.refusals.specs.Answers as answer
 use Rattle.refusals.specs.Refusal.{orElse, stateRefused, refusedState, cyclesRefused}
 use Rattle.registers.specs.State.{loaded, stored, timerOf, withTimer}
-use Rattle.rules.proofs.Tests.{both-true}
+use Rattle.rules.proofs.Tests.{both-true, denied, granted}
 use Rattle.savelog.specs.Log.{logLimit, useInRange, clearedUse}
 use Rattle.state_calls.specs.State.{onInterrupt}
 use Rattle.timer.proofs.Laws.{call-done, update-ready}
@@ -44,10 +45,11 @@ use Rattle.timer.specs.Promises.{Ready}
 use Rattle.timer.specs.Timer.{updated, updateCall}
 use Rattle.timer.specs.declared.Timer.{Timer}
 use Rattle.timer.specs.declared.Updated.{Updated}
-use Rattle.entry.specs.Entry.{changed, stateEntry, given, askEntry, usedEntry}
+use Rattle.entry.specs.Entry.{Changed, changed, stateEntry, given, askEntry, usedEntry}
+use Rattle.entry.specs.Host.{useEntry}
 use Rattle.quick_state.specs.InPlace.{timerIn, timerPut}
 use Rattle.entry.proofs.Entries.{unloaded-state, unloaded-ask, asked, refused-state, done-state}
-use Rattle.entry.proofs.Laws.{cleared}
+use Rattle.entry.proofs.Laws.{used-storable}
 
 -- The timer of a state, and the state with another
 
@@ -112,6 +114,10 @@ module _ (i : List ℕ) {o : Opened} (e : o ≡ openCall i) where
   module _ (h : o .number ≡ 0 → ⊥) where
     pub closed-state : (c : StateCall) → changed (o .number) i ≡ stateEntry i c
     closed-state c = rw (open-number i e) (unloaded-state i {d = loadCall i} refl (λ k. h (open-number i e ∙ k)) c)
+
+    pub closed-use : (u : ℕ) → changed (o .number) i ≡ useEntry i u
+    unfolding useEntry
+    closed-use u = rw (open-number i e, ne-eqb (loadCall i .number) 0 (λ k. h (open-number i e ∙ k)))
 
     pub closed-ask : (c : StateCall) → given (o .number) 0 ≡ askEntry i c
     closed-ask c = rw (open-number i e) (unloaded-ask i {d = loadCall i} refl (λ k. h (open-number i e ∙ k)) c)
@@ -228,9 +234,27 @@ module _ (i : List ℕ) {o : Opened} (opened : o ≡ openCall i) (taken : o .num
   pub mapper-slim : Slim (o .core .mapper)
   mapper-slim = rw mapper (slim state held)
 
-  pub log-cleared : {u : ℕ} → u ≡ clearedUse → {j : List ℕ} → j ≡ mappingPut i (o .core .mapper) u → changed 0 j ≡ stateEntry i on.ClearLog
+  -- the log's use set; to clear the log is to set it to 0
+  module _ (u : ℕ) {b : Bool} (e : b ≡ useInRange u logLimit) where
+    pub use-refused : not b ≡ true → changed 3 i ≡ useEntry i u
+    unfolding useEntry
+    use-refused h = rw (z, denied e h)
+
+    pub use-set : not b ≡ false → {j : List ℕ} → j ≡ mappingPut i (o .core .mapper) u → changed 0 j ≡ useEntry i u
+    unfolding useEntry
+    use-set h {j} g =
+        let t : useInRange u logLimit ≡ true = granted e h in
+        let q : j ≡ mappingPut (imageOf state) (state .core .mapper) u = rw (load-image i z below, ← mapper) g in
+        rw (z, t) (ap (changed 0) (q ∙ mapping-image state typed held (state .core .mapper) u (used-storable state held u t)))
+
+  cleared : changed 0 (imageOf (withUsed state 0)) ≡ stateEntry i on.ClearLog
   unfolding stateStep answer.changed
-  log-cleared e {j} g =
-      let q : j ≡ mappingPut (imageOf state) (state .core .mapper) 0 = rw (load-image i z below, ← mapper, ← e) g in
-      done-state i {d = loadCall i} refl z on.ClearLog {p = performed 0 0 (withUsed state 0)} (rw passes) (omega arith)
-      (q ∙ mapping-image state typed held (state .core .mapper) 0 (cleared state held))
+  cleared = done-state i {d = loadCall i} refl z on.ClearLog {p = performed 0 0 (withUsed state 0)} (rw passes) (omega arith) refl
+
+pub cleared-use : (i : List ℕ) → Below 256 i → {u : ℕ} → u ≡ clearedUse → useEntry i u ≡ stateEntry i on.ClearLog
+unfolding useEntry useInRange
+cleared-use i below e =
+    rw e
+    (by-cond (λ (r : Changed). r ≡ stateEntry i on.ClearLog) (eqb (loadCall i .number) 0) _ _
+    (λ t. cleared i {o = openCall i} refl (open-number i refl ∙ eqb-true (loadCall i .number) 0 t) below)
+    (λ f. unloaded-state i {d = loadCall i} refl (eqb-false (loadCall i .number) 0 f) on.ClearLog))

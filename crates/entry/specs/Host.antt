@@ -1,0 +1,58 @@
+-- What a host asks of an image and sets in it beside the calls of the bus: the parts of the state that its drawing and its log need (document 01, "Added
+-- by us besides: .. C boundary"). A refusal changes no lent byte and gives 0.
+use mathlib.Core.Bool.{cond}
+use mathlib.Core.List.{List, _++_}
+use Prim.Native.Nat.{ℕ}
+use lib.Dec.{eqb}
+use lib.IntN.{ℤ}
+use lib.ListN.{length}
+use Rattle.image.specs.Layout.{bit, channels, imageOf}
+use Rattle.image.specs.Load.{Stored, stored, loadCall}
+use Rattle.lcd.specs.declared.Lcd.{Lcd}
+use Rattle.memory.specs.World.{withUsed}
+use Rattle.numbers.specs.Numbers.{done, outOfRange, wrongLength}
+use Rattle.savelog.specs.Log.{logLimit, useInRange}
+use Rattle.entry.specs.Entry.{Changed, changed}
+
+-- The eight numbers that the host sets, screen disabled as 1 or 0; a refused image gives those of the all-zero state
+
+pub record Shown : Type 0 where
+  pub number : ℕ
+  pub disabled : ℕ
+  pub line : ℕ
+  pub signal : ℕ
+  pub mode : ℕ
+  pub delay : ℤ
+  pub counter : ℤ
+  pub aux : ℤ
+  pub window : ℤ
+
+abbrev pub shown : ℕ → ℕ → ℕ → ℕ → ℕ → ℤ → ℤ → ℤ → ℤ → Shown
+shown n d l s m y c a w =
+    record { number = n; disabled = d; line = l; signal = s; mode = m; delay = y; counter = c; aux = a; window = w }
+
+abbrev pub shownOf : ℕ → Lcd → Shown
+shownOf n l = shown n (bit (l .disabled)) (l .line) (l .signal) (l .mode) (l .delay) (l .counter) (l .aux) (l .window)
+
+abbrev pub numbersEntry : List ℕ → Shown
+numbersEntry i = shownOf (loadCall i .number) (loadCall i .state .core .lcd)
+
+-- All colours, into as many lent bytes: red, green, blue of the background's 32, then of the sprites'
+
+abbrev pub colorsLen : ℕ
+colorsLen = 192
+
+unfoldable pub colorsEntry : List ℕ → List ℕ → Stored
+colorsEntry i l =
+    cond (eqb (loadCall i .number) done)
+    (cond (eqb (length l) colorsLen) (stored done (channels (loadCall i .state .background) ++ channels (loadCall i .state .sprites)))
+    (stored wrongLength l))
+    (stored (loadCall i .number) l)
+
+-- The log's use, set to whole records within the longest log
+
+unfoldable pub useEntry : List ℕ → ℕ → Changed
+useEntry i u =
+    cond (eqb (loadCall i .number) done)
+    (cond (useInRange u logLimit) (changed done (imageOf (withUsed (loadCall i .state) u))) (changed outOfRange i))
+    (changed (loadCall i .number) i)
