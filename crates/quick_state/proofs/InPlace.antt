@@ -25,7 +25,7 @@ use Rattle.interrupt.specs.PanDocs.{firstOf}
 use Rattle.interrupt.specs.declared.Interrupt.{Interrupt}
 use Rattle.interrupt.specs.declared.Pending.{Pending}
 use Rattle.interrupt.specs.declared.Pending.the-variants.{Some, None}
-use Rattle.mbc.proofs.Bools.{by-cond}
+use Rattle.rules.proofs.Tests.{by-cond}
 use Rattle.memory.proofs.Laws.{clock-range, range-clock}
 use Rattle.memory.specs.Ranges.{stateInRange, inRange}
 use Rattle.memory.specs.World.{withClock, withUsed}
