@@ -13,14 +13,12 @@ use Rattle.dispatch.specs.declared.Call.{Call}
 use Rattle.dispatch.specs.declared.Call.the-variants as call
 use Rattle.image.proofs.PatchLaws.{below-set}
 use Rattle.joypad.specs.Joypad.{padRead, directionsAnswer}
-use Rattle.mbc.proofs.Laws.{stored-within}
-use Rattle.mbc.specs.Mbc.{source, ramSource, byteOf, readAt, answer}
+use Rattle.mbc.proofs.Laws.{read-below, stored-within}
+use Rattle.mbc.specs.Mbc.{readAt, answer}
 use Rattle.mbc.specs.declared.cartridge.Cartridge.{Cartridge}
 use Rattle.mbc.specs.declared.mbc.Answer.{Answer}
 use Rattle.mbc.specs.declared.mbc.Answer.the-variants.{Stored, NotStored}
 use Rattle.mbc.specs.declared.mbc.Mapper.{Mapper}
-use Rattle.mbc.specs.declared.mbc.Mapper.the-variants.{RomOnly, Mbc1, Mbc2}
-use Rattle.mbc.specs.declared.mbc.Source.{Source}
 use Rattle.memory.specs.Region.{regionOf}
 use Rattle.memory.specs.World.{World, Fixed}
 use Rattle.memory.specs.declared.Memory.{Memory}
@@ -50,18 +48,8 @@ pub record Whole (w : World) : Type 0 where
 -- What is read
 
 module _ (rom save : List ℕ) (r : Below 256 rom) (s : Below 256 save) where
-  abbrev Found : Source → Type 0
-  Found a = Byte (byteOf rom save a)
-
-  ram-byte : (c : Cartridge) (m : Mapper) (i : ℕ) → Found (ramSource c m i)
-  unfolding ramSource
-  ram-byte c RomOnly i = cond-both Found (eqb (c .code) 0) (lit< tt) (s _)
-  ram-byte c (Mbc1 m) i = cond-both Found (m .enabled) (s _) (lit< tt)
-  ram-byte c (Mbc2 m) i = cond-both Found (ltb i 0xA200) (cond-both Found (m .enabled) (omega arith) (lit< tt)) (lit< tt)
-
   mapped-byte : (c : Cartridge) (m : Mapper) (i : ℕ) → Byte (readAt c m rom save i)
-  unfolding source
-  mapped-byte c m i = cond-both Found (ltb i 0x4000) (r _) (cond-both Found (ltb i 0x8000) (r _) (ram-byte c m i))
+  mapped-byte c m i = read-below c m rom save i r s
 
 module _ {m : Memory} (f : Fine m) (sound : List ℕ) (b : Below 256 sound) where
   pad-byte : (at : ℕ) → Byte (padRead (loaded m at) (m .core .joypad .state))

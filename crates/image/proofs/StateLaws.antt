@@ -9,19 +9,19 @@ use lib.Dec.{eqb}
 use lib.ListN.{length, take}
 use mir.Syntax.{w32}
 use mir.Facts.{fits-ofZ}
-use borrow.Author.Tests.{eqb-true}
+use borrow.Author.Tests.{eqb-true, leb-true}
 use Rattle.rules.proofs.Tests.{both-true, or-cases}
 use Rattle.packing.specs.Packing.{Below, Fit, repacked, eights, fives}
 use Rattle.packing.proofs.Laws.{below-fit, fit-append}
 use Rattle.places.specs.Places.{number, setAll}
 use Rattle.places.proofs.Puts.{put-bytes}
+use Rattle.mbc.proofs.RegisterLaws.{registers-known}
 use Rattle.mbc.specs.Mbc as mbc
 use Rattle.mbc.specs.Mbc.{registersOf}
 use Rattle.mbc.proofs.Cases.{lawful}
 use Rattle.mbc.proofs.Ranges.{in-described, in-held}
 use Rattle.mbc.specs.declared.cartridge.Cartridge.{Cartridge}
 use Rattle.mbc.specs.declared.mbc.Mapper.{Mapper}
-use Rattle.mbc.specs.declared.mbc.Mapper.the-variants.{RomOnly, Mbc1, Mbc2}
 use Rattle.savelog.proofs.Use.{use-parts}
 use Rattle.savelog.specs.Log.{logLimit, useInRange}
 use Rattle.memory.specs.declared.Banks.{Banks}
@@ -88,9 +88,7 @@ head-fit m t h =
     )
 
 kind-lt : (m : Mapper) → registersOf m .kind < 4
-kind-lt RomOnly = omega arith
-kind-lt (Mbc1 m) = omega arith
-kind-lt (Mbc2 m) = omega arith
+kind-lt m = let h : registersOf m .kind ≤ mbc.kindMbc2 = leb-true (registersOf m .kind) mbc.kindMbc2 (registers-known m) in omega (arith, h)
 
 -- N to 128 has a logarithm to 7
 abbrev Low : List ℕ → Type 0

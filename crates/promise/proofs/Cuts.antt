@@ -8,11 +8,10 @@ use lib.Dec.{eqb}
 use lib.ListN.{length}
 use lib.Seq.{length-take-le}
 use Rattle.dispatch.proofs.Open.{Good, good-use}
-use Rattle.mbc.proofs.Laws.{stored-within, ram-len-after}
-use Rattle.mbc.specs.Mbc.{ramBanks, ramLen, mapped, answer}
+use Rattle.mbc.proofs.Laws.{by-ram-len, stored-within, ram-len-after}
+use Rattle.mbc.specs.Mbc.{ramLen, mapped, answer}
 use Rattle.mbc.specs.declared.cartridge.Cartridge.{Cartridge}
 use Rattle.mbc.specs.declared.mbc.Mapper.{Mapper}
-use Rattle.mbc.specs.declared.mbc.Mapper.the-variants.{RomOnly, Mbc1, Mbc2}
 use Rattle.mbc.specs.declared.mbc.Answer.{Answer}
 use Rattle.mbc.specs.declared.mbc.Answer.the-variants.{Stored, NotStored}
 use Rattle.memory.specs.World.{World}
@@ -87,17 +86,9 @@ granted-bytes (n ∷ ns) (c ∷ cs) t =
 
 -- A save's length is one that recovery takes
 
-banks-taken : (a b : Bool) → oneOf (cond a 1 (cond b 4 0) * 0x2000) saveLengths ≡ true
-unfolding oneOf saveLengths
-banks-taken true b = refl
-banks-taken false true = refl
-banks-taken false false = refl
-
 pub ram-taken : (c : Cartridge) (m : Mapper) → oneOf (ramLen c m) saveLengths ≡ true
-unfolding ramLen ramBanks oneOf saveLengths
-ram-taken c RomOnly = banks-taken (eqb (c .code) 2) (eqb (c .code) 3)
-ram-taken c (Mbc1 m) = banks-taken (eqb (c .code) 2) (eqb (c .code) 3)
-ram-taken c (Mbc2 m) = refl
+unfolding oneOf saveLengths
+ram-taken c m = by-ram-len (λ (n : ℕ). oneOf n saveLengths ≡ true) refl refl refl refl c m
 
 -- The copies are whole records, and short
 
