@@ -3,7 +3,7 @@ use mathlib.Core.Path.{_≡_}
 use mathlib.Core.Bool.{true}
 use mathlib.Core.Logic.{_⊎_}
 use Prim.Native.Nat.{ℕ, _<_, _≤_}
-use Rattle.mbc.specs.Mbc.{oneOf, powers, romLen, ramLen, described, inRange, behaviour, known, registersOf, mapperOf, ramSource, after}
+use Rattle.mbc.specs.Mbc.{oneOf, powers, ramLen, described, inRange, behaviour, known, registersOf, mapperOf, ramSource, after}
 use Rattle.mbc.specs.declared.cartridge.Cartridge.{Cartridge}
 use Rattle.mbc.specs.declared.mbc.Mapper.{Mapper}
 use Rattle.mbc.specs.declared.mbc.Source.{Source}
@@ -44,9 +44,9 @@ pub record Lawful (m : Mapper) : Type 0 where
   pub bits : (registersOf m .mode < 2) × (registersOf m .enabled < 2)
   -- a save is as long as the RAM code says, or 512 bytes
   pub owns : (behaviour m .ownRam ≡ 0) ⊎ (behaviour m .ownRam ≡ 512)
-  -- reads
+  -- reads; none at A000..BFFF is of the ROM
   pub whole : (c : Cartridge) (index : ℕ) → Whole (ramSource c m index)
-  pub within : (c : Cartridge) (index : ℕ) → inRange c m ≡ true → 0xA000 ≤ index → index < 0xC000 → Within (romLen c) (ramLen c m) (ramSource c m index)
+  pub within : (c : Cartridge) (index : ℕ) → inRange c m ≡ true → 0xA000 ≤ index → index < 0xC000 → Within 0 (ramLen c m) (ramSource c m index)
   -- writes
   pub kept : (c : Cartridge) (index value : ℕ) → 0x8000 ≤ index → after c m index value ≡ m
   pub own : (c : Cartridge) (index value : ℕ) → behaviour (after c m index value) .ownRam ≡ behaviour m .ownRam

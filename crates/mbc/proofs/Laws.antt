@@ -69,10 +69,7 @@ pub rom-write-stores-nothing : (c : Cartridge) (m : Mapper) (index value : ℕ) 
     → answer c m index value ≡ NotStored
 unfolding source
 rom-write-stores-nothing c m index value h =
-    by-cond (λ (s : Source). storedAt (ramLen c m) value s ≡ NotStored) (ltb index 0x4000) (Rom index)
-    (cond (ltb index 0x8000) (Rom (romAddress (romBank m) index)) (ramSource c m index))
-    (λ t. refl)
-    (λ f. rw (lt-ltb index 0x8000 h))
+    rw (lt-ltb index 0x8000 h)
 
 -- what a read gives
 

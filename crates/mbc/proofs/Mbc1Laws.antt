@@ -10,7 +10,7 @@ use lib.Dec.{eqb, ltb, leb, lit<}
 use borrow.Author.Tests.{ltb-true, leb-true, eqb-true, lt-ltb, le-ltb, le-leb, eq-eqb}
 use Rattle.rules.proofs.Tests.{by-cond}
 use Rattle.mbc.specs.PanDocs.{enables, mbc1Bank, twoBits, modeBit, masked, ramAddress}
-use Rattle.mbc.specs.Mbc.{oneOf, implies, hasBanks, hasCode, ramBanks, romLen, ramLen, described, held, held1, inRange, suits, ramBank1, ramSource, starting, from1, kindMbc1, withRom, withRam, withMode, withEnabled, withHigh, enable1, low1, high1, mode1, after1}
+use Rattle.mbc.specs.Mbc.{oneOf, implies, hasBanks, hasCode, ramBanks, ramLen, described, held, held1, inRange, suits, ramBank1, ramSource, starting, from1, kindMbc1, withRom, withRam, withMode, withEnabled, withHigh, enable1, low1, high1, mode1, after1}
 use Rattle.mbc.specs.declared.cartridge.Cartridge.{Cartridge}
 use Rattle.mbc.specs.declared.mbc1.Mbc1.{Mbc1 as Registers1}
 use Rattle.mbc.specs.declared.mbc.Mapper.the-variants.{Mbc1}
@@ -231,7 +231,7 @@ mbc1-lawful m =
       owns = inl refl;
       whole = λ c index. by-cond Whole (m .enabled) (Save (ramAddress (ramBank1 m) index)) (Fixed 0xFF) (λ on. tt) (λ off. lit< tt);
       within = λ c index e l h.
-          by-cond (Within (romLen c) (ramLen c (Mbc1 m))) (m .enabled) (Save (ramAddress (ramBank1 m) index)) (Fixed 0xFF)
+          by-cond (Within 0 (ramLen c (Mbc1 m))) (m .enabled) (Save (ramAddress (ramBank1 m) index)) (Fixed 0xFF)
           (λ on. omega (arith, ram-below c m e on)) (λ off. lit< tt);
       kept = λ c index value h. rw (keeps c m index value h);
       own = λ c index value. refl;

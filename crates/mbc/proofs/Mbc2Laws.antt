@@ -9,7 +9,7 @@ use lib.Dec.{eqb, ltb, lit<}
 use borrow.Author.Tests.{ltb-true, eqb-true, lt-ltb, le-ltb}
 use Rattle.rules.proofs.Tests.{by-cond}
 use Rattle.mbc.specs.PanDocs.{enables, mbc2Bank, bit8, masked, ramAddress}
-use Rattle.mbc.specs.Mbc.{hasBanks, romLen, ramLen, described, held, inRange, ramSource, starting, from2, enable2, select2, after2}
+use Rattle.mbc.specs.Mbc.{hasBanks, ramLen, described, held, inRange, ramSource, starting, from2, enable2, select2, after2}
 use Rattle.mbc.specs.declared.cartridge.Cartridge.{Cartridge}
 use Rattle.mbc.specs.declared.mbc2.Mbc2.{Mbc2 as Registers2}
 use Rattle.mbc.specs.declared.mbc.Mapper.the-variants.{Mbc2}
@@ -79,10 +79,10 @@ mbc2-lawful m =
           by-cond Whole (ltb index 0xA200) (cond (m .enabled) (Half (ramAddress 0 index)) (Fixed 0xFF)) (Fixed 0)
           (λ low. by-cond Whole (m .enabled) (Half (ramAddress 0 index)) (Fixed 0xFF) (λ on. tt) (λ off. lit< tt)) (λ high. lit< tt);
       within = λ c index e l h.
-          by-cond (Within (romLen c) (ramLen c (Mbc2 m))) (ltb index 0xA200) (cond (m .enabled) (Half (ramAddress 0 index)) (Fixed 0xFF)) (Fixed 0)
+          by-cond (Within 0 (ramLen c (Mbc2 m))) (ltb index 0xA200) (cond (m .enabled) (Half (ramAddress 0 index)) (Fixed 0xFF)) (Fixed 0)
           (λ low.
           let b = ltb-true index 0xA200 low in
-          by-cond (Within (romLen c) (ramLen c (Mbc2 m))) (m .enabled) (Half (ramAddress 0 index)) (Fixed 0xFF) (λ on. omega arith) (λ off. lit< tt))
+          by-cond (Within 0 (ramLen c (Mbc2 m))) (m .enabled) (Half (ramAddress 0 index)) (Fixed 0xFF) (λ on. omega arith) (λ off. lit< tt))
           (λ high. lit< tt);
       kept = λ c index value h. rw (keeps c m index value h);
       own = λ c index value. refl;

@@ -6,7 +6,7 @@ use native.Mathlib.Omega.{arith}
 use lib.Dec.{eqb, lit<}
 use Rattle.rules.proofs.Tests.{by-cond}
 use Rattle.mbc.specs.PanDocs.{ramAddress}
-use Rattle.mbc.specs.Mbc.{hasBanks, hasCode, described, held, inRange, romLen, ramLen, ramSource}
+use Rattle.mbc.specs.Mbc.{hasBanks, hasCode, described, held, inRange, ramLen, ramSource}
 use Rattle.mbc.specs.declared.cartridge.Cartridge.{Cartridge}
 use Rattle.mbc.specs.declared.mbc.Mapper.the-variants.{RomOnly}
 use Rattle.mbc.specs.declared.mbc.Source.the-variants.{Save, Fixed}
@@ -40,7 +40,7 @@ rom-only-lawful =
       owns = inl refl;
       whole = λ c index. by-cond Whole (eqb (c .code) 0) (Fixed 0xFF) (Save (ramAddress 0 index)) (λ z. lit< tt) (λ z. tt);
       within = λ c index e l h.
-          by-cond (Within (romLen c) (ramLen c RomOnly)) (eqb (c .code) 0) (Fixed 0xFF) (Save (ramAddress 0 index)) (λ z. lit< tt)
+          by-cond (Within 0 (ramLen c RomOnly)) (eqb (c .code) 0) (Fixed 0xFF) (Save (ramAddress 0 index)) (λ z. lit< tt)
           (λ z. omega (arith, some-ram (c .code) (has-ram c (in-code c e) z)));
       kept = λ c index value h. refl;
       own = λ c index value. refl;

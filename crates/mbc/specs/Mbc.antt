@@ -6,7 +6,7 @@ use Prim.Native.Nat.{ℕ, _*_}
 use lib.Dec.{eqb, ltb, leb}
 use lib.ListN.{length, getD}
 use Rattle.numbers.specs.Numbers.{done, outOfRange, wrongLength, outside}
-use Rattle.mbc.specs.PanDocs.{halfByte, romAddress}
+use Rattle.mbc.specs.PanDocs.{halfByte, romPlace}
 use Rattle.mbc.specs.Behaviour.{Behaviour}
 use Rattle.mbc.specs.declared.cartridge.Cartridge.{Cartridge}
 use Rattle.mbc.specs.declared.registers.Registers.{Registers}
@@ -91,10 +91,7 @@ ramSource c m index = behaviour m .ramSource c index
 
 -- Memory Map: the first bank, the bank that is selected, cartridge RAM
 unfoldable pub source : Cartridge → Mapper → ℕ → Source
-source c m index =
-    cond (ltb index 0x4000) (Rom index)
-    (cond (ltb index 0x8000) (Rom (romAddress (romBank m) index))
-    (ramSource c m index))
+source c m index = cond (ltb index 0x8000) (Rom (romPlace (romBank m) index)) (ramSource c m index)
 
 -- and then the byte
 abbrev pub byteOf : List ℕ → List ℕ → Source → ℕ

@@ -1,7 +1,7 @@
 -- What Pan Docs say of the mappers, in small pieces. specs/Mbc.antt puts them together, and says where the Rust departs from them.
 use mathlib.Core.Bool.{Bool, cond}
 use Prim.Native.Nat.{ℕ, _+_, _*_, _-_, _%_, _/_}
-use lib.Dec.{eqb}
+use lib.Dec.{eqb, ltb}
 
 -- MBC1, MBC2: the low four bits A enable the RAM, anything else disables it
 abbrev pub enables : ℕ → Bool
@@ -42,6 +42,10 @@ masked banks bank = bank % banks
 -- Memory Map: 4000-7FFF shows one ROM bank of 16,384 bytes
 abbrev pub romAddress : ℕ → ℕ → ℕ
 romAddress bank index = index - 0x4000 + bank * 0x4000
+
+-- Memory Map: 0000-3FFF shows the first bank
+unfoldable pub romPlace : ℕ → ℕ → ℕ
+romPlace bank index = cond (ltb index 0x4000) index (romAddress bank index)
 
 -- Memory Map: A000-BFFF shows one RAM bank of 8,192 bytes
 abbrev pub ramAddress : ℕ → ℕ → ℕ

@@ -16,6 +16,7 @@ pub use mbc::Source;
 pub use mbc::WriteByte;
 pub use mbc::Written;
 pub use mbc::is_mapped;
+pub use mbc::rom_place;
 pub use mbc1::Mbc1;
 pub use mbc2::Mbc2;
 pub use registers::Registers;

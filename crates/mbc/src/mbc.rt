@@ -8,10 +8,11 @@ use crate::registers::Registers;
 use crate::rom_only;
 ghost use mathlib.Core.Path.{_≡_};
 ghost use mathlib.Core.Bool.{true};
-ghost use Prim.Native.Nat.{_≤_};
+ghost use mathlib.Core.List.{[]};
+ghost use Prim.Native.Nat.{_<_, _≤_};
 ghost use lib.ListN.{length};
-ghost use Rattle.mbc.specs.PanDocs.{romAddress, ramAddress};
-ghost use Rattle.mbc.specs.Mbc.{romLen, ramLen, inRange, behaviour, mapperOf, registersOf, mapped, start, ramSource, source, readAt, storedAt, after, written, fresh, lengths, readAs, readByte, writeByte};
+ghost use Rattle.mbc.specs.PanDocs.{romAddress, romPlace, ramAddress};
+ghost use Rattle.mbc.specs.Mbc.{romLen, ramLen, inRange, behaviour, mapperOf, registersOf, mapped, start, ramSource, source, byteOf, readAt, storedAt, after, written, fresh, lengths, readAs, readByte, writeByte};
 
 // Kinds are the state image's: each mapper's file has its own.
 pub enum Mapper {
@@ -78,6 +79,16 @@ pub fn rom_address(bank: u16, index: u16) -> usize
     ensures { λ r. ⌜ r ≡ romAddress bank index ⌝ }
 {
     (index - 0x4000) as usize + bank as usize * 0x4000
+}
+
+// The address in ROM of a place in 0000..7FFF: 0000..3FFF is the first bank.
+pub fn rom_place(bank: u16, index: u16) -> usize
+    ensures { λ r. ⌜ r ≡ romPlace bank index ⌝ }
+{
+    if index < 0x4000 {
+        return index as usize;
+    }
+    rom_address(bank, index)
 }
 
 // The address in RAM of a place in A000..BFFF.
@@ -211,12 +222,9 @@ impl Mapper {
         requires { ⌜ mapped index ≡ true ⌝ }
         ensures { λ r. ⌜ r ≡ source cartridge self index ⌝ }
     {
-        if index < 0x4000 {
-            return Source::Rom(index as usize);
-        }
         if index < 0x8000 {
             let held = self.registers();
-            return Source::Rom(rom_address(held.rom, index));
+            return Source::Rom(rom_place(held.rom, index));
         }
         self.ram_source(cartridge, index)
     }
@@ -233,17 +241,29 @@ impl Mapper {
         }
     }
 
+    // A000..BFFF, for the bus, as `read`.
+    pub fn read_ram(self, cartridge: Cartridge, save: &[u8], index: u16) -> u8
+        requires { ⌜ (inRange cartridge self ≡ true) × (((0xA000 ≤ index) × (index < 0xC000)) × (length (now save) ≡ ramLen cartridge self)) ⌝ }
+        ensures { λ r. ⌜ r ≡ byteOf [] (now (save .entry)) (ramSource cartridge self index) ⌝ }
+    {
+        match self.ram_source(cartridge, index) {
+            Source::Rom(_) => 0,
+            Source::Save(at) => save[at],
+            Source::Half(at) => save[at] % 16,
+            Source::Fixed(byte) => byte,
+        }
+    }
+
     // For the bus, which has tested the state, the lengths and the index.
     pub fn read(self, cartridge: Cartridge, rom: &[u8], save: &[u8], index: u16) -> u8
         requires { ⌜ (inRange cartridge self ≡ true) × ((mapped index ≡ true) × ((length (now rom) ≡ romLen cartridge) × (length (now save) ≡ ramLen cartridge self))) ⌝ }
         ensures { λ r. ⌜ r ≡ readAt cartridge self (now (rom .entry)) (now (save .entry)) index ⌝ }
     {
-        match self.source(cartridge, index) {
-            Source::Rom(at) => rom[at],
-            Source::Save(at) => save[at],
-            Source::Half(at) => save[at] % 16,
-            Source::Fixed(byte) => byte,
+        if index < 0x8000 {
+            let held = self.registers();
+            return rom[rom_place(held.rom, index)];
         }
+        self.read_ram(cartridge, save, index)
     }
 
     // For the bus, which has tested the state and the index, and stores what is answered.

@@ -1,62 +1,41 @@
--- By the source's case. The address lies in its memory, by the law of sources.
+-- ROM at its place, which lies in it; all else is the save's.
 use native.Mathlib.Omega.{arith}
-use Rattle.mbc.proofs.Sources.{within}
+use mathlib.Core.Path.{_∙_}
+use Rattle.mbc.proofs.Places.{in-ram}
+use Rattle.mbc.proofs.Sources.{in-rom, rom-within, ram-read}
 use borrow.Author.Needs.{needs}
 use Rattle.mbc.proofs.mbc.Mapper.read.Statement.{statement}
 use Rattle.mbc.proofs.mbc.Mapper.read.Tie as tie
 
-source-requires : tie.Need-source-requires
-source-requires c κs = search needs
+registers-requires : tie.Need-registers-requires
+registers-requires c κs = search needs
 
-enum-known-at : tie.Need-enum-known-at
-enum-known-at c = search needs
+rom-place-requires : tie.Need-rom-place-requires
+rom-place-requires c κs = search needs
 
 shared-slice-read-result : tie.Need-shared-slice-read-result
-shared-slice-read-result c = let w = within _ _ _ (c .before .before .before .before .before .before .before .pre .0) (c .before .before .before .before .before .before .before .pre .1 .0) in
-    omega (arith, rw (← c .before .before .before .before .source .ensures, c .before .before .at .given .1) at w, c .before .before .before .before .before .before .before .pre .1 .1 .0)
-
-enum-known-at-2 : tie.Need-enum-known-at-2
-enum-known-at-2 c = search needs
-
-shared-slice-read-result-2 : tie.Need-shared-slice-read-result-2
-shared-slice-read-result-2 c = let w = within _ _ _ (c .before .before .before .before .before .before .before .pre .0) (c .before .before .before .before .before .before .before .pre .1 .0) in
-    omega (arith, rw (← c .before .before .before .before .source .ensures, c .before .before .at2 .given .1) at w, c .before .before .before .before .before .before .before .pre .1 .1 .1)
-
-enum-known-at-3 : tie.Need-enum-known-at-3
-enum-known-at-3 c = search needs
-
-shared-slice-read-result-3 : tie.Need-shared-slice-read-result-3
-shared-slice-read-result-3 c = let w = within _ _ _ (c .before .before .before .before .before .before .before .pre .0) (c .before .before .before .before .before .before .before .pre .1 .0) in
-    omega (arith, rw (← c .before .before .before .before .source .ensures, c .before .before .at3 .given .1) at w, c .before .before .before .before .before .before .before .pre .1 .1 .1)
-
-enum-known-byte : tie.Need-enum-known-byte
-enum-known-byte c = search needs
+shared-slice-read-result c =
+    let p = c .before .rom-place .ensures in
+    omega (arith, rw (c .before .before .registers .ensures) at p, rom-within _ _ _ (c .before .before .before .before .before .before .pre .0) (c .before .before .before .if1 .taken), c .before .before .before .before .before .before .pre .1 .1 .0)
 
 returns : tie.Need-returns
-returns c = rw (← c .before .before .before .before .source .ensures, c .before .before .at .given .1)
+returns c = rw (in-rom _ _ _ (c .before .before .before .if1 .taken), c .before .rom-place .ensures, c .before .before .registers .ensures)
+
+read-ram-requires : tie.Need-read-ram-requires
+read-ram-requires c κs = (c .before .before .before .pre .0, (in-ram _ (c .before .before .before .pre .1 .0) (c .if1 .left), c .before .before .before .pre .1 .1 .1))
 
 returns-2 : tie.Need-returns-2
-returns-2 c = rw (← c .before .before .before .before .source .ensures, c .before .before .at2 .given .1)
-
-returns-3 : tie.Need-returns-3
-returns-3 c = rw (← c .before .before .before .before .source .ensures, c .before .before .at3 .given .1)
-
-returns-4 : tie.Need-returns-4
-returns-4 c = rw (← c .before .before .before .source .ensures, c .before .byte .given .1)
+returns-2 c =
+    let r = in-ram _ (c .before .before .before .before .pre .1 .0) (c .before .if1 .left) in
+    c .read-ram .ensures ∙ ram-read _ _ _ (c .before .before .before .before .pre .0) (r .0) (r .1) _ _
 
 pub read-spec : {M : Type 1} → statement M
 read-spec =
     tie.close
     (tie.spec
-    source-requires
-    enum-known-at
+    registers-requires
+    rom-place-requires
     shared-slice-read-result
-    enum-known-at-2
-    shared-slice-read-result-2
-    enum-known-at-3
-    shared-slice-read-result-3
-    enum-known-byte
     returns
-    returns-2
-    returns-3
-    returns-4)
+    read-ram-requires
+    returns-2)
