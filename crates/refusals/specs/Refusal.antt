@@ -4,6 +4,8 @@ use Prim.Native.Nat.{ℕ, _+_, _%_}
 use lib.Dec.{eqb, ltb, leb}
 use lib.ListN.{length}
 use Rattle.mbc.specs.Mbc.{romLen, ramLen}
+use Rattle.mbc.specs.declared.cartridge.Cartridge.{Cartridge}
+use Rattle.mbc.specs.declared.mbc.Mapper.{Mapper}
 use Rattle.memory.specs.Ranges.{inRange, vramLen, wramLen, soundLen}
 use Rattle.memory.specs.Region.{regionOf}
 use Rattle.memory.specs.World.{World, Fixed}
@@ -30,13 +32,14 @@ refusedState m = stateRefused m logLimit
 unfoldable pub useRefused : ℕ → ℕ → ℕ
 useRefused used log = cond (useInRange used log) done outOfRange
 
--- 4: a lent length other than the state asks for
+-- 4: a lent length other than the state asks for, by the machine's kind, the cartridge and its mapper
+abbrev pub lengthsAre : Bool → Cartridge → Mapper → ℕ → ℕ → ℕ → ℕ → ℕ → Bool
+lengthsAre colour cartridge mapper rom vram wram save sound =
+    eqb rom (romLen cartridge)
+    && (eqb vram (vramLen colour) && (eqb wram (wramLen colour) && (eqb save (ramLen cartridge mapper) && eqb sound soundLen)))
+
 unfoldable pub lengthsFit : Core → ℕ → ℕ → ℕ → ℕ → ℕ → Bool
-lengthsFit c rom vram wram save sound =
-    eqb rom (romLen (c .cartridge))
-    && (eqb vram (vramLen (c .banks .colour))
-    && (eqb wram (wramLen (c .banks .colour))
-    && (eqb save (ramLen (c .cartridge) (c .mapper)) && eqb sound soundLen)))
+lengthsFit c rom vram wram save sound = lengthsAre (c .banks .colour) (c .cartridge) (c .mapper) rom vram wram save sound
 
 unfoldable pub lengthsRefused : Core → ℕ → ℕ → ℕ → ℕ → ℕ → ℕ
 lengthsRefused c rom vram wram save sound = cond (lengthsFit c rom vram wram save sound) done wrongLength

@@ -1,7 +1,9 @@
 // What a call answers; when it is refused, and by which number. Lengths come as numbers, so that a call asks before it touches what is lent.
 ghost use mathlib.Core.Path.{_≡_};
-ghost use Rattle.refusals.specs.Refusal.{orElse, stateRefused, refusedState, useRefused, lengthsFit, lengthsRefused, logRefused, lentRefused, readRefused, writeRefused, inSave, inSound, nextIndex, eitherInSave, byteRoom, wordRoom, byteOwed, wordOwed, rawRefused, cyclesRefused, vramLengthRefused, hasBank, vramRefused};
+ghost use Rattle.refusals.specs.Refusal.{orElse, stateRefused, refusedState, useRefused, lengthsAre, lengthsFit, lengthsRefused, logRefused, lentRefused, readRefused, writeRefused, inSave, inSound, nextIndex, eitherInSave, byteRoom, wordRoom, byteOwed, wordOwed, rawRefused, cyclesRefused, vramLengthRefused, hasBank, vramRefused};
 use interrupt::Pending;
+use mbc::Cartridge;
+use mbc::Mapper;
 use memory::Core;
 use memory::Memory;
 use memory::Region;
@@ -80,25 +82,50 @@ pub fn use_refused(used: u16, log: usize) -> u8
     numbers::OUT_OF_RANGE
 }
 
-fn lengths_fit(core: Core, rom: usize, vram: usize, wram: usize, save: usize, sound: usize) -> bool
-    ensures { λ r. ⌜ r ≡ lengthsFit core rom vram wram save sound ⌝ }
+// The lent lengths, by what they follow.
+pub fn lengths_are(
+    colour: bool,
+    cartridge: Cartridge,
+    mapper: Mapper,
+    rom: usize,
+    vram: usize,
+    wram: usize,
+    save: usize,
+    sound: usize,
+) -> bool
+    ensures { λ r. ⌜ r ≡ lengthsAre colour cartridge mapper rom vram wram save sound ⌝ }
 {
-    let cartridge = core.cartridge;
-    let mapper = core.mapper;
-    let banks = core.banks;
     if rom != cartridge.rom_len() {
         return false;
     }
-    if vram != memory::vram_len(banks.colour) {
+    if vram != memory::vram_len(colour) {
         return false;
     }
-    if wram != memory::wram_len(banks.colour) {
+    if wram != memory::wram_len(colour) {
         return false;
     }
     if save != mapper.ram_len(cartridge) {
         return false;
     }
     sound == 48
+}
+
+fn lengths_fit(core: Core, rom: usize, vram: usize, wram: usize, save: usize, sound: usize) -> bool
+    ensures { λ r. ⌜ r ≡ lengthsFit core rom vram wram save sound ⌝ }
+{
+    let cartridge = core.cartridge;
+    let mapper = core.mapper;
+    let banks = core.banks;
+    lengths_are(
+        banks.colour,
+        cartridge,
+        mapper,
+        rom,
+        vram,
+        wram,
+        save,
+        sound,
+    )
 }
 
 pub fn lengths_refused(

@@ -6,12 +6,11 @@ use Prim.Native.Nat.{ℕ, _-_, _^_, _<_, _≤_}
 use native.Mathlib.Omega.{arith}
 use lib.ListN.{getD}
 use borrow.Author.Tests.{ne-eqb, lt-ltb, le-ltb}
-use Rattle.lcd.specs.declared.Lcd.{Lcd}
 use Rattle.memory.specs.declared.Memory.{Memory}
 use Rattle.registers.specs.State.{stored}
 use Rattle.registers.specs.Page.{shownAs, plainRead, writeRegister, plainWrite}
 
-pub rest-read : (byte : ℕ) (cgb : Bool) (lcd : Lcd) (pad : ℕ) (sound : List ℕ) (at : ℕ)
+pub rest-read : (byte : ℕ) (cgb : Bool) (line pad : ℕ) (sound : List ℕ) (at : ℕ)
     → (at ≡ 0x00 → ⊥)
     → (at ≡ 0x03 → ⊥)
     → (at ≡ 0x07 → ⊥)
@@ -28,9 +27,9 @@ pub rest-read : (byte : ℕ) (cgb : Bool) (lcd : Lcd) (pad : ℕ) (sound : List 
     → (at ≡ 0x70 → ⊥)
     → (at ≡ 0x76 → ⊥)
     → (at ≡ 0x77 → ⊥)
-    → shownAs byte cgb lcd pad sound at ≡ plainRead byte sound at
+    → shownAs byte cgb line pad sound at ≡ plainRead byte sound at
 unfolding shownAs
-rest-read byte cgb lcd pad sound at h1 h2 h3 h4 h5 h6 h7 h8 h9 h10 h11 h12 h13 h14 h15 h16 =
+rest-read byte cgb line pad sound at h1 h2 h3 h4 h5 h6 h7 h8 h9 h10 h11 h12 h13 h14 h15 h16 =
     rw (
       ne-eqb at 0x00 h1,
       ne-eqb at 0x03 h2,

@@ -26,16 +26,16 @@ lineRead lcd = cond (lcd .disabled) 0 (lcd .line)
 unfoldable pub plainRead : ℕ → List ℕ → ℕ → ℕ
 plainRead byte sound at = cond (ltb at 0x10) byte (cond (ltb at 0x40) (getD sound (at - 0x10) 0) byte)
 
--- what FF00 + at reads, where the page holds `byte`: by the machine's kind, the screen and the joypad's state
-unfoldable pub shownAs : ℕ → Bool → Lcd → ℕ → List ℕ → ℕ → ℕ
-shownAs byte cgb lcd pad sound at =
+-- what FF00 + at reads, where the page holds `byte`: by the machine's kind, what FF44 gives and the joypad's state
+unfoldable pub shownAs : ℕ → Bool → ℕ → ℕ → List ℕ → ℕ → ℕ
+shownAs byte cgb line pad sound at =
     cond (eqb at 0x00) (padRead byte pad)
     (cond (eqb at 0x03) 0xFF
     (cond (eqb at 0x07) (bitOr byte 0xF8)
     (cond (eqb at 0x0E) 0xFF
     (cond (eqb at 0x0F) (bitOr byte flagsOnes)
     (cond (eqb at 0x41) (bitOr byte statusOnes)
-    (cond (eqb at 0x44) (lineRead lcd)
+    (cond (eqb at 0x44) line
     (cond (eqb at 0x4C) 0xFF
     (cond (eqb at 0x4F) (bitOr byte vramBankOnes)
     (cond (eqb at 0x68) (byKind cgb (bitOr byte 0x40) 0xC0)
@@ -48,7 +48,7 @@ shownAs byte cgb lcd pad sound at =
     (plainRead byte sound at))))))))))))))))
 
 unfoldable pub readRegister : Memory → List ℕ → ℕ → ℕ
-readRegister m sound at = shownAs (loaded m at) (m .core .banks .colour) (m .core .lcd) (m .core .joypad .state) sound at
+readRegister m sound at = shownAs (loaded m at) (m .core .banks .colour) (lineRead (m .core .lcd)) (m .core .joypad .state) sound at
 
 -- the rest of the page: a write in FF10..FF3F changes no bus byte, all else is stored
 unfoldable pub plainWrite : Memory → ℕ → ℕ → Memory

@@ -22,7 +22,7 @@ fn by_kind(cgb: bool, colour: u8, monochrome: u8) -> u8
 }
 
 // FF44: the scan line, or 0 with the screen disabled.
-fn read_line(lcd: Lcd) -> u8
+pub fn read_line(lcd: Lcd) -> u8
     ensures { λ r. ⌜ r ≡ lineRead lcd ⌝ }
 {
     if lcd.disabled {
@@ -31,10 +31,10 @@ fn read_line(lcd: Lcd) -> u8
     lcd.line
 }
 
-// What FF00 + at reads, where the page holds `byte`: `cgb`, `lcd` and `pad`, the joypad's state, are all that it takes of the bus.
-pub fn shown(byte: u8, cgb: bool, lcd: Lcd, pad: u8, sound: &[u8], at: u8) -> u8
+// What FF00 + at reads, where the page holds `byte`: `cgb`, `line`, which FF44 gives, and `pad`, the joypad's state, are all that it takes of the bus.
+pub fn shown(byte: u8, cgb: bool, line: u8, pad: u8, sound: &[u8], at: u8) -> u8
     requires { ⌜ 48 ≤ length (now sound) ⌝ }
-    ensures { λ r. ⌜ r ≡ shownAs byte cgb lcd pad (now (sound .entry)) at ⌝ }
+    ensures { λ r. ⌜ r ≡ shownAs byte cgb line pad (now (sound .entry)) at ⌝ }
 {
     match at {
         0x00 => joypad::read(byte, pad),
@@ -43,7 +43,7 @@ pub fn shown(byte: u8, cgb: bool, lcd: Lcd, pad: u8, sound: &[u8], at: u8) -> u8
         0x0E => 0xFF,
         0x0F => byte | 0xE0,
         0x41 => byte | 0x80,
-        0x44 => read_line(lcd),
+        0x44 => line,
         0x4C => 0xFF,
         0x4F => byte | 0xFE,
         0x68 => by_kind(cgb, byte | 0x40, 0xC0),
@@ -73,8 +73,9 @@ pub fn read(memory: Memory, sound: &[u8], at: u8) -> u8
     let byte = load(memory, at);
     let banks = memory.core.banks;
     let lcd = memory.core.lcd;
+    let line = read_line(lcd);
     let controller = memory.core.joypad;
-    shown(byte, banks.colour, lcd, controller.state, sound, at)
+    shown(byte, banks.colour, line, controller.state, sound, at)
 }
 
 pub fn write(memory: Memory, at: u8, value: u8) -> Memory

@@ -1,52 +1,15 @@
--- Each length by its own test.
+-- By what the lengths follow.
 use Rattle.refusals.specs.Refusal.{lengthsFit}
-use borrow.Author.Tests.{eq-eqb, ne-eqb}
 use borrow.Author.Needs.{needs}
 use Rattle.refusals.proofs.lengths_fit.Statement.{statement}
 use Rattle.refusals.proofs.lengths_fit.Tie as tie
 
-rom-len-requires : tie.Need-rom-len-requires
-rom-len-requires c κs = search needs
+lengths-are-requires : tie.Need-lengths-are-requires
+lengths-are-requires c κs = search needs
 
 returns : tie.Need-returns
 unfolding lengthsFit
-returns c = rw (← c .before .rom-len .ensures, ne-eqb _ _ (c .if1 .taken))
-
-vram-len-requires : tie.Need-vram-len-requires
-vram-len-requires c κs = search needs
-
-returns-2 : tie.Need-returns-2
-unfolding lengthsFit
-returns-2 c = rw (← c .before .before .before .rom-len .ensures, eq-eqb _ _ (c .before .before .if1 .left), ← c .before .vram-len .ensures, ne-eqb _ _ (c .if2 .taken))
-
-wram-len-requires : tie.Need-wram-len-requires
-wram-len-requires c κs = search needs
-
-returns-3 : tie.Need-returns-3
-unfolding lengthsFit
-returns-3 c = rw (← c .before .before .before .before .before .rom-len .ensures, eq-eqb _ _ (c .before .before .before .before .if1 .left), ← c .before .before .before .vram-len .ensures, eq-eqb _ _ (c .before .before .if2 .left), ← c .before .wram-len .ensures, ne-eqb _ _ (c .if3 .taken))
-
-ram-len-requires : tie.Need-ram-len-requires
-ram-len-requires c κs = search needs
-
-returns-4 : tie.Need-returns-4
-unfolding lengthsFit
-returns-4 c = rw (← c .before .before .before .before .before .before .before .rom-len .ensures, eq-eqb _ _ (c .before .before .before .before .before .before .if1 .left), ← c .before .before .before .before .before .vram-len .ensures, eq-eqb _ _ (c .before .before .before .before .if2 .left), ← c .before .before .before .wram-len .ensures, eq-eqb _ _ (c .before .before .if3 .left), ← c .before .ram-len .ensures, ne-eqb _ _ (c .if4 .taken))
-
-returns-5 : tie.Need-returns-5
-unfolding lengthsFit
-returns-5 c = rw (← c .before .before .before .before .before .before .before .rom-len .ensures, eq-eqb _ _ (c .before .before .before .before .before .before .if1 .left), ← c .before .before .before .before .before .vram-len .ensures, eq-eqb _ _ (c .before .before .before .before .if2 .left), ← c .before .before .before .wram-len .ensures, eq-eqb _ _ (c .before .before .if3 .left), ← c .before .ram-len .ensures, eq-eqb _ _ (c .if4 .left))
+returns c = c .lengths-are .ensures
 
 pub lengths-fit-spec : {M : Type 1} → statement M
-lengths-fit-spec =
-    tie.close
-    (tie.spec
-    rom-len-requires
-    returns
-    vram-len-requires
-    returns-2
-    wram-len-requires
-    returns-3
-    ram-len-requires
-    returns-4
-    returns-5)
+lengths-fit-spec = tie.close (tie.spec lengths-are-requires returns)

@@ -10,9 +10,6 @@ use Rattle.registers.proofs.page.shown.Tie as tie
 read-requires : tie.Need-read-requires
 read-requires c κs = search needs
 
-read-line-requires : tie.Need-read-line-requires
-read-line-requires c κs = search needs
-
 by-kind-requires : tie.Need-by-kind-requires
 by-kind-requires c κs = search needs
 
@@ -72,7 +69,7 @@ returns-8 c = rw (c .match .keys6)
 
 returns-9 : tie.Need-returns-9
 unfolding shownAs
-returns-9 c = rw (c .read-line .ensures, c .before .match .keys7)
+returns-9 c = rw (c .match .keys7)
 
 returns-10 : tie.Need-returns-10
 unfolding shownAs
@@ -118,7 +115,6 @@ shown-spec =
     tie.close
     (tie.spec
     read-requires
-    read-line-requires
     by-kind-requires
     by-kind-requires-2
     by-kind-requires-3
