@@ -126,6 +126,14 @@ pub fn open(image: &[u8]) -> Opened
     }
 }
 
+// The number alone.
+pub fn number(image: &[u8]) -> u8
+    ensures { λ r. ⌜ r ≡ loadCall (now (image .entry)) .number ⌝ }
+{
+    let opened = open(image);
+    opened.number
+}
+
 // The state that an image's bytes hold.
 fn state_of(image: &[u8], core: Core) -> Memory
     requires { ⌜ (length (now image) ≡ imageLen) × (core ≡ stateOf (now image) .core) ⌝ }
