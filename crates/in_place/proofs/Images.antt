@@ -3,27 +3,28 @@
 use mathlib.Core.Bool.{true}
 use mathlib.Core.List.{List}
 use mathlib.Core.Path.{_≡_, refl, sym, ap, _∙_}
-use Prim.Native.Nat.{ℕ, _+_, _<_}
+use Prim.Native.Nat.{ℕ, _+_, _<_, _≤_}
 use native.Mathlib.Omega.{arith}
 use lib.ListN.{length, getD, set}
 use Rattle.image.proofs.GroupPatches.{LcdTyped, joypad-typed, joypad-storable, joypad-image, lcd-typed, lcd-storable, lcd-image, loaded-core}
 use Rattle.image.proofs.LoadedPatches.{loaded-typed, loaded-storable}
 use Rattle.image.proofs.OpenLaws.{load-length, load-image, load-page}
-use Rattle.image.proofs.PatchLaws.{page-image, typed-bytes, storable-bytes, bytes-set}
+use Rattle.image.proofs.PatchLaws.{page-image, clock-image, typed-with, typed-bytes, storable-bytes, bytes-set}
 use Rattle.image.specs.Laws.{Typed}
 use Rattle.image.specs.Layout.{imageLen, imageOf}
-use Rattle.image.specs.Load.{storable, lcdOf, coreFrom, loadCall}
-use Rattle.image.specs.Patches.{fields, put, lcdFields, joypadFields}
-use Rattle.joypad.proofs.Bytes.{update-bytes}
-use Rattle.joypad.specs.Joypad.{Bytes, polled}
+use Rattle.image.specs.Load.{storable, coreFrom, loadCall}
+use Rattle.image.specs.Patches.{fields, put, lcdFields, joypadFields, clockPut}
+use Rattle.joypad.specs.Joypad.{Bytes}
 use Rattle.joypad.specs.declared.Controller.{Controller}
-use Rattle.joypad.specs.declared.Polled.{Polled}
-use Rattle.lcd.proofs.Laws.{ScreenBytes, ScreenNumbers}
 use Rattle.lcd.specs.declared.Lcd.{Lcd}
-use Rattle.lcd.specs.declared.Screen.{Screen}
-use Rattle.memory.specs.declared.Core.{Core}
+use Rattle.memory.proofs.Laws.{clock-range}
+use Rattle.memory.specs.Ranges.{stateInRange, inRange}
+use Rattle.memory.specs.World.{withClock}
+use Rattle.memory.specs.declared.Clock.{Clock}
 use Rattle.memory.specs.declared.Memory.{Memory}
-use Rattle.registers.specs.State.{loaded, stored, screenOf, withScreen, onScreen, hosted, withController, polledIn}
+use Rattle.registers.specs.State.{loaded, stored, hosted, withController}
+use Rattle.rules.proofs.Tests.{both-true}
+use Rattle.savelog.specs.Log.{logLimit, useInRange}
 use Rattle.in_place.specs.Held.{Held}
 
 pub record ImageOf (i : List ℕ) (m : Memory) : Type 0 where
@@ -48,6 +49,12 @@ module _ (i : List ℕ) (h : Held i) where
   pub core : coreFrom (fields i) ≡ state .core
   core = sym (loaded-core i (h .0) (h .1))
 
+clock-storable : (m : Memory) → storable m ≡ true → (c : Clock) → c .tima ≤ 1023 → storable (withClock m c (m .page)) ≡ true
+unfolding storable inRange
+clock-storable m h c k =
+    let b = both-true (stateInRange m) (useInRange (m .core .used) logLimit) h in
+    rw (clock-range m (b .0) c (m .page) k, b .1)
+
 -- what is put
 module _ {i : List ℕ} {m : Memory} (e : ImageOf i m) where
   pub put-byte : (k v : ℕ) → k < 256 → v < 256 → ImageOf (set i (256 + k) v) (stored m k v)
@@ -56,6 +63,17 @@ module _ {i : List ℕ} {m : Memory} (e : ImageOf i m) where
         same = ap (λ (l : List ℕ). set l (256 + k) v) (e .same) ∙ sym (page-image m (e .typed) (e .storable) k v hk hv);
         typed = typed-bytes m (e .typed) (m .oam) (set (m .page) k v) (e .typed .oam) (bytes-set (m .page) k v (e .typed .page) hv);
         storable = storable-bytes m (m .oam) (set (m .page) k v) ∙ e .storable;
+      }
+
+  pub put-clock : (c : Clock) → c .div < 256 → c .tima < 1024 → ImageOf (clockPut i c) (withClock m c (m .page))
+  put-clock c hd ht =
+      let k = clock-storable m (e .storable) c (omega arith) in
+      record {
+        same = ap (λ (l : List ℕ). clockPut l c) (e .same) ∙ clock-image m (e .typed) (e .storable) c hd k;
+        typed =
+            typed-with m (e .typed) (m .oam) (m .page) (m .core .joypad) c (m .core .mapper) (m .core .used) (e .typed .oam) (e .typed .page)
+            (e .typed .released) (e .typed .state) hd;
+        storable = k;
       }
 
   pub put-joypad : (j : Controller) → Bytes j → ImageOf (put (joypadFields j) i) (withController m j)
@@ -73,54 +91,3 @@ module _ {i : List ℕ} {m : Memory} (e : ImageOf i m) where
         typed = lcd-typed m (e .typed) l k;
         storable = lcd-storable m (e .typed) (e .storable) l;
       }
-
-module _ (i : List ℕ) (h : Held i) where
-  -- the joypad's update
-  pub polled-image : {k : Controller} {r : Polled} {j : List ℕ} → k ≡ state i h .core .joypad → r ≡ polled k (getD i 0x100 0) (getD i 0x10F 0)
-      → j ≡ put (joypadFields (r .controller)) (set i 0x10F (r .flags)) → j ≡ imageOf (polledIn (state i h))
-  polled-image {k} {r} {j} a b c =
-      let m = state i h in
-      let p : r ≡ polled (m .core .joypad) (loaded m 0x00) (loaded m 0x0F) = rw (b, a, byte i h 0x00 (omega arith), byte i h 0x0F (omega arith)) in
-      let t = held i h .typed in
-      let u = update-bytes (m .core .joypad) (loaded m 0x00) (loaded m 0x0F) (t .released, t .state) (t .page .1 0x0F) in
-      rw p at c ∙ put-joypad (put-byte (held i h) 0x0F _ (omega arith) (u .1)) _ (u .0) .same
-
-  -- the screen
-  pub screen-in : {l : Lcd} → l ≡ lcdOf (fields i)
-      → record { lcd = l; control = getD i 0x140 0; status = getD i 0x141 0; compare = getD i 0x145 0; wy = getD i 0x14A 0; flags = getD i 0x10F 0 }
-      ≡ screenOf (state i h)
-  screen-in e =
-      rw (
-        e ∙ ap (λ (k : Core). k .lcd) (core i h),
-        byte i h 0x40 (omega arith),
-        byte i h 0x41 (omega arith),
-        byte i h 0x45 (omega arith),
-        byte i h 0x4A (omega arith),
-        byte i h 0x0F (omega arith),
-      )
-
-  pub screen-image : (s : Screen) → ScreenBytes s → ScreenNumbers s → {j : List ℕ}
-      → j ≡ put (lcdFields (s .lcd)) (set (set (set (set i 0x140 (s .control)) 0x141 (s .status)) 0x145 (s .compare)) 0x10F (s .flags))
-      → j ≡ imageOf (withScreen (state i h) s)
-  screen-image s b n e =
-      let a = put-byte (held i h) 0x40 (s .control) (omega arith) (b .control) in
-      let c = put-byte a 0x41 (s .status) (omega arith) (b .status) in
-      let d = put-byte c 0x45 (s .compare) (omega arith) (b .compare) in
-      let f = put-byte d 0x0F (s .flags) (omega arith) (b .flags) in
-      e
-      ∙ put-lcd f (s .lcd)
-      (record {
-        line = b .line;
-        signal = b .signal;
-        mode = b .mode;
-        delay = n .delay;
-        counter = n .counter;
-        aux = n .aux;
-        window = n .window;
-      }) .same
-
--- an LCD function on the state, by the screen that it gave
-pub on-screen : (f : Screen → Screen) (m : Memory) {s n : Screen} {j : List ℕ} → s ≡ screenOf m → n ≡ f s → j ≡ imageOf (withScreen m n)
-    → j ≡ imageOf (onScreen f m)
-unfolding onScreen
-on-screen f m {s} {n} {j} a b c = c ∙ ap (λ (x : Screen). imageOf (withScreen m x)) (b ∙ ap f a)

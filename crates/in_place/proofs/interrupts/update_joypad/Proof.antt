@@ -2,7 +2,8 @@
 use native.Mathlib.Omega.{arith}
 use mathlib.Core.Path.{_∙_}
 use lib.ListN.{length-set}
-use Rattle.in_place.proofs.Images.{size, polled-image}
+use Rattle.in_place.proofs.Images.{size}
+use Rattle.in_place.proofs.Groups.{polled-image}
 use borrow.Author.Needs.{needs}
 use Rattle.in_place.proofs.interrupts.update_joypad.Statement.{statement}
 use Rattle.in_place.proofs.interrupts.update_joypad.Tie as tie

@@ -2,7 +2,8 @@
 use native.Mathlib.Omega.{arith}
 use mathlib.Core.Path.{_∙_}
 use lib.ListN.{length-set}
-use Rattle.in_place.proofs.Images.{size, screen-image}
+use Rattle.in_place.proofs.Images.{size}
+use Rattle.in_place.proofs.Groups.{screen-image}
 use borrow.Author.Needs.{needs}
 use Rattle.in_place.proofs.screen.put_screen.Statement.{statement}
 use Rattle.in_place.proofs.screen.put_screen.Tie as tie

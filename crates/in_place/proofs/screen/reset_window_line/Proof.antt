@@ -1,5 +1,5 @@
 -- The screen of the image, changed and put back.
-use Rattle.in_place.proofs.Images.{on-screen}
+use Rattle.in_place.proofs.Groups.{on-screen}
 use borrow.Author.Needs.{needs}
 use Rattle.in_place.proofs.screen.reset_window_line.Statement.{statement}
 use Rattle.in_place.proofs.screen.reset_window_line.Tie as tie

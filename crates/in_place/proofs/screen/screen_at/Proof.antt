@@ -1,6 +1,7 @@
 -- The group, and five bytes of the page.
 use native.Mathlib.Omega.{arith}
-use Rattle.in_place.proofs.Images.{size, screen-in}
+use Rattle.in_place.proofs.Images.{size}
+use Rattle.in_place.proofs.Groups.{screen-in}
 use Rattle.in_place.proofs.screen.screen_at.Statement.{statement}
 use Rattle.in_place.proofs.screen.screen_at.Tie as tie
 
