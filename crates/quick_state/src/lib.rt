@@ -1,5 +1,33 @@
-// Calls on the state alone that a host makes for every instruction of a game, on the image itself: they take its fields and a few bytes of its page, and put
-// back what changed. Each is what crate entry makes of it: decode, call, encode. None has a `requires`.
+// Calls on the state alone, on the image itself (crate in_place), which take and put no more of it than they need. Each is what crate entry makes of it:
+// decode, call, encode. None has a `requires`: an image that is not taken is refused by its number, then what the call itself refuses.
+use entry::Given;
+ghost use mathlib.Core.Path.{_≡_};
+ghost use Rattle.dispatch.specs.Step.{flagNumber};
+ghost use Rattle.entry.specs.Entry.{given};
+
 pub mod clock;
 pub mod fields;
+pub mod input;
 pub mod interrupts;
+pub mod page;
+pub mod screen;
+
+// A refused question gives 0.
+fn refused(number: u8) -> Given
+    ensures { λ r. ⌜ given (r .number) (r .value) ≡ given number 0 ⌝ }
+{
+    Given {
+        number: number,
+        value: 0,
+    }
+}
+
+fn flag_given(flag: bool) -> Given
+    ensures { λ r. ⌜ given (r .number) (r .value) ≡ given 0 (flagNumber flag) ⌝ }
+{
+    let value = if flag { 1 } else { 0 };
+    Given {
+        number: numbers::DONE,
+        value: value,
+    }
+}

@@ -1,0 +1,120 @@
+// Interrupts, the timer and the joypad on the image.
+use crate::load;
+use crate::store;
+use interrupt::Interrupt;
+use interrupt::Pending;
+use joypad::Controller;
+use memory::Clock;
+use timer::Timer;
+ghost use mathlib.Core.Path.{_≡_};
+ghost use Prim.Native.Nat.{_<_};
+ghost use Rattle.image.specs.Layout.{imageOf};
+ghost use Rattle.image.specs.Load.{loadCall};
+ghost use Rattle.interrupt.specs.PanDocs.{firstOf};
+ghost use Rattle.joypad.specs.Joypad.{withState, actionsAnswer, directionsAnswer};
+ghost use Rattle.registers.specs.State.{loaded, timerOf, withTimer, requestedIn, removedIn, withController, polledIn};
+ghost use Rattle.in_place.specs.Held.{Held};
+
+pub fn request_interrupt(image: &mut [u8], interrupt: Interrupt)
+    requires { ⌜ Held (now image) ⌝ }
+    ensures { λ _. ⌜ now (image .exit) ≡ imageOf (requestedIn (loadCall (now (image .entry)) .state) interrupt) ⌝ }
+{
+    let flags = interrupt::request(load(image, 0x0F), interrupt);
+    store(image, 0x0F, flags);
+}
+
+pub fn remove_interrupt(image: &mut [u8], interrupt: Interrupt)
+    requires { ⌜ Held (now image) ⌝ }
+    ensures { λ _. ⌜ now (image .exit) ≡ imageOf (removedIn (loadCall (now (image .entry)) .state) interrupt) ⌝ }
+{
+    let flags = interrupt::remove(load(image, 0x0F), interrupt);
+    store(image, 0x0F, flags);
+}
+
+pub fn get_interrupts(image: &[u8]) -> Pending
+    requires { ⌜ Held (now image) ⌝ }
+    ensures { λ r. ⌜ r ≡ firstOf (loaded (loadCall (now (image .entry)) .state) 0xFF) (loaded (loadCall (now (image .entry)) .state) 0x0F) ⌝ }
+{
+    interrupt::get_interrupts(load(image, 0xFF), load(image, 0x0F))
+}
+
+pub fn timer_at(image: &[u8]) -> Timer
+    requires { ⌜ Held (now image) ⌝ }
+    ensures { λ r. ⌜ r ≡ timerOf (loadCall (now (image .entry)) .state) ⌝ }
+{
+    let clock = image::clock_at(image);
+    Timer {
+        div: image[0x104],
+        tima: image[0x105],
+        tma: image[0x106],
+        tac: image[0x107],
+        flags: image[0x10F],
+        div_cycles: clock.div,
+        tima_cycles: clock.tima,
+    }
+}
+
+// An update leaves TMA and TAC.
+pub fn put_timer(image: &mut [u8], timer: Timer)
+    requires { ⌜ Held (now image) × (timer .«tima_cycles» < 1024) ⌝ }
+    ensures { λ _. ⌜ now (image .exit) ≡ imageOf (withTimer (loadCall (now (image .entry)) .state) timer) ⌝ }
+{
+    image[0x104] = timer.div;
+    image[0x105] = timer.tima;
+    image[0x10F] = timer.flags;
+    let clock = Clock {
+        div: timer.div_cycles,
+        tima: timer.tima_cycles,
+    };
+    image::put_clock(image, clock);
+}
+
+pub fn controller_at(image: &[u8]) -> Controller
+    requires { ⌜ Held (now image) ⌝ }
+    ensures { λ r. ⌜ r ≡ loadCall (now (image .entry)) .state .core .joypad ⌝ }
+{
+    image::joypad_at(image)
+}
+
+// The joypad with FF0F as it is.
+pub fn put_controller(image: &mut [u8], controller: Controller)
+    requires { ⌜ Held (now image) ⌝ }
+    ensures { λ _. ⌜ now (image .exit) ≡ imageOf (withController (loadCall (now (image .entry)) .state) controller) ⌝ }
+{
+    image::put_joypad(image, controller);
+}
+
+pub fn set_joypad_state(image: &mut [u8], state: u8)
+    requires { ⌜ Held (now image) ⌝ }
+    ensures { λ _. ⌜ now (image .exit) ≡ imageOf (withController (loadCall (now (image .entry)) .state) (withState (loadCall (now (image .entry)) .state .core .joypad) state)) ⌝ }
+{
+    let controller = controller_at(image);
+    let next = controller.set_joypad_state(state);
+    put_controller(image, next);
+}
+
+// The Rust's Controller::update.
+pub fn update_joypad(image: &mut [u8])
+    requires { ⌜ Held (now image) ⌝ }
+    ensures { λ _. ⌜ now (image .exit) ≡ imageOf (polledIn (loadCall (now (image .entry)) .state)) ⌝ }
+{
+    let controller = controller_at(image);
+    let polled = controller.update(image[0x100], image[0x10F]);
+    image[0x10F] = polled.flags;
+    let after = polled.controller;
+    image::put_joypad(image, after);
+}
+
+pub fn are_action_keys_enabled(image: &[u8]) -> bool
+    requires { ⌜ Held (now image) ⌝ }
+    ensures { λ r. ⌜ r ≡ actionsAnswer (loaded (loadCall (now (image .entry)) .state) 0) ⌝ }
+{
+    joypad::are_action_keys_enabled(load(image, 0x00))
+}
+
+pub fn are_direction_keys_enabled(image: &[u8]) -> bool
+    requires { ⌜ Held (now image) ⌝ }
+    ensures { λ r. ⌜ r ≡ directionsAnswer (loaded (loadCall (now (image .entry)) .state) 0) ⌝ }
+{
+    joypad::are_direction_keys_enabled(load(image, 0x00))
+}
