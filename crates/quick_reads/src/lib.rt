@@ -1,58 +1,62 @@
-// Byte and word reads of an image and what is lent. All of the state but its arrays is decoded; a byte of OAM or of the page is taken from the image itself.
-ghost use mathlib.Core.List.{[]};
+// Byte and word reads of an image and what is lent. Of the state only what says where the byte is, is decoded; a byte of OAM or of the page is taken from the
+// image itself.
+ghost use mathlib.Core.List.{List, []};
 ghost use mathlib.Core.Path.{_≡_};
-ghost use lib.ListN.{length};
+ghost use Prim.Native.Nat.{ℕ};
 ghost use Rattle.dispatch.specs.declared.Call.the-variants.{ReadByte, ReadWord};
 ghost use Rattle.image.specs.Load.{loadCall};
+ghost use Rattle.memory.specs.Region.{regionOf};
 ghost use Rattle.memory.specs.World.{world, fixed};
 ghost use Rattle.mmu.specs.Access.{Ready, readByte};
-ghost use Rattle.refusals.specs.Refusal.{orElse, readRefused};
+ghost use Rattle.refusals.specs.Refusal.{orElse, lengthsRefused, readRefused};
 ghost use Rattle.entry.specs.Entry.{given, readEntry};
-use image::Opened;
-use memory::Core;
+ghost use Rattle.quick_reads.specs.Reads.{Lent, Others};
+use mbc::Mapper;
 use memory::Region;
 use refusals::Byte;
 use refusals::Word;
 
-// An image with the lengths of what is lent beside it.
-fn open_lent(
-    image: &[u8],
-    rom: usize,
-    vram: usize,
-    wram: usize,
-    save: usize,
-    sound: usize,
-) -> Opened
-    ensures { λ r. ⌜ (r .number ≡ orElse (loadCall (now (image .entry)) .number) (readRefused (loadCall (now (image .entry)) .state) rom vram wram save sound)) × (r .core ≡ loadCall (now (image .entry)) .state .core) ⌝ }
+// The lengths of what is lent, beside an image that is taken.
+fn lengths(image: &[u8], rom: usize, vram: usize, wram: usize, save: usize, sound: usize) -> u8
+    requires { ⌜ loadCall (now image) .number ≡ 0 ⌝ }
+    ensures { λ r. ⌜ r ≡ lengthsRefused (loadCall (now (image .entry)) .state .core) rom vram wram save sound ⌝ }
 {
-    let opened = image::open(image);
-    if opened.number != numbers::DONE {
-        return opened;
+    let banks = image::banks_at(image);
+    let cartridge = image::cartridge_at(image);
+    let mapper = Mapper::from_registers(image::registers_at(image));
+    if refusals::lengths_are(
+        banks.colour,
+        cartridge,
+        mapper,
+        rom,
+        vram,
+        wram,
+        save,
+        sound,
+    ) {
+        return numbers::DONE;
     }
-    let core = opened.core;
-    let number = refusals::lengths_refused(core, rom, vram, wram, save, sound);
-    Opened {
-        number: number,
-        core: core,
-    }
+    numbers::WRONG_LENGTH
 }
 
-// OAM and the page are the first 512 bytes of an image, so FE00 is its first.
-fn byte_at(
-    image: &[u8],
-    core: Core,
-    rom: &[u8],
-    vram: &[u8],
-    wram: &[u8],
-    save: &[u8],
-    sound: &[u8],
-    index: u16,
-) -> u8
-    requires { ⌜ ((loadCall (now image) .number ≡ 0) × (core ≡ loadCall (now image) .state .core)) × Ready (fixed (now rom) (now sound)) (world (loadCall (now image) .state) (now vram) (now wram) (now save) []) ⌝ }
-    ensures { λ r. ⌜ r ≡ readByte (fixed (now (rom .entry)) (now (sound .entry))) (loadCall (now (image .entry)) .state) (now (vram .entry)) (now (wram .entry)) (now (save .entry)) index ⌝ }
+// The image's number, then that of the lengths.
+fn number(image: &[u8], rom: usize, vram: usize, wram: usize, save: usize, sound: usize) -> u8
+    ensures { λ r. ⌜ r ≡ orElse (loadCall (now (image .entry)) .number) (readRefused (loadCall (now (image .entry)) .state) rom vram wram save sound) ⌝ }
 {
-    let region = memory::region_of(index);
-    match region {
+    let number = image::number(image);
+    if number != numbers::DONE {
+        return number;
+    }
+    lengths(image, rom, vram, wram, save, sound)
+}
+
+// A byte of the save, through the mapper, or of OAM or page: these are the first 512 bytes of an image, so FE00 is its first. Apart from `byte_at`, which
+// stays small enough to be put in place where it is called.
+pub fn other_at(image: &[u8], save: &[u8], sound: &[u8], index: u16) -> u8
+    requires { ⌜ Lent (now image) (now save) (now sound) × (Others (regionOf index)) ⌝ }
+    ensures { λ r. ⌜ ((rom v w : List ℕ) → r ≡ readByte (fixed rom (now (sound .entry))) (loadCall (now (image .entry)) .state) v w (now (save .entry)) index) ⌝ }
+{
+    match memory::region_of(index) {
         Region::Oam => {
             let i = (index - 0xFE00) as usize;
             image[i]
@@ -60,19 +64,52 @@ fn byte_at(
         Region::Page => {
             let i = (index - 0xFE00) as usize;
             let byte = image[i];
-            let banks = core.banks;
-            let lcd = core.lcd;
-            let joypad = core.joypad;
+            let banks = image::banks_at(image);
+            let line = registers::page::read_line(image::lcd_at(image));
+            let joypad = image::joypad_at(image);
             registers::page::shown(
                 byte,
                 banks.colour,
-                lcd,
+                line,
                 joypad.state,
                 sound,
                 (index - 0xFF00) as u8,
             )
         }
-        _ => mmu::regions::read_lent(core, rom, vram, wram, save, region, index),
+        _ => {
+            let cartridge = image::cartridge_at(image);
+            let mapper = Mapper::from_registers(image::registers_at(image));
+            mapper.read_ram(cartridge, save, index)
+        }
+    }
+}
+
+fn byte_at(
+    image: &[u8],
+    rom: &[u8],
+    vram: &[u8],
+    wram: &[u8],
+    save: &[u8],
+    sound: &[u8],
+    index: u16,
+) -> u8
+    requires { ⌜ (loadCall (now image) .number ≡ 0) × Ready (fixed (now rom) (now sound)) (world (loadCall (now image) .state) (now vram) (now wram) (now save) []) ⌝ }
+    ensures { λ r. ⌜ r ≡ readByte (fixed (now (rom .entry)) (now (sound .entry))) (loadCall (now (image .entry)) .state) (now (vram .entry)) (now (wram .entry)) (now (save .entry)) index ⌝ }
+{
+    match memory::region_of(index) {
+        Region::Rom => {
+            let registers = image::registers_at(image);
+            rom[mbc::rom_place(registers.rom, index)]
+        }
+        Region::Vram => {
+            let banks = image::banks_at(image);
+            mmu::regions::read_cgb_lcd_ram(vram, banks.vram, index)
+        }
+        Region::Wram => {
+            let banks = image::banks_at(image);
+            mmu::regions::read_cgb_wram(wram, banks.wram, index)
+        }
+        _ => other_at(image, save, sound, index),
     }
 }
 
@@ -87,7 +124,7 @@ pub fn read_byte(
 ) -> Byte
     ensures { λ r. ⌜ given (r .number) (r .value) ≡ readEntry (fixed (now (rom .entry)) (now (sound .entry))) (now (image .entry)) (now (vram .entry)) (now (wram .entry)) (now (save .entry)) (ReadByte index) ⌝ }
 {
-    let opened = open_lent(
+    let number = number(
         image,
         rom.len(),
         vram.len(),
@@ -95,14 +132,13 @@ pub fn read_byte(
         save.len(),
         sound.len(),
     );
-    if opened.number != numbers::DONE {
+    if number != numbers::DONE {
         return Byte {
-            number: opened.number,
+            number: number,
             value: 0,
         };
     }
-    let core = opened.core;
-    let byte = byte_at(image, core, rom, vram, wram, save, sound, index);
+    let byte = byte_at(image, rom, vram, wram, save, sound, index);
     Byte {
         number: numbers::DONE,
         value: byte,
@@ -121,7 +157,7 @@ pub fn read_word(
 ) -> Word
     ensures { λ r. ⌜ given (r .number) (r .value) ≡ readEntry (fixed (now (rom .entry)) (now (sound .entry))) (now (image .entry)) (now (vram .entry)) (now (wram .entry)) (now (save .entry)) (ReadWord index) ⌝ }
 {
-    let opened = open_lent(
+    let number = number(
         image,
         rom.len(),
         vram.len(),
@@ -129,16 +165,15 @@ pub fn read_word(
         save.len(),
         sound.len(),
     );
-    if opened.number != numbers::DONE {
+    if number != numbers::DONE {
         return Word {
-            number: opened.number,
+            number: number,
             value: 0,
         };
     }
-    let core = opened.core;
-    let low = byte_at(image, core, rom, vram, wram, save, sound, index);
+    let low = byte_at(image, rom, vram, wram, save, sound, index);
     let above = std::num::wrapping_add_u16(index, 1);
-    let high = byte_at(image, core, rom, vram, wram, save, sound, above);
+    let high = byte_at(image, rom, vram, wram, save, sound, above);
     let word = low as u16 + high as u16 * 256;
     Word {
         number: numbers::DONE,

@@ -1,10 +1,9 @@
--- By the region: one law for each place (`byte-oam` ..), and what `read_lent` gives.
+-- By the region: one law for each.
 use mathlib.Core.Path.{sym, _∙_}
 use native.Mathlib.Omega.{arith}
 use Rattle.image.proofs.OpenLaws.{load-length}
 use Rattle.memory.proofs.Regions.{within}
-use Rattle.mmu.proofs.Places.{lent-below}
-use Rattle.quick_reads.proofs.ReadLaws.{core-reaches, byte-oam, byte-page}
+use Rattle.quick_reads.proofs.ReadLaws.{byte-rom, rom-place-below, byte-vram, vram-reaches, byte-wram, wram-reaches, ready-lent, others-left}
 use borrow.Author.Needs.{needs}
 use Rattle.quick_reads.proofs.byte_at.Statement.{statement}
 use Rattle.quick_reads.proofs.byte_at.Tie as tie
@@ -15,65 +14,48 @@ region-of-requires c κs = search needs
 enum-told : tie.Need-enum-told
 enum-told c = search needs
 
-sub-i : tie.Need-sub-i
-sub-i c = within _ (sym (c .before .before .region-of .ensures) ∙ c .enum-told .given .1) .0
+registers-at-requires : tie.Need-registers-at-requires
+registers-at-requires c κs = load-length _ (c .before .before .before .before .before .before .before .before .before .pre .0)
 
-cast-i : tie.Need-cast-i
-cast-i c = search needs
+rom-place-requires : tie.Need-rom-place-requires
+rom-place-requires c κs = search needs
 
 shared-slice-read-result : tie.Need-shared-slice-read-result
-shared-slice-read-result c = let b = within _ (sym (c .before .before .before .region-of .ensures) ∙ c .before .enum-told .given .1) in omega (arith, b .0, b .1, load-length _ (c .before .before .before .before .before .before .before .before .before .before .pre .0 .0))
+shared-slice-read-result c = let p = c .before .rom-place .ensures in
+    omega (arith, rw (c .before .before .registers-at .ensures) at p, rom-place-below _ (c .before .before .before .before .before .before .before .before .before .before .before .before .pre .0) (λ k. c .before .before .before .before .before .before .before .before .before .before .before .shared-slice-known .given k .fits) _ (sym (c .before .before .before .before .before .region-of .ensures) ∙ c .before .before .before .enum-told .given .1), c .before .before .before .before .before .before .before .before .before .before .before .before .pre .1 .rom)
 
 enum-told-2 : tie.Need-enum-told-2
 enum-told-2 c = search needs
 
-sub-i-2 : tie.Need-sub-i-2
-sub-i-2 c = let b = within _ (sym (c .before .before .region-of .ensures) ∙ c .enum-told2 .given .1) in omega (arith, b)
+banks-at-requires : tie.Need-banks-at-requires
+banks-at-requires c κs = load-length _ (c .before .before .before .before .before .before .before .before .before .pre .0)
 
-cast-i-2 : tie.Need-cast-i-2
-cast-i-2 c = search needs
+read-cgb-lcd-ram-requires : tie.Need-read-cgb-lcd-ram-requires
+read-cgb-lcd-ram-requires c κs = (within _ (sym (c .before .before .before .region-of .ensures) ∙ c .before .enum-told2 .given .1), rw (c .banks-at .ensures) (vram-reaches _ (c .before .before .before .before .before .before .before .before .before .before .pre .0) (λ k. c .before .before .before .before .before .before .before .before .before .shared-slice-known .given k .fits) (c .before .before .before .before .before .before .before .before .before .before .pre .1)))
 
-shared-slice-read-byte : tie.Need-shared-slice-read-byte
-shared-slice-read-byte c = omega (arith, load-length _ (c .before .before .before .before .before .before .before .before .before .before .pre .0 .0))
+enum-told-3 : tie.Need-enum-told-3
+enum-told-3 c = search needs
 
-sub-shown : tie.Need-sub-shown
-sub-shown c = within _ (sym (c .before .before .before .before .before .before .region-of .ensures) ∙ c .before .before .before .before .enum-told2 .given .1)
+banks-at-requires-2 : tie.Need-banks-at-requires-2
+banks-at-requires-2 c κs = load-length _ (c .before .before .before .before .before .before .before .before .before .pre .0)
 
-cast-shown : tie.Need-cast-shown
-cast-shown c = let b = within _ (sym (c .before .before .before .before .before .before .region-of .ensures) ∙ c .before .before .before .before .enum-told2 .given .1) in search (needs, b)
+read-cgb-wram-requires : tie.Need-read-cgb-wram-requires
+read-cgb-wram-requires c κs = (within _ (sym (c .before .before .before .region-of .ensures) ∙ c .before .enum-told3 .given .1), rw (c .banks-at2 .ensures) (wram-reaches _ (c .before .before .before .before .before .before .before .before .before .before .pre .0) (λ k. c .before .before .before .before .before .before .before .before .before .shared-slice-known .given k .fits) (c .before .before .before .before .before .before .before .before .before .before .pre .1)))
 
-shown-requires : tie.Need-shown-requires
-shown-requires c κs = search needs
-
-read-lent-requires : tie.Need-read-lent-requires
-read-lent-requires c κs = (core-reaches _ _ _ _ _ (c .before .before .before .before .before .before .before .before .pre .0 .1) (c .before .before .before .before .before .before .before .before .pre .1), (c .before .region-of .ensures, lent-below _ (sym (c .before .region-of .ensures)) (c .match .keys3)))
+other-at-requires : tie.Need-other-at-requires
+other-at-requires c κs = (ready-lent _ (c .before .before .before .before .before .before .before .before .pre .0) (λ k. c .before .before .before .before .before .before .before .shared-slice-known .given k .fits) (c .before .before .before .before .before .before .before .before .pre .1), others-left (c .before .region-of .ensures) (c .match .keys4))
 
 returns : tie.Need-returns
-returns c = byte-oam _ _ _ _ _ (c .before .before .before .before .before .before .before .before .before .before .pre .0 .1) _ (c .before .before .before .before .before .before .before .before .before .before .pre .0 .0) (λ k. c .before .before .before .before .before .before .before .before .before .shared-slice-known .given k .fits) (sym (c .before .before .before .region-of .ensures) ∙ c .before .enum-told .given .1)
+returns c = rw (c .before .rom-place .ensures, c .before .before .registers-at .ensures) (byte-rom _ (c .before .before .before .before .before .before .before .before .before .before .before .before .pre .0) (λ k. c .before .before .before .before .before .before .before .before .before .before .before .shared-slice-known .given k .fits) _ _ _ _ _ (sym (c .before .before .before .before .before .region-of .ensures) ∙ c .before .before .before .enum-told .given .1))
 
 returns-2 : tie.Need-returns-2
-returns-2 c = c .shown .ensures ∙ byte-page _ _ _ _ _ (c .before .before .before .before .before .before .before .before .before .before .before .before .before .before .pre .0 .1) _ (c .before .before .before .before .before .before .before .before .before .before .before .before .before .before .pre .0 .0) (λ k. c .before .before .before .before .before .before .before .before .before .before .before .before .before .shared-slice-known .given k .fits) (sym (c .before .before .before .before .before .before .before .region-of .ensures) ∙ c .before .before .before .before .before .enum-told2 .given .1) (omega arith)
+returns-2 c = (c .read-cgb-lcd-ram .ensures ∙ rw (c .before .banks-at .ensures)) ∙ byte-vram _ (c .before .before .before .before .before .before .before .before .before .before .before .pre .0) (λ k. c .before .before .before .before .before .before .before .before .before .before .shared-slice-known .given k .fits) _ _ _ _ _ (sym (c .before .before .before .before .region-of .ensures) ∙ c .before .before .enum-told2 .given .1)
 
 returns-3 : tie.Need-returns-3
-returns-3 c = c .read-lent .ensures _ _ (sym (c .before .before .before .before .before .before .before .before .before .pre .0 .1))
+returns-3 c = (c .read-cgb-wram .ensures ∙ rw (c .before .banks-at2 .ensures)) ∙ byte-wram _ (c .before .before .before .before .before .before .before .before .before .before .before .pre .0) (λ k. c .before .before .before .before .before .before .before .before .before .before .shared-slice-known .given k .fits) _ _ _ _ _ (sym (c .before .before .before .before .region-of .ensures) ∙ c .before .before .enum-told3 .given .1)
+
+returns-4 : tie.Need-returns-4
+returns-4 c = c .other-at .ensures _ _ _
 
 pub byte-at-spec : {M : Type 1} → statement M
-byte-at-spec =
-    tie.close
-    (tie.spec
-    region-of-requires
-    enum-told
-    sub-i
-    cast-i
-    shared-slice-read-result
-    enum-told-2
-    sub-i-2
-    cast-i-2
-    shared-slice-read-byte
-    sub-shown
-    cast-shown
-    shown-requires
-    read-lent-requires
-    returns
-    returns-2
-    returns-3)
+byte-at-spec = tie.close (tie.spec region-of-requires enum-told registers-at-requires rom-place-requires shared-slice-read-result enum-told-2 banks-at-requires read-cgb-lcd-ram-requires enum-told-3 banks-at-requires-2 read-cgb-wram-requires other-at-requires returns returns-2 returns-3 returns-4)

@@ -6,17 +6,17 @@ use borrow.Author.Needs.{needs}
 use Rattle.quick_reads.proofs.read_byte.Statement.{statement}
 use Rattle.quick_reads.proofs.read_byte.Tie as tie
 
-open-lent-requires : tie.Need-open-lent-requires
-open-lent-requires c κs = search needs
+number-requires : tie.Need-number-requires
+number-requires c κs = search needs
 
 returns : tie.Need-returns
-returns c = refused-byte-read _ _ _ _ _ (c .before .before .open-lent .ensures .0) _ (c .if1 .taken)
+returns c = refused-byte-read _ _ _ _ _ (c .before .number .ensures) _ (c .if1 .taken)
 
 byte-at-requires : tie.Need-byte-at-requires
-byte-at-requires c κs = ((both-pass _ _ (sym (c .before .before .before .open-lent .ensures .0) ∙ c .before .if1 .left) .0, c .before .before .before .open-lent .ensures .1), read-ready _ _ _ _ _ (c .before .before .before .open-lent .ensures .0) (c .before .if1 .left))
+byte-at-requires c κs = (both-pass _ _ (sym (c .before .number .ensures) ∙ c .if1 .left) .0, read-ready _ _ _ _ _ (c .before .number .ensures) (c .if1 .left))
 
 returns-2 : tie.Need-returns-2
-returns-2 c = done-byte-read _ _ _ _ _ (c .before .before .before .before .open-lent .ensures .0) (c .before .before .if1 .left) _ (c .byte-at .ensures)
+returns-2 c = done-byte-read _ _ _ _ _ (c .before .before .number .ensures) (c .before .if1 .left) _ (c .byte-at .ensures)
 
 pub read-byte-spec : {M : Type 1} → statement M
-read-byte-spec = tie.close (tie.spec open-lent-requires returns byte-at-requires returns-2)
+read-byte-spec = tie.close (tie.spec number-requires returns byte-at-requires returns-2)
