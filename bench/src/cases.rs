@@ -2,7 +2,7 @@
 
 use std::hint::black_box;
 
-use crate::sides::{Ours, Theirs, RECORD_LEN};
+use bench::sides::{Ours, Theirs, RECORD_LEN};
 
 pub struct Case {
     pub name: &'static str,

@@ -4,14 +4,13 @@
 //!     bench CASE SIDE TURNS      one case by its number, on side 0 (ours) or 1 (theirs); what the counting runs
 
 mod cases;
-mod sides;
 
 use std::env;
 use std::process::Command;
 use std::time::Instant;
 
+use bench::sides::{agree, Ours, Theirs};
 use cases::{Case, CASES};
-use sides::{agree, Ours, Theirs};
 
 const ROUNDS: usize = 101;
 const ROUND_NANOSECONDS: u128 = 1_000_000;
