@@ -79,7 +79,8 @@ fn step(pattern: &mut Pattern, at: usize) -> Step {
         None
     };
     let button = match at % (2 * FRAME) {
-        1000 => Some(Button::Press),
+        // While the game asks for the other keys: the interrupt comes with a later write.
+        2500 => Some(Button::Press),
         9000 => Some(Button::Release),
         _ => None,
     };
