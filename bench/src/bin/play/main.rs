@@ -11,6 +11,7 @@ mod literal;
 
 use std::env;
 
+use bench::marks::{count_from, count_to};
 use bench::sides::{Ours, Theirs};
 use bus::Bus;
 use game::Step;
@@ -61,16 +62,4 @@ fn digest_of<B: Bus>(bus: &B) -> u64 {
     bytes.extend([numbers.screen_disabled.into(), numbers.scan_line, numbers.irq48_signal, numbers.lcd_status_mode]);
     bytes.extend([numbers.screen_enable_delay_cycles, numbers.cycles_counter].map(i32::to_be_bytes).concat());
     bytes.iter().fold(0, |sum, byte| (sum * 257 + u64::from(*byte) + 1) % 4_294_967_291)
-}
-
-#[no_mangle]
-#[inline(never)]
-extern "C" fn count_from() {
-    std::hint::black_box(());
-}
-
-#[no_mangle]
-#[inline(never)]
-extern "C" fn count_to() {
-    std::hint::black_box(());
 }
