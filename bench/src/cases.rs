@@ -1,11 +1,15 @@
 //! What is measured: the same calls on both sides, some number of times.
 
 use std::hint::black_box;
+use std::sync::OnceLock;
 
-use crate::sides::{Ours, Theirs, RECORD_LEN};
+use bench::pattern::{Access, Pattern};
+use bench::sides::{Ours, Theirs, RECORD_LEN};
 
 pub struct Case {
     pub name: &'static str,
+    /// How many are counted.
+    pub turns: u32,
     pub ours: fn(&mut Ours, u32),
     pub theirs: fn(&mut Theirs, u32),
 }
@@ -13,8 +17,12 @@ pub struct Case {
 /// A case from what one turn does on either side.
 macro_rules! case {
     ($name:literal, |$ours:ident| $our:expr, |$theirs:ident| $their:expr) => {
+        case! { $name, 100, |$ours| $our, |$theirs| $their }
+    };
+    ($name:literal, $turns:literal, |$ours:ident| $our:expr, |$theirs:ident| $their:expr) => {
         Case {
             name: $name,
+            turns: $turns,
             ours: |$ours, turns| {
                 for _ in 0..turns {
                     let _ = black_box($our);
@@ -29,7 +37,34 @@ macro_rules! case {
     };
 }
 
-pub const CASES: [Case; 11] = [
+/// A busy frame: an access and a timer update at each of the processor's 17,556 turns, both tile maps read, an OAM DMA, eight blocks of HDMA.
+macro_rules! frame {
+    ($side:ident) => {{
+        for access in accesses() {
+            match *access {
+                Access::Read(index) => {
+                    black_box($side.memory.read_byte(index));
+                }
+                Access::Write(index, value) => {
+                    let _ = black_box($side.memory.write_byte(index, value));
+                }
+            }
+            let _ = black_box($side.timer.update(4, &mut $side.memory));
+        }
+        for index in 0x9800..=0x9FFF {
+            black_box($side.memory.read_byte(index));
+        }
+        $side.memory.do_dma_transfer(0xC1);
+        for (index, value) in HDMA {
+            let _ = black_box($side.memory.write_byte(index, value));
+        }
+        for _ in 0..8 {
+            black_box($side.memory.do_hdma());
+        }
+    }};
+}
+
+pub const CASES: [Case; 12] = [
     case! { "read, ROM",
         |o| o.memory.read_byte(black_box(0x4123)),
         |t| t.memory.read_byte(black_box(0x4123))
@@ -82,10 +117,25 @@ pub const CASES: [Case; 11] = [
         |o| pouchrattle::recover(&mut o.recovery.save, black_box(&o.recovery.log)).unwrap(),
         |t| assert!(plain_recovery(&mut t.recovery.save, black_box(&t.recovery.log)))
     },
+    case! { "a frame's load (**)", 1,
+        |o| frame!(o),
+        |t| frame!(t)
+    },
 ];
 
 /// From 0100 to 8000.
 const GDMA: [(u16, u8); 5] = [(0xFF51, 0x01), (0xFF52, 0x00), (0xFF53, 0x00), (0xFF54, 0x00), (0xFF55, 0x7F)];
+
+/// Its addresses alone.
+const HDMA: [(u16, u8); 4] = [(0xFF51, 0x01), (0xFF52, 0x00), (0xFF53, 0x00), (0xFF54, 0x00)];
+
+fn accesses() -> &'static [Access] {
+    static ACCESSES: OnceLock<Vec<Access>> = OnceLock::new();
+    ACCESSES.get_or_init(|| {
+        let mut pattern = Pattern::new();
+        (0..17_556).map(|_| pattern.access()).collect()
+    })
+}
 
 /// With the log taken off when it is full.
 fn save_write(ours: &mut Ours) {

@@ -4,27 +4,32 @@
 //!     bench CASE SIDE TURNS      one case by its number, on side 0 (ours) or 1 (theirs); what the counting runs
 
 mod cases;
-mod sides;
 
 use std::env;
 use std::process::Command;
 use std::time::Instant;
 
+use bench::marks::{count_from, count_to};
+use bench::sides::{agree, Ours, Theirs};
 use cases::{Case, CASES};
-use sides::{agree, Ours, Theirs};
 
 const ROUNDS: usize = 101;
 const ROUND_NANOSECONDS: u128 = 1_000_000;
-const COUNTED_TURNS: u32 = 100;
 
 fn main() {
     let arguments: Vec<u32> = env::args().skip(1).map(|word| word.parse().expect("a number")).collect();
     match arguments[..] {
         [] => table(),
-        [case, 0, turns] => (CASES[case as usize].ours)(&mut Ours::new(), turns),
-        [case, 1, turns] => (CASES[case as usize].theirs)(&mut Theirs::new(), turns),
+        [case, 0, turns] => one(CASES[case as usize].ours, Ours::new(), turns),
+        [case, 1, turns] => one(CASES[case as usize].theirs, Theirs::new(), turns),
         _ => panic!("bench [CASE SIDE TURNS]"),
     }
+}
+
+fn one<Side>(run: fn(&mut Side, u32), mut side: Side, turns: u32) {
+    count_from();
+    run(&mut side, turns);
+    count_to();
 }
 
 fn table() {
@@ -33,7 +38,7 @@ fn table() {
     for (number, case) in CASES.iter().enumerate() {
         let (ours, theirs) = times(case);
         print!("| {} | {ours:.1} | {theirs:.1} | {:.1} |", case.name, ours / theirs);
-        match (count(number, 0), count(number, 1)) {
+        match (count(number, 0, case.turns), count(number, 1, case.turns)) {
             (Some(ours), Some(theirs)) => println!(" {ours:.0} | {theirs:.0} | {:.1} |", ours / theirs),
             _ => println!(" | | |"),
         }
@@ -77,10 +82,10 @@ fn nanoseconds(run: impl FnOnce()) -> u128 {
 }
 
 /// Instructions a call, by valgrind if it is here: what twice as many turns take more.
-fn count(case: usize, side: u32) -> Option<f64> {
-    let once = collected(case, side, COUNTED_TURNS)?;
-    let twice = collected(case, side, 2 * COUNTED_TURNS)?;
-    Some((twice - once) / f64::from(COUNTED_TURNS))
+fn count(case: usize, side: u32, turns: u32) -> Option<f64> {
+    let once = collected(case, side, turns)?;
+    let twice = collected(case, side, 2 * turns)?;
+    Some((twice - once) / f64::from(turns))
 }
 
 fn collected(case: usize, side: u32, turns: u32) -> Option<f64> {
