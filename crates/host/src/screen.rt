@@ -25,9 +25,8 @@ pub extern "C" fn pouch_host_numbers(
 ) -> u8
     ensures { λ r. ⌜ shown r (now (disabled .exit)) (now (line .exit)) (now (signal .exit)) (now (mode .exit)) (now (delay .exit)) (now (counter .exit)) (now (aux .exit)) (now (window .exit)) ≡ numbersEntry (now (image .entry)) ⌝ }
 {
-    let opened = image::open(image);
-    let core = opened.core;
-    let lcd = core.lcd;
+    let shown = quick_state::screen::host_numbers(image);
+    let lcd = shown.lcd;
     *disabled = bit(lcd.disabled);
     *line = lcd.line;
     *signal = lcd.signal;
@@ -40,7 +39,7 @@ pub extern "C" fn pouch_host_numbers(
     *aux = a;
     let w = lcd.window;
     *window = w;
-    opened.number
+    shown.number
 }
 
 // The bytes of all colours: red, green and blue of 64.

@@ -3,20 +3,20 @@ ghost use mathlib.Core.Path.{_≡_};
 ghost use Rattle.dispatch.specs.declared.StateCall.the-variants.{Load, Store, SetJoypadState, AreActionKeysEnabled, AreDirectionKeysEnabled, DoLcdControlWrite, DoLcdStatusWrite, DoScanlineWrite, DoLycWrite, CompareLyToLyc, EnableScreen, DisableScreen, ResetWindowLine, GetInterrupts, RequestInterrupt, RemoveInterrupt, IsHdmaEnabled, UpdateTimer, Press, Release, UpdateJoypad, ClearLog, Host};
 ghost use Rattle.lcd.specs.Lcd.{numbersOf};
 ghost use Rattle.entry.specs.Entry.{changed, stateEntry, given, askEntry};
-use dispatch::StateCall;
-use entry::ask;
-use entry::on_state;
 use lcd::Lcd;
 use quick_state::clock;
 use quick_state::fields;
+use quick_state::input;
 use quick_state::interrupts;
+use quick_state::page;
+use quick_state::screen;
 
 // Raw: the page, FF00..FFFF.
 #[no_mangle]
 pub extern "C" fn pouch_load(image: &[u8], index: u16, value: &mut u16) -> u8
     ensures { λ r. ⌜ given r (now (value .exit)) ≡ askEntry (now (image .entry)) (Load index) ⌝ }
 {
-    let asked = ask(image, StateCall::Load(index));
+    let asked = page::load(image, index);
     *value = asked.value;
     asked.number
 }
@@ -25,21 +25,21 @@ pub extern "C" fn pouch_load(image: &[u8], index: u16, value: &mut u16) -> u8
 pub extern "C" fn pouch_store(image: &mut [u8], index: u16, byte: u8) -> u8
     ensures { λ r. ⌜ changed r (now (image .exit)) ≡ stateEntry (now (image .entry)) (Store index byte) ⌝ }
 {
-    on_state(image, StateCall::Store(index, byte))
+    page::store(image, index, byte)
 }
 
 #[no_mangle]
 pub extern "C" fn pouch_set_joypad_state(image: &mut [u8], state: u8) -> u8
     ensures { λ r. ⌜ changed r (now (image .exit)) ≡ stateEntry (now (image .entry)) (SetJoypadState state) ⌝ }
 {
-    on_state(image, StateCall::SetJoypadState(state))
+    input::set_joypad_state(image, state)
 }
 
 #[no_mangle]
 pub extern "C" fn pouch_are_action_keys_enabled(image: &[u8], value: &mut u16) -> u8
     ensures { λ r. ⌜ given r (now (value .exit)) ≡ askEntry (now (image .entry)) AreActionKeysEnabled ⌝ }
 {
-    let asked = ask(image, StateCall::AreActionKeysEnabled);
+    let asked = input::are_action_keys_enabled(image);
     *value = asked.value;
     asked.number
 }
@@ -48,7 +48,7 @@ pub extern "C" fn pouch_are_action_keys_enabled(image: &[u8], value: &mut u16) -
 pub extern "C" fn pouch_are_direction_keys_enabled(image: &[u8], value: &mut u16) -> u8
     ensures { λ r. ⌜ given r (now (value .exit)) ≡ askEntry (now (image .entry)) AreDirectionKeysEnabled ⌝ }
 {
-    let asked = ask(image, StateCall::AreDirectionKeysEnabled);
+    let asked = input::are_direction_keys_enabled(image);
     *value = asked.value;
     asked.number
 }
@@ -57,56 +57,56 @@ pub extern "C" fn pouch_are_direction_keys_enabled(image: &[u8], value: &mut u16
 pub extern "C" fn pouch_do_lcd_control_write(image: &mut [u8], byte: u8) -> u8
     ensures { λ r. ⌜ changed r (now (image .exit)) ≡ stateEntry (now (image .entry)) (DoLcdControlWrite byte) ⌝ }
 {
-    on_state(image, StateCall::DoLcdControlWrite(byte))
+    screen::do_lcd_control_write(image, byte)
 }
 
 #[no_mangle]
 pub extern "C" fn pouch_do_lcd_status_write(image: &mut [u8], byte: u8) -> u8
     ensures { λ r. ⌜ changed r (now (image .exit)) ≡ stateEntry (now (image .entry)) (DoLcdStatusWrite byte) ⌝ }
 {
-    on_state(image, StateCall::DoLcdStatusWrite(byte))
+    screen::do_lcd_status_write(image, byte)
 }
 
 #[no_mangle]
 pub extern "C" fn pouch_do_scanline_write(image: &mut [u8], byte: u8) -> u8
     ensures { λ r. ⌜ changed r (now (image .exit)) ≡ stateEntry (now (image .entry)) (DoScanlineWrite byte) ⌝ }
 {
-    on_state(image, StateCall::DoScanlineWrite(byte))
+    screen::do_scanline_write(image, byte)
 }
 
 #[no_mangle]
 pub extern "C" fn pouch_do_lyc_write(image: &mut [u8], byte: u8) -> u8
     ensures { λ r. ⌜ changed r (now (image .exit)) ≡ stateEntry (now (image .entry)) (DoLycWrite byte) ⌝ }
 {
-    on_state(image, StateCall::DoLycWrite(byte))
+    screen::do_lyc_write(image, byte)
 }
 
 #[no_mangle]
 pub extern "C" fn pouch_compare_ly_to_lyc(image: &mut [u8]) -> u8
     ensures { λ r. ⌜ changed r (now (image .exit)) ≡ stateEntry (now (image .entry)) CompareLyToLyc ⌝ }
 {
-    on_state(image, StateCall::CompareLyToLyc)
+    screen::compare_ly_to_lyc(image)
 }
 
 #[no_mangle]
 pub extern "C" fn pouch_enable_screen(image: &mut [u8]) -> u8
     ensures { λ r. ⌜ changed r (now (image .exit)) ≡ stateEntry (now (image .entry)) EnableScreen ⌝ }
 {
-    on_state(image, StateCall::EnableScreen)
+    screen::enable_screen(image)
 }
 
 #[no_mangle]
 pub extern "C" fn pouch_disable_screen(image: &mut [u8]) -> u8
     ensures { λ r. ⌜ changed r (now (image .exit)) ≡ stateEntry (now (image .entry)) DisableScreen ⌝ }
 {
-    on_state(image, StateCall::DisableScreen)
+    screen::disable_screen(image)
 }
 
 #[no_mangle]
 pub extern "C" fn pouch_reset_window_line(image: &mut [u8]) -> u8
     ensures { λ r. ⌜ changed r (now (image .exit)) ≡ stateEntry (now (image .entry)) ResetWindowLine ⌝ }
 {
-    on_state(image, StateCall::ResetWindowLine)
+    screen::reset_window_line(image)
 }
 
 // The interrupt that is served first, by its bit; 5 for none.
@@ -154,14 +154,14 @@ pub extern "C" fn pouch_update_timer(image: &mut [u8], cycles: u32) -> u8
 pub extern "C" fn pouch_press(image: &mut [u8], button: u8) -> u8
     ensures { λ r. ⌜ changed r (now (image .exit)) ≡ stateEntry (now (image .entry)) (Press button) ⌝ }
 {
-    on_state(image, StateCall::Press(button))
+    input::press(image, button)
 }
 
 #[no_mangle]
 pub extern "C" fn pouch_release(image: &mut [u8], button: u8) -> u8
     ensures { λ r. ⌜ changed r (now (image .exit)) ≡ stateEntry (now (image .entry)) (Release button) ⌝ }
 {
-    on_state(image, StateCall::Release(button))
+    input::release(image, button)
 }
 
 // The Rust's Controller::update.
@@ -169,7 +169,7 @@ pub extern "C" fn pouch_release(image: &mut [u8], button: u8) -> u8
 pub extern "C" fn pouch_update_joypad(image: &mut [u8]) -> u8
     ensures { λ r. ⌜ changed r (now (image .exit)) ≡ stateEntry (now (image .entry)) UpdateJoypad ⌝ }
 {
-    on_state(image, StateCall::UpdateJoypad)
+    input::update_joypad(image)
 }
 
 // The host has copied the log's used bytes off.
@@ -205,5 +205,5 @@ pub extern "C" fn pouch_host(
         aux: aux,
         window: window,
     };
-    on_state(image, StateCall::Host(lcd))
+    screen::host(image, lcd)
 }

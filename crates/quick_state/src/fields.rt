@@ -1,45 +1,35 @@
-// Entries that need no array of the state: what `open` gives is enough.
+// Calls that need no more than a field: HDMA's flag, the log's use and its clearing.
+use crate::flag_given;
+use crate::refused;
 use entry::Given;
+use mbc::Mapper;
 ghost use mathlib.Core.Path.{_≡_};
-ghost use Rattle.dispatch.specs.Step.{flagNumber};
 ghost use Rattle.dispatch.specs.declared.StateCall.the-variants.{IsHdmaEnabled, ClearLog};
 ghost use Rattle.entry.specs.Entry.{changed, stateEntry, given, askEntry, usedEntry};
 ghost use Rattle.entry.specs.Host.{useEntry};
 
-fn flag_number(flag: bool) -> u16
-    ensures { λ r. ⌜ r ≡ flagNumber flag ⌝ }
-{
-    if flag { 1 } else { 0 }
-}
-
 pub fn is_hdma_enabled(image: &[u8]) -> Given
     ensures { λ r. ⌜ given (r .number) (r .value) ≡ askEntry (now (image .entry)) IsHdmaEnabled ⌝ }
 {
-    let opened = image::open(image);
-    if opened.number != numbers::DONE {
-        return Given {
-            number: opened.number,
-            value: 0,
-        };
+    let number = image::number(image);
+    if number != numbers::DONE {
+        return refused(number);
     }
-    let core = opened.core;
-    let hdma = core.hdma;
-    let value = flag_number(hdma.on);
-    Given {
-        number: numbers::DONE,
-        value: value,
-    }
+    let hdma = image::hdma_at(image);
+    flag_given(hdma.on)
 }
 
 // Bytes of the log that are used.
 pub fn log_used(image: &[u8]) -> Given
     ensures { λ r. ⌜ given (r .number) (r .value) ≡ usedEntry (now (image .entry)) ⌝ }
 {
-    let opened = image::open(image);
-    let core = opened.core;
+    let number = image::number(image);
+    if number != numbers::DONE {
+        return refused(number);
+    }
     Given {
-        number: opened.number,
-        value: core.used,
+        number: numbers::DONE,
+        value: image::used_at(image),
     }
 }
 
@@ -47,15 +37,14 @@ pub fn log_used(image: &[u8]) -> Given
 pub fn set_log_used(image: &mut [u8], used: u16) -> u8
     ensures { λ r. ⌜ changed r (now (image .exit)) ≡ useEntry (now (image .entry)) used ⌝ }
 {
-    let opened = image::open(image);
-    if opened.number != numbers::DONE {
-        return opened.number;
+    let number = image::number(image);
+    if number != numbers::DONE {
+        return number;
     }
     if !savelog::use_in_range(used, savelog::LOG_LIMIT) {
         return numbers::OUT_OF_RANGE;
     }
-    let core = opened.core;
-    let mapper = core.mapper;
+    let mapper = Mapper::from_registers(image::registers_at(image));
     image::put_mapping(image, mapper, used);
     numbers::DONE
 }

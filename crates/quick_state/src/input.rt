@@ -1,4 +1,6 @@
 // The joypad's calls.
+use crate::flag_given;
+use crate::refused;
 use entry::Given;
 ghost use mathlib.Core.Path.{_≡_};
 ghost use Rattle.dispatch.specs.declared.StateCall.the-variants.{SetJoypadState, AreActionKeysEnabled, AreDirectionKeysEnabled, Press, Release, UpdateJoypad};
@@ -20,9 +22,9 @@ pub fn are_action_keys_enabled(image: &[u8]) -> Given
 {
     let number = image::number(image);
     if number != numbers::DONE {
-        return crate::refused(number);
+        return refused(number);
     }
-    crate::flag_given(in_place::interrupts::are_action_keys_enabled(image))
+    flag_given(in_place::interrupts::are_action_keys_enabled(image))
 }
 
 pub fn are_direction_keys_enabled(image: &[u8]) -> Given
@@ -30,9 +32,9 @@ pub fn are_direction_keys_enabled(image: &[u8]) -> Given
 {
     let number = image::number(image);
     if number != numbers::DONE {
-        return crate::refused(number);
+        return refused(number);
     }
-    crate::flag_given(in_place::interrupts::are_direction_keys_enabled(image))
+    flag_given(in_place::interrupts::are_direction_keys_enabled(image))
 }
 
 // A button over 7 is refused by 7, after the image.

@@ -1,4 +1,5 @@
-// Interrupts on the image itself: FF0F and FFFF are two bytes of it.
+// The interrupts' calls.
+use crate::refused;
 use entry::Given;
 use interrupt::Pending;
 ghost use mathlib.Core.Path.{_≡_};
@@ -9,14 +10,11 @@ ghost use Rattle.entry.specs.Entry.{changed, stateEntry, given, askEntry};
 pub fn get_interrupts(image: &[u8]) -> Given
     ensures { λ r. ⌜ given (r .number) (r .value) ≡ askEntry (now (image .entry)) GetInterrupts ⌝ }
 {
-    let opened = image::open(image);
-    if opened.number != numbers::DONE {
-        return Given {
-            number: opened.number,
-            value: 0,
-        };
+    let number = image::number(image);
+    if number != numbers::DONE {
+        return refused(number);
     }
-    let pending = interrupt::get_interrupts(image[0x1FF], image[0x10F]);
+    let pending = in_place::interrupts::get_interrupts(image);
     let value = dispatch::pending_number(pending);
     Given {
         number: numbers::DONE,
@@ -28,31 +26,29 @@ pub fn get_interrupts(image: &[u8]) -> Given
 pub fn request_interrupt(image: &mut [u8], interrupt: u8) -> u8
     ensures { λ r. ⌜ changed r (now (image .exit)) ≡ stateEntry (now (image .entry)) (RequestInterrupt interrupt) ⌝ }
 {
-    let opened = image::open(image);
-    if opened.number != numbers::DONE {
-        return opened.number;
+    let number = image::number(image);
+    if number != numbers::DONE {
+        return number;
     }
     let named = interrupt::from_number(interrupt);
     let Pending::Some(known) = named else {
         return numbers::OUTSIDE;
     };
-    let flags = interrupt::request(image[0x10F], known);
-    image[0x10F] = flags;
+    in_place::interrupts::request_interrupt(image, known);
     numbers::DONE
 }
 
 pub fn remove_interrupt(image: &mut [u8], interrupt: u8) -> u8
     ensures { λ r. ⌜ changed r (now (image .exit)) ≡ stateEntry (now (image .entry)) (RemoveInterrupt interrupt) ⌝ }
 {
-    let opened = image::open(image);
-    if opened.number != numbers::DONE {
-        return opened.number;
+    let number = image::number(image);
+    if number != numbers::DONE {
+        return number;
     }
     let named = interrupt::from_number(interrupt);
     let Pending::Some(known) = named else {
         return numbers::OUTSIDE;
     };
-    let flags = interrupt::remove(image[0x10F], known);
-    image[0x10F] = flags;
+    in_place::interrupts::remove_interrupt(image, known);
     numbers::DONE
 }

@@ -25,9 +25,14 @@ fn refused(number: u8) -> Given
 fn flag_given(flag: bool) -> Given
     ensures { λ r. ⌜ given (r .number) (r .value) ≡ given 0 (flagNumber flag) ⌝ }
 {
-    let value = if flag { 1 } else { 0 };
+    if flag {
+        return Given {
+            number: numbers::DONE,
+            value: 1,
+        };
+    }
     Given {
         number: numbers::DONE,
-        value: value,
+        value: 0,
     }
 }

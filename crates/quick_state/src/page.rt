@@ -1,4 +1,5 @@
 // The page's bytes, FF00..FFFF, raw. An index below is refused by 7, after the image.
+use crate::refused;
 use entry::Given;
 ghost use mathlib.Core.Path.{_≡_};
 ghost use Rattle.dispatch.specs.declared.StateCall.the-variants.{Load, Store};
@@ -9,11 +10,11 @@ pub fn load(image: &[u8], index: u16) -> Given
 {
     let number = image::number(image);
     if number != numbers::DONE {
-        return crate::refused(number);
+        return refused(number);
     }
     let raw = refusals::raw_refused(index);
     if raw != numbers::DONE {
-        return crate::refused(raw);
+        return refused(raw);
     }
     let byte = in_place::load(image, (index % 256) as u8);
     Given {

@@ -3,6 +3,13 @@ use lcd::Lcd;
 ghost use mathlib.Core.Path.{_≡_};
 ghost use Rattle.dispatch.specs.declared.StateCall.the-variants.{EnableScreen, DisableScreen, ResetWindowLine, CompareLyToLyc, DoScanlineWrite, DoLycWrite, DoLcdControlWrite, DoLcdStatusWrite, Host};
 ghost use Rattle.entry.specs.Entry.{changed, stateEntry};
+ghost use Rattle.entry.specs.Host.{shownOf, numbersEntry};
+
+// An image's number, and the eight numbers of its screen.
+pub struct Shown {
+    pub number: u8,
+    pub lcd: Lcd,
+}
 
 pub fn enable_screen(image: &mut [u8]) -> u8
     ensures { λ r. ⌜ changed r (now (image .exit)) ≡ stateEntry (now (image .entry)) EnableScreen ⌝ }
@@ -102,4 +109,23 @@ pub fn host(image: &mut [u8], lcd: Lcd) -> u8
     }
     in_place::screen::host(image, lcd);
     numbers::DONE
+}
+
+// A refused image gives the numbers of the all-zero state.
+pub fn host_numbers(image: &[u8]) -> Shown
+    ensures { λ r. ⌜ shownOf (r .number) (r .lcd) ≡ numbersEntry (now (image .entry)) ⌝ }
+{
+    let number = image::number(image);
+    if number != numbers::DONE {
+        let zero = lcd::host(false, 0, 0, 0, 0, 0, 0, 0);
+        return Shown {
+            number: number,
+            lcd: zero,
+        };
+    }
+    let lcd = image::lcd_at(image);
+    Shown {
+        number: numbers::DONE,
+        lcd: lcd,
+    }
 }

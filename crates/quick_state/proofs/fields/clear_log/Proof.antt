@@ -1,6 +1,6 @@
 -- The use is set to 0.
 use mathlib.Core.Path.{_∙_}
-use Rattle.quick_state.proofs.InPlace.{cleared-use}
+use Rattle.quick_state.proofs.Parts.{cleared-use}
 use borrow.Author.Needs.{needs}
 use Rattle.quick_state.proofs.fields.clear_log.Statement.{statement}
 use Rattle.quick_state.proofs.fields.clear_log.Tie as tie

@@ -1,17 +1,19 @@
--- What `open` gave, with the use put.
-use Rattle.quick_state.proofs.InPlace.{closed-use, open-length, mapper-slim, use-refused, use-set}
+-- The image, the use, then the use put beside the mapper.
+use Rattle.in_place.proofs.Images.{size}
+use Rattle.quick_state.proofs.Calls.{taken}
+use Rattle.quick_state.proofs.Parts.{closed-use, use-refused, mapper-slim, use-set}
 use borrow.Author.Needs.{needs}
 use Rattle.quick_state.proofs.fields.set_log_used.Statement.{statement}
 use Rattle.quick_state.proofs.fields.set_log_used.Tie as tie
 
-open-requires : tie.Need-open-requires
-open-requires c κs = search needs
+number-requires : tie.Need-number-requires
+number-requires c κs = search needs
 
 same-length : tie.Need-same-length
 same-length c = search needs
 
 returns : tie.Need-returns
-returns c = closed-use _ (c .before .before .«open» .ensures) (c .if1 .taken) _
+returns c = closed-use _ (c .before .number .ensures) (c .if1 .taken) _
 
 use-in-range-requires : tie.Need-use-in-range-requires
 use-in-range-requires c κs = search needs
@@ -20,27 +22,35 @@ same-length-2 : tie.Need-same-length-2
 same-length-2 c = search needs
 
 returns-2 : tie.Need-returns-2
-returns-2 c = use-refused _ (c .before .before .before .before .«open» .ensures) (c .before .before .if1 .left) (λ i. c .before .before .before .before .before .before .slice-known .given i .fits) _ (c .before .use-in-range .ensures) (c .if2 .taken)
+returns-2 c = use-refused _ (taken _ (c .before .before .before .number .ensures) (c .before .before .if1 .left) (λ i. c .before .before .before .before .before .slice-known .given i .fits)) _ (c .before .use-in-range .ensures) (c .if2 .taken)
+
+registers-at-requires : tie.Need-registers-at-requires
+registers-at-requires c κs = size _ (taken _ (c .before .before .before .before .number .ensures) (c .before .before .before .if1 .left) (λ i. c .before .before .before .before .before .before .slice-known .given i .fits))
+
+from-registers-requires : tie.Need-from-registers-requires
+from-registers-requires c κs = search needs
 
 put-mapping-requires : tie.Need-put-mapping-requires
-put-mapping-requires c κs = (open-length _ (c .before .before .before .before .before .before .«open» .ensures) (c .before .before .before .before .if1 .left) (λ i. c .before .before .before .before .before .before .before .before .slice-known .given i .fits), mapper-slim _ (c .before .before .before .before .before .before .«open» .ensures) (c .before .before .before .before .if1 .left) (λ i. c .before .before .before .before .before .before .before .before .slice-known .given i .fits))
+put-mapping-requires c κs = (size _ (taken _ (c .before .before .before .before .before .before .before .number .ensures) (c .before .before .before .before .before .before .if1 .left) (λ i. c .before .before .before .before .before .before .before .before .before .slice-known .given i .fits)), mapper-slim _ (taken _ (c .before .before .before .before .before .before .before .number .ensures) (c .before .before .before .before .before .before .if1 .left) (λ i. c .before .before .before .before .before .before .before .before .before .slice-known .given i .fits)) (c .before .before .registers-at .ensures) (c .before .from-registers .ensures))
 
 same-length-3 : tie.Need-same-length-3
 same-length-3 c = search needs
 
 returns-3 : tie.Need-returns-3
-returns-3 c = use-set _ (c .before .before .before .before .before .before .before .before .before .«open» .ensures) (c .before .before .before .before .before .before .before .if1 .left) (λ i. c .before .before .before .before .before .before .before .before .before .before .before .slice-known .given i .fits) _ (c .before .before .before .before .before .before .use-in-range .ensures) (c .before .before .before .before .before .if2 .left) (c .before .before .put-mapping .ensures)
+returns-3 c = use-set _ (taken _ (c .before .before .before .before .before .before .before .before .before .before .number .ensures) (c .before .before .before .before .before .before .before .before .before .if1 .left) (λ i. c .before .before .before .before .before .before .before .before .before .before .before .before .slice-known .given i .fits)) (c .before .before .before .before .before .registers-at .ensures) (c .before .before .before .before .from-registers .ensures) _ (c .before .before .before .before .before .before .before .before .use-in-range .ensures) (c .before .before .before .before .before .before .before .if2 .left) (c .before .before .put-mapping .ensures)
 
 pub set-log-used-spec : {M : Type 1} → statement M
 set-log-used-spec =
     tie.close
     (tie.spec
-    open-requires
+    number-requires
     same-length
     returns
     use-in-range-requires
     same-length-2
     returns-2
+    registers-at-requires
+    from-registers-requires
     put-mapping-requires
     same-length-3
     returns-3)
