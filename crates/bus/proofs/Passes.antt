@@ -85,13 +85,13 @@ both-sides true true e = (refl, refl)
 both-sides true false e = absurd (omega arith)
 both-sides false b e = absurd (omega arith)
 
-pub vram-passes : (m : Memory) (n i bank : ℕ) → vramLengthRefused m n ≡ 0 → vramRefused m i bank ≡ 0
+pub vram-passes : (colour : Bool) (n i bank : ℕ) → vramLengthRefused colour n ≡ 0 → vramRefused colour i bank ≡ 0
     → ((0x8000 ≤ i) × (i < 0xA000)) × (bank * 0x2000 + 0x2000 ≤ n)
 unfolding vramLengthRefused vramRefused hasBank
-vram-passes m n i bank e f =
-    let p = both-sides (cond (eqb bank 0) true (cond (eqb bank 1) (m .core .banks .colour) false)) (leb 0x8000 i && ltb i 0xA000) f in
+vram-passes colour n i bank e f =
+    let p = both-sides (cond (eqb bank 0) true (cond (eqb bank 1) colour false)) (leb 0x8000 i && ltb i 0xA000) f in
     let q = both-true (leb 0x8000 i) (ltb i 0xA000) (p .1) in
-    let l = eqb-true n (vramLen (m .core .banks .colour)) (passes _ 4 (omega arith) e) in (
+    let l = eqb-true n (vramLen colour) (passes _ 4 (omega arith) e) in (
       (leb-true 0x8000 i (q .0), ltb-true i 0xA000 (q .1)),
-      omega (arith, l, bank-fits bank (m .core .banks .colour) (eqb bank 0) (eqb bank 1) refl refl (p .0)),
+      omega (arith, l, bank-fits bank colour (eqb bank 0) (eqb bank 1) refl refl (p .0)),
     )

@@ -38,5 +38,5 @@ readWordCall x w i = wordGiven (refusedRead x w) (readWord x (w .state) (w .vram
 abbrev pub readCgbLcdRamCall : World → ℕ → ℕ → Byte
 readCgbLcdRamCall w i bank =
     byteGiven
-    (orElse (refusedState (w .state)) (orElse (vramLengthRefused (w .state) (length (w .vram))) (vramRefused (w .state) i bank)))
+    (orElse (refusedState (w .state)) (orElse (vramLengthRefused (w .state .core .banks .colour) (length (w .vram))) (vramRefused (w .state .core .banks .colour) i bank)))
     (getD (w .vram) (vramAt bank i) 0)

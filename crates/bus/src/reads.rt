@@ -75,9 +75,10 @@ pub fn read_word(
 pub fn read_cgb_lcd_ram(memory: Memory, vram: &[u8], index: u16, bank: u8) -> Byte
     ensures { λ r. ⌜ r ≡ readCgbLcdRamCall (world memory (now (vram .entry)) [] [] []) index bank ⌝ }
 {
+    let banks = memory.core.banks;
     let state = refusals::refused(memory);
-    let length = refusals::vram_length_refused(memory, vram.len());
-    let rest = refusals::or_else(length, refusals::vram_refused(memory, index, bank));
+    let length = refusals::vram_length_refused(banks.colour, vram.len());
+    let rest = refusals::or_else(length, refusals::vram_refused(banks.colour, index, bank));
     let number = refusals::or_else(state, rest);
     if number != numbers::DONE {
         return Byte {

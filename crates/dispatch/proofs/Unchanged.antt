@@ -54,7 +54,7 @@ refused-promise x w (call.ReadByte i) e = (refl, byte-zero (refusedRead x w) (re
 refused-promise x w (call.ReadWord i) e = (refl, word-zero (refusedRead x w) (readWord x (w .state) (w .vram) (w .wram) (w .save) i) e)
 refused-promise x w (call.ReadCgbLcdRam i bank) e = (
   refl,
-  byte-zero (orElse (refusedState (w .state)) (orElse (vramLengthRefused (w .state) (length (w .vram))) (vramRefused (w .state) i bank)))
+  byte-zero (orElse (refusedState (w .state)) (orElse (vramLengthRefused (w .state .core .banks .colour) (length (w .vram))) (vramRefused (w .state .core .banks .colour) i bank)))
       (getD (w .vram) (vramAt bank i) 0) e,
 )
 refused-promise x w (call.WriteByte i v) e = unless-fair _ w _ (byte-done i) e

@@ -1,2 +1,3 @@
+pub mod Mappers
 pub mod One
 pub mod Shown

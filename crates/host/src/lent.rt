@@ -59,13 +59,7 @@ pub extern "C" fn pouch_read_cgb_lcd_ram(
 ) -> u8
     ensures { λ r. ⌜ given r (now (value .exit)) ≡ readEntry (fixed [] []) (now (image .entry)) (now (vram .entry)) [] [] (ReadCgbLcdRam index bank) ⌝ }
 {
-    let loaded = image::decode(image);
-    if loaded.number != numbers::DONE {
-        *value = 0;
-        return loaded.number;
-    }
-    let memory = loaded.state;
-    let read = bus::reads::read_cgb_lcd_ram(memory, vram, index, bank);
+    let read = quick_reads::read_cgb_lcd_ram(image, vram, index, bank);
     *value = read.value;
     read.number
 }

@@ -2,6 +2,7 @@
 ghost use mathlib.Core.Path.{_≡_};
 ghost use Rattle.entry.specs.Entry.{given, mapperReadEntry, answerNumber, mapped, mapperWriteEntry};
 use mbc::Answer;
+use mbc::Mapper;
 
 // The byte at 0000..7FFF or A000..BFFF.
 #[no_mangle]
@@ -14,15 +15,13 @@ pub extern "C" fn pouch_mapper_read(
 ) -> u8
     ensures { λ r. ⌜ given r (now (value .exit)) ≡ mapperReadEntry (now (image .entry)) (now (rom .entry)) (now (save .entry)) index ⌝ }
 {
-    let loaded = image::decode(image);
-    if loaded.number != numbers::DONE {
+    let number = image::number(image);
+    if number != numbers::DONE {
         *value = 0;
-        return loaded.number;
+        return number;
     }
-    let memory = loaded.state;
-    let core = memory.core;
-    let mapper = core.mapper;
-    let cartridge = core.cartridge;
+    let mapper = Mapper::from_registers(image::registers_at(image));
+    let cartridge = image::cartridge_at(image);
     let read = mapper.read_byte(cartridge, rom, save, index);
     *value = read.value;
     read.number
@@ -43,15 +42,13 @@ fn answer_number(answer: Answer) -> u32
 pub extern "C" fn pouch_mapper_write(image: &mut [u8], index: u16, byte: u8, value: &mut u32) -> u8
     ensures { λ r. ⌜ mapped r (now (value .exit)) (now (image .exit)) ≡ mapperWriteEntry (now (image .entry)) index byte ⌝ }
 {
-    let loaded = image::decode(image);
-    if loaded.number != numbers::DONE {
+    let number = image::number(image);
+    if number != numbers::DONE {
         *value = 0;
-        return loaded.number;
+        return number;
     }
-    let memory = loaded.state;
-    let core = memory.core;
-    let mapper = core.mapper;
-    let cartridge = core.cartridge;
+    let mapper = Mapper::from_registers(image::registers_at(image));
+    let cartridge = image::cartridge_at(image);
     let written = mapper.write_byte(cartridge, index, byte);
     if written.number != numbers::DONE {
         *value = 0;
@@ -60,7 +57,6 @@ pub extern "C" fn pouch_mapper_write(image: &mut [u8], index: u16, byte: u8, val
     let answer = written.answer;
     *value = answer_number(answer);
     let after = written.mapper;
-    let next = memory::with_mapper(memory, after);
-    image::store(next, image);
+    image::put_mapping(image, after, image::used_at(image));
     written.number
 }

@@ -3,7 +3,7 @@
 ghost use mathlib.Core.List.{List, []};
 ghost use mathlib.Core.Path.{_≡_};
 ghost use Prim.Native.Nat.{ℕ};
-ghost use Rattle.dispatch.specs.declared.Call.the-variants.{ReadByte, ReadWord};
+ghost use Rattle.dispatch.specs.declared.Call.the-variants.{ReadByte, ReadWord, ReadCgbLcdRam};
 ghost use Rattle.image.specs.Load.{loadCall};
 ghost use Rattle.memory.specs.Region.{regionOf};
 ghost use Rattle.memory.specs.World.{world, fixed};
@@ -178,5 +178,32 @@ pub fn read_word(
     Word {
         number: numbers::DONE,
         value: word,
+    }
+}
+
+// Video memory by its bank.
+pub fn read_cgb_lcd_ram(image: &[u8], vram: &[u8], index: u16, bank: u8) -> Byte
+    ensures { λ r. ⌜ given (r .number) (r .value) ≡ readEntry (fixed [] []) (now (image .entry)) (now (vram .entry)) [] [] (ReadCgbLcdRam index bank) ⌝ }
+{
+    let number = image::number(image);
+    if number != numbers::DONE {
+        return Byte {
+            number: number,
+            value: 0,
+        };
+    }
+    let banks = image::banks_at(image);
+    let length = refusals::vram_length_refused(banks.colour, vram.len());
+    let refused = refusals::or_else(length, refusals::vram_refused(banks.colour, index, bank));
+    if refused != numbers::DONE {
+        return Byte {
+            number: refused,
+            value: 0,
+        };
+    }
+    let value = mmu::regions::read_cgb_lcd_ram(vram, bank, index);
+    Byte {
+        number: numbers::DONE,
+        value: value,
     }
 }

@@ -105,16 +105,16 @@ unfoldable pub cyclesRefused : ℕ → ℕ
 cyclesRefused c = cond (leb c 65536) done tooManyCycles
 
 -- 4: the length of video memory, where it alone is lent
-unfoldable pub vramLengthRefused : Memory → ℕ → ℕ
-vramLengthRefused m vram = cond (eqb vram (vramLen (m .core .banks .colour))) done wrongLength
+unfoldable pub vramLengthRefused : Bool → ℕ → ℕ
+vramLengthRefused colour vram = cond (eqb vram (vramLen colour)) done wrongLength
 
 -- a VRAM bank is 0 or 1, and 1 in colour alone
-unfoldable pub hasBank : Memory → ℕ → Bool
-hasBank m bank = cond (eqb bank 0) true (cond (eqb bank 1) (m .core .banks .colour) false)
+unfoldable pub hasBank : Bool → ℕ → Bool
+hasBank colour bank = cond (eqb bank 0) true (cond (eqb bank 1) colour false)
 
 -- 7: a VRAM bank that the machine lacks, or an index outside 8000..9FFF
-unfoldable pub vramRefused : Memory → ℕ → ℕ → ℕ
-vramRefused m i bank = cond (hasBank m bank) (cond (leb 0x8000 i && ltb i 0xA000) done outside) outside
+unfoldable pub vramRefused : Bool → ℕ → ℕ → ℕ
+vramRefused colour i bank = cond (hasBank colour bank) (cond (leb 0x8000 i && ltb i 0xA000) done outside) outside
 
 -- the refusals over a world
 abbrev pub refusedRead : Fixed → World → ℕ

@@ -298,34 +298,32 @@ pub fn cycles_refused(cycles: u32) -> u8
     numbers::DONE
 }
 
-pub fn vram_length_refused(memory: Memory, vram: usize) -> u8
-    ensures { λ r. ⌜ r ≡ vramLengthRefused memory vram ⌝ }
+pub fn vram_length_refused(colour: bool, vram: usize) -> u8
+    ensures { λ r. ⌜ r ≡ vramLengthRefused colour vram ⌝ }
 {
-    let banks = memory.core.banks;
-    if vram == memory::vram_len(banks.colour) {
+    if vram == memory::vram_len(colour) {
         return numbers::DONE;
     }
     numbers::WRONG_LENGTH
 }
 
 // A bank of video memory that the machine has.
-fn has_bank(memory: Memory, bank: u8) -> bool
-    ensures { λ r. ⌜ r ≡ hasBank memory bank ⌝ }
+fn has_bank(colour: bool, bank: u8) -> bool
+    ensures { λ r. ⌜ r ≡ hasBank colour bank ⌝ }
 {
     if bank == 0 {
         return true;
     }
     if bank == 1 {
-        let banks = memory.core.banks;
-        return banks.colour;
+        return colour;
     }
     false
 }
 
-pub fn vram_refused(memory: Memory, index: u16, bank: u8) -> u8
-    ensures { λ r. ⌜ r ≡ vramRefused memory index bank ⌝ }
+pub fn vram_refused(colour: bool, index: u16, bank: u8) -> u8
+    ensures { λ r. ⌜ r ≡ vramRefused colour index bank ⌝ }
 {
-    if !has_bank(memory, bank) {
+    if !has_bank(colour, bank) {
         return numbers::OUTSIDE;
     }
     if index < 0x8000 {
