@@ -18,7 +18,7 @@ returns-2 c = unlike _ _ (λ e. omega (arith, c .if2 .taken, ap (λ (r : Registe
 
 returns-3 : tie.Need-returns-3
 unfolding same
-returns-3 c = 
+returns-3 c =
     let r = c .before .before .before .before .before .args .r in
     rw (
       eq-eqb (r .kind) 1 (c .before .before .before .if1 .left),

@@ -24,7 +24,7 @@ returns-4 c = unlike _ _ (λ e. c .if4 .taken (ap (λ (r : Registers). r .high) 
 
 returns-5 : tie.Need-returns-5
 unfolding same
-returns-5 c = 
+returns-5 c =
     let r = c .before .before .before .before .before .before .before .before .before .args .r in
     rw (
       eq-eqb (r .rom) (r .rom) refl,
