@@ -1,6 +1,6 @@
 -- The fields of an image are those at their places; fields put in an image are set in the list of its fields, and the rest stays. No width and no place
 -- of a field is named here.
-use mathlib.Core.Bool.{Bool, true, false, _&&_}
+use mathlib.Core.Bool.{Bool}
 use mathlib.Core.Path.{_≡_, refl, sym, ap, _∙_}
 use mathlib.Core.List.{List, [], _∷_, _++_, append-assoc}
 use Prim.Native.Nat.{ℕ, _+_, _*_, _/_, _^_, _<_}
@@ -100,11 +100,3 @@ pub core-same : {k k' : Banks} {l l' : Lcd} {h h' : Hdma} {j j' : Controller} {c
     (record { banks = k; lcd = l; hdma = h; joypad = j; clock = c; cartridge = g; mapper = m; used = u })
     (record { banks = k'; lcd = l'; hdma = h'; joypad = j'; clock = c'; cartridge = g'; mapper = m'; used = u' })
 core-same e₁ e₂ e₃ e₄ e₅ e₆ e₇ e₈ = rw (e₁, e₂, e₃, e₄, e₅, e₆, e₇, e₈)
-
-pub unsound : (a b : Bool) → b ≡ false → false ≡ (a && b)
-unsound true b h = sym h
-unsound false b h = refl
-
-pub sound-by : (a b : Bool) → b ≡ true → a ≡ (a && b)
-sound-by true b h = sym h
-sound-by false b h = refl

@@ -1,30 +1,32 @@
--- The state of an image, part by part, as the code reads it; and the two ways a load is refused.
-use mathlib.Core.Bool.{Bool, true, false, cond, _&&_}
+-- The state of an image, part by part, as the code reads it; and the number of a load, by the tests that the code makes.
+use mathlib.Core.Bool.{Bool, true, false, cond, _&&_, and-false}
 use mathlib.Core.Path.{_≡_, refl, sym, ap, _∙_}
 use mathlib.Core.List.{List, [], _∷_, _++_, append-assoc}
 use Prim.Native.Nat.{ℕ, zero, suc, _+_, _*_, _^_, _<_, _≤_}
 use native.Mathlib.Omega.{arith}
-use lib.Dec.{eqb}
+use lib.Dec.{eqb, leb}
 use lib.ListN.{length, take, drop, getD, length-append, length-drop, take-append-drop, replicate-append-replicate}
 use lib.Seq.{take-at, drop-at, take-take, drop-drop, length-take-le, take-add, drop-cons, getD-take, take-all}
-use borrow.Author.Tests.{eq-eqb}
+use borrow.Author.Tests.{eq-eqb, le-leb}
 use Rattle.numbers.specs.Numbers.{done, outOfRange}
 use Rattle.packing.specs.Packing.{Fit, Below, bits, packed, unpacked, repacked, eights, fives}
-use Rattle.packing.proofs.Laws.{below-fit, below-take, below-drop, fit-below}
+use Rattle.packing.proofs.Laws.{below-fit, below-take, below-drop, fit-below, fit-at, unpack-fit}
+use Rattle.places.specs.Places.{number}
+use Rattle.mbc.specs.Mbc as mbc
 use Rattle.palette.specs.declared.Color.{Color}
 use Rattle.memory.specs.declared.Core.{Core}
 use Rattle.memory.specs.declared.Memory.{Memory}
-use Rattle.memory.specs.Ranges.{coreInRange}
+use Rattle.memory.specs.Ranges.{banksInRange, hdmaInRange, groupsInRange, coreInRange}
 use Rattle.memory.specs.Start.{zeroed}
 use Rattle.memory.proofs.Laws.{core-range}
 use Rattle.palette.specs.Palette.{colorsInRange}
-use Rattle.savelog.specs.Log.{logLimit}
+use Rattle.savelog.specs.Log.{logLimit, useInRange}
 use Rattle.image.specs.Layout.{imageLen, fieldWidths, widths}
-use Rattle.image.specs.Load.{bytesIn, colorsIn, fieldsIn, valuesOf, stateFrom, stateOf, colorsOf, coreFrom, sound, storable, loaded, loadCall}
+use Rattle.image.specs.Load.{bytesIn, colorsIn, fieldsIn, valuesOf, stateFrom, stateOf, colorsOf, at, isOn, banksOf, hdmaOf, cartridgeOf, registersIn, coreFrom, sound, storable, loaded, loadCall}
 use Rattle.image.specs.declared.Loaded.{Loaded}
 use Rattle.image.specs.Patches.{fields}
 use Rattle.image.proofs.ColorLaws.{below-colors}
-use Rattle.image.proofs.FieldLaws.{fields-in}
+use Rattle.image.proofs.FieldLaws.{fields-number, fields-in}
 use Rattle.image.proofs.Parts.{fieldLen, values-parts, repacked-length, repacked-fit}
 
 module _ (l : List ℕ) (size : length l ≡ imageLen) (below : Below 256 l) where
@@ -87,9 +89,20 @@ module _ (l : List ℕ) (size : length l ≡ imageLen) (below : Below 256 l) whe
       drop-at (repacked (eights 60) (fives 96) (take 60 (drop 512 l))) (repacked (eights 60) (fives 96) (take 60 (drop 572 l))) 96
       (repacked-length (eights 60) (fives 96) (take 60 (drop 512 l)))
 
-neither : (b : Bool) (x y : Loaded) → cond (b && false) x y ≡ y
-neither true x y = refl
-neither false x y = refl
+ten-bits : (n : ℕ) → n < 2 ^ 10 → leb n 1023 ≡ true
+ten-bits n h = le-leb n 1023 (omega (arith, h))
+
+number-of : (b : Bool) (m : Memory) → (cond b (loaded done m) (loaded outOfRange zeroed)) .number ≡ cond b done outOfRange
+number-of true m = refl
+number-of false m = refl
+
+-- the tests of a load in the code's order; one of them always holds
+regrouped : (b h t s r z u : Bool) → t ≡ true → ((s && z) && ((b && (h && (t && r))) && u)) ≡ ((b && h) && ((s && r) && (z && u)))
+regrouped false h t s r z u e = and-false (s && z)
+regrouped true false t s r z u e = and-false (s && z)
+regrouped true true t false r z u e = refl
+regrouped true true t true r false u e = sym (and-false r)
+regrouped true true t true r true u e = rw e
 
 -- a state of its parts
 abbrev pub made : List ℕ → List ℕ → List Color → List Color → List ℕ → Memory
@@ -141,14 +154,24 @@ module _ (l : List ℕ) (size : length l ≡ imageLen) (below : Below 256 l) whe
       (ap (λ (m : Memory). colorsInRange (m .sprites)) state-read ∙ five-bits (take 60 (drop 572 l)))
       ∙ ap (λ (c : Core). coreInRange c logLimit) state-core
 
-  pub load-unsound : sound (fields l) ≡ false → loadCall l ≡ loaded outOfRange zeroed
-  unfolding loadCall
-  load-unsound h = rw (eq-eqb (length l) imageLen size, fields-in l size, h)
+  remainder-fits : leb (at (fields l) 13) 1023 ≡ true
+  remainder-fits =
+      ap (λ (fs : List ℕ). leb (at fs 13) 1023) (fields-number l size)
+      ∙ ten-bits (at (unpacked fieldWidths (number l)) 13)
+      (fit-at fieldWidths (unpacked fieldWidths (number l)) 13 (unpack-fit fieldWidths (number l)))
 
-  pub load-outside : storable (stateOf l) ≡ false → loadCall l ≡ loaded outOfRange zeroed
-  unfolding loadCall
-  load-outside h = rw (eq-eqb (length l) imageLen size, h) (neither (sound (fieldsIn (valuesOf l))) (loaded done (stateOf l)) (loaded outOfRange zeroed))
-
-  pub load-done : sound (fields l) ≡ true → storable (stateOf l) ≡ true → loadCall l ≡ loaded done (stateOf l)
-  unfolding loadCall
-  load-done h k = rw (eq-eqb (length l) imageLen size, fields-in l size, h, k)
+  -- the number of a load, by the tests that the code makes: head, mapper, the rest of the tail
+  pub load-fits : loadCall l .number
+      ≡ cond
+      ((banksInRange (banksOf (fields l)) && hdmaInRange (hdmaOf (fields l)) (isOn (fields l) 0))
+      && ((mbc.sound (registersIn (fields l)) && mbc.inRange (cartridgeOf (fields l)) (mbc.mapperOf (registersIn (fields l))))
+      && (eqb (at (fields l) 29) 0 && useInRange (at (fields l) 28) logLimit)))
+      done outOfRange
+  unfolding loadCall sound coreInRange groupsInRange
+  load-fits =
+      let fs = fields l in
+      rw (eq-eqb (length l) imageLen size, fields-in l size, core-storable)
+      (number-of (sound fs && coreInRange (coreFrom fs) logLimit) (stateOf l)
+      ∙ ap (λ (b : Bool). cond b done outOfRange)
+      (regrouped (banksInRange (banksOf fs)) (hdmaInRange (hdmaOf fs) (isOn fs 0)) (leb (at fs 13) 1023) (mbc.sound (registersIn fs))
+      (mbc.inRange (cartridgeOf fs) (mbc.mapperOf (registersIn fs))) (eqb (at fs 29) 0) (useInRange (at fs 28) logLimit) remainder-fits))

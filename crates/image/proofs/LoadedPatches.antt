@@ -19,13 +19,13 @@ use Rattle.memory.specs.World.{withMapper, withUsed}
 use Rattle.image.specs.Layout.{imageLen, fieldWidths, imageOf}
 use Rattle.image.specs.Load.{at, colorsOf, storable, stateOf, loadCall}
 use Rattle.image.specs.Laws.{Typed}
-use Rattle.image.specs.Patches.{mappingPut}
+use Rattle.image.specs.Patches.{usedPut, mappingPut}
 use Rattle.image.proofs.ColorLaws.{channels-length, channels-colors}
 use Rattle.image.proofs.Parts.{repacked-length}
 use Rattle.image.proofs.FieldLaws.{fields-number}
 use Rattle.image.proofs.LoadLaws.{made, state-read}
 use Rattle.image.proofs.OpenLaws.{load-length, load-state, load-storable, load-image}
-use Rattle.image.proofs.PatchLaws.{Bytes, mapping-image}
+use Rattle.image.proofs.PatchLaws.{Bytes, used-image, mapping-image}
 
 colors-length : (l : List ℕ) → length l ≡ 96 → length (colorsOf l) ≡ 32
 colors-length l h = omega (arith, channels-length (colorsOf l), ap length (channels-colors 32 l h))
@@ -78,6 +78,10 @@ module _ (l : List ℕ) (below : Below 256 l) (h : loadCall l .number ≡ done) 
 
   pub loaded-storable : storable (loadCall l .state) ≡ true
   loaded-storable = load-storable l h
+
+  pub loaded-used : (u : ℕ) → storable (withUsed (loadCall l .state) u) ≡ true → usedPut l u ≡ imageOf (withUsed (loadCall l .state) u)
+  loaded-used u k =
+      ap (λ (x : List ℕ). usedPut x u) (sym (load-image l h below)) ∙ used-image (loadCall l .state) loaded-typed loaded-storable u k
 
   pub loaded-mapping : (p : Mapper) (u : ℕ) → storable (withUsed (withMapper (loadCall l .state) p) u) ≡ true
       → mappingPut l p u ≡ imageOf (withUsed (withMapper (loadCall l .state) p) u)

@@ -21,7 +21,7 @@ use Rattle.memory.proofs.Laws.{range-parts}
 use Rattle.image.specs.Layout.{imageLen, fieldWidths, widths, channels, fieldValues, values, imageOf}
 use Rattle.image.specs.Load.{storable, valuesOf, fieldsIn}
 use Rattle.image.specs.Laws.{Typed}
-use Rattle.image.specs.Patches.{put, Fits, Slim, mappingFields, mappingPut, clockFields, clockPut}
+use Rattle.image.specs.Patches.{put, Fits, Slim, usedFields, usedPut, mappingFields, mappingPut, clockFields, clockPut}
 use Rattle.image.proofs.FieldLaws.{image-of-values, put-in, put-size, values-put}
 use Rattle.image.proofs.Parts.{fieldLen, joined}
 use Rattle.image.proofs.StateLaws.{storable-state, storable-use, slim-registers, image-bytes}
@@ -69,6 +69,10 @@ module _ (m : Memory) (t : Typed m) (h : storable m ≡ true) where
       (values-put l (b .0) (b .1 .0) ps f
       ∙ joined (ap (take 704) v ∙ front-of-values m t h) (ap (setAll ps) (ap fieldsIn v ∙ fields-of-values m t h) ∙ e)
       ∙ append-assoc (m .oam ++ m .page) (channels (m .background) ++ channels (m .sprites)) (fieldValues c))
+
+  pub used-image : (u : ℕ) → storable (withUsed m u) ≡ true → usedPut (imageOf m) u ≡ imageOf (withUsed m u)
+  unfolding usedPut
+  used-image u k = let m' = withUsed m u in image-put (usedFields u) (omega (arith, storable-use m' k)) (m' .core) refl
 
   pub mapping-image : (p : Mapper) (u : ℕ) → storable (withUsed (withMapper m p) u) ≡ true
       → mappingPut (imageOf m) p u ≡ imageOf (withUsed (withMapper m p) u)

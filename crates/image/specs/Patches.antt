@@ -68,8 +68,11 @@ numbersFields r = (20, r .kind) ∷ (23, r .rom) ∷ (24, r .ram) ∷ (27, r .hi
 abbrev pub registersFields : Registers → List (ℕ × ℕ)
 registersFields r = numbersFields r ++ ((25, r .mode) ∷ (26, r .enabled) ∷ [])
 
+abbrev pub usedFields : ℕ → List (ℕ × ℕ)
+usedFields u = (28, u) ∷ []
+
 abbrev pub mappingFields : Mapper → ℕ → List (ℕ × ℕ)
-mappingFields p u = registersFields (registersOf p) ++ ((28, u) ∷ [])
+mappingFields p u = registersFields (registersOf p) ++ usedFields u
 
 abbrev pub coreFields : Core → List (ℕ × ℕ)
 coreFields c =
@@ -84,6 +87,9 @@ coreFields c =
 -- what the mapper's ranges give
 abbrev pub Slim : Mapper → Type 0
 Slim p = Fits (registersFields (registersOf p))
+
+unfoldable pub usedPut : List ℕ → ℕ → List ℕ
+usedPut l u = put (usedFields u) l
 
 unfoldable pub mappingPut : List ℕ → Mapper → ℕ → List ℕ
 mappingPut l p u = put (mappingFields p u) l

@@ -10,15 +10,21 @@ use mbc::Registers;
 use memory::Banks;
 use memory::Clock;
 use memory::Core;
+ghost use mathlib.Core.Bool.{_&&_};
 ghost use mathlib.Core.Path.{_≡_};
+ghost use lib.Dec.{eqb};
 ghost use lib.ListN.{length};
 ghost use mir.Syntax.{w32};
 ghost use mir.Val.{ofZ, toZ};
 ghost use Rattle.packing.specs.Packing.{Fit};
 ghost use Rattle.places.specs.Places.{fieldAt, putAt, Within};
+ghost use Rattle.mbc.specs.Mbc as mbc;
+ghost use Rattle.mbc.specs.Mbc.{inRange, mapperOf};
+ghost use Rattle.savelog.specs.Log.{logLimit, useInRange};
+ghost use Rattle.memory.specs.Ranges.{banksInRange, hdmaInRange};
 ghost use Rattle.image.specs.Layout.{imageLen, fieldWidths, fieldValues};
-ghost use Rattle.image.specs.Load.{banksOf, lcdOf, hdmaOf, joypadOf, clockOf, cartridgeOf, registersIn, coreFrom, at, sound};
-ghost use Rattle.image.specs.Patches.{fields, put, Fits, banksFields, linesFields, lcdFields, hdmaFields, joypadFields, clockFields, cartridgeFields, numbersFields, Slim, mappingPut, clockPut, coreFields};
+ghost use Rattle.image.specs.Load.{banksOf, lcdOf, hdmaOf, joypadOf, clockOf, cartridgeOf, registersIn, coreFrom, at, isOn};
+ghost use Rattle.image.specs.Patches.{fields, put, Fits, banksFields, linesFields, lcdFields, hdmaFields, joypadFields, clockFields, cartridgeFields, numbersFields, Slim, usedPut, mappingPut, clockPut, coreFields};
 
 pub fn banks_at(image: &[u8]) -> Banks
     requires { ⌜ length (now image) ≡ imageLen ⌝ }
@@ -112,6 +118,13 @@ pub fn registers_at(image: &[u8]) -> Registers
     }
 }
 
+pub fn mapper_at(image: &[u8]) -> Mapper
+    requires { ⌜ length (now image) ≡ imageLen ⌝ }
+    ensures { λ r. ⌜ r ≡ mapperOf (registersIn (fields (now (image .entry)))) ⌝ }
+{
+    Mapper::from_registers(registers_at(image))
+}
+
 pub fn used_at(image: &[u8]) -> u16
     requires { ⌜ length (now image) ≡ imageLen ⌝ }
     ensures { λ r. ⌜ r ≡ at (fields (now (image .entry))) 28 ⌝ }
@@ -130,7 +143,7 @@ pub fn core_at(image: &[u8]) -> Core
     let joypad = joypad_at(image);
     let clock = clock_at(image);
     let cartridge = cartridge_at(image);
-    let mapper = Mapper::from_registers(registers_at(image));
+    let mapper = mapper_at(image);
     Core {
         banks: banks,
         lcd: lcd,
@@ -143,16 +156,45 @@ pub fn core_at(image: &[u8]) -> Core
     }
 }
 
-// Whether a mapper has these registers, and the bits behind the last field are 0.
-pub fn is_sound(image: &[u8]) -> bool
+// Whether the fields before the mapper are in range. The timer's remainders are: they are as wide as their ranges.
+pub fn head_fits(image: &[u8]) -> bool
     requires { ⌜ length (now image) ≡ imageLen ⌝ }
-    ensures { λ r. ⌜ r ≡ sound (fields (now (image .entry))) ⌝ }
+    ensures { λ r. ⌜ r ≡ (banksInRange (banksOf (fields (now (image .entry)))) && hdmaInRange (hdmaOf (fields (now (image .entry)))) (isOn (fields (now (image .entry))) 0)) ⌝ }
 {
+    let banks = banks_at(image);
+    if !memory::banks_in_range(banks) {
+        return false;
+    }
+    let hdma = hdma_at(image);
+    memory::hdma_in_range(hdma, banks.colour)
+}
+
+// Whether a mapper has the registers, and is in range.
+fn mapper_fits(image: &[u8]) -> bool
+    requires { ⌜ length (now image) ≡ imageLen ⌝ }
+    ensures { λ r. ⌜ r ≡ (mbc.sound (registersIn (fields (now (image .entry)))) && inRange (cartridgeOf (fields (now (image .entry)))) (mapperOf (registersIn (fields (now (image .entry)))))) ⌝ }
+{
+    let registers = registers_at(image);
+    if !registers.is_sound() {
+        return false;
+    }
+    let mapper = mapper_at(image);
+    let cartridge = cartridge_at(image);
+    mapper.in_range(cartridge)
+}
+
+// Whether the fields from the mapper on are in range, and the bits behind them 0.
+pub fn tail_fits(image: &[u8]) -> bool
+    requires { ⌜ length (now image) ≡ imageLen ⌝ }
+    ensures { λ r. ⌜ r ≡ ((mbc.sound (registersIn (fields (now (image .entry)))) && inRange (cartridgeOf (fields (now (image .entry)))) (mapperOf (registersIn (fields (now (image .entry)))))) && (eqb (at (fields (now (image .entry))) 29) 0 && useInRange (at (fields (now (image .entry))) 28) logLimit)) ⌝ }
+{
+    if !mapper_fits(image) {
+        return false;
+    }
     if places::u8_at(image, layout::ZEROS_AT, layout::ZEROS) != 0 {
         return false;
     }
-    let r = registers_at(image);
-    r.is_sound()
+    savelog::use_in_range(used_at(image), savelog::LOG_LIMIT)
 }
 
 pub fn put_banks(image: &mut [u8], banks: Banks)
@@ -237,6 +279,13 @@ fn put_numbers(image: &mut [u8], r: Registers)
     places::put_u8(image, layout::HIGH_AT, layout::HIGH, r.high);
 }
 
+pub fn put_used(image: &mut [u8], used: u16)
+    requires { ⌜ length (now image) ≡ imageLen ⌝ }
+    ensures { λ _. ⌜ now (image .exit) ≡ usedPut (now (image .entry)) used ⌝ }
+{
+    places::put_u16(image, layout::USED_AT, layout::USED, used);
+}
+
 // Mapper and log use.
 pub fn put_mapping(image: &mut [u8], mapper: Mapper, used: u16)
     requires { ⌜ (length (now image) ≡ imageLen) × Slim mapper ⌝ }
@@ -246,7 +295,7 @@ pub fn put_mapping(image: &mut [u8], mapper: Mapper, used: u16)
     put_numbers(image, r);
     places::put_u8(image, layout::BANKING_AT, 1, r.mode);
     places::put_u8(image, layout::ENABLED_AT, 1, r.enabled);
-    places::put_u16(image, layout::USED_AT, layout::USED, used);
+    put_used(image, used);
 }
 
 // All of the state but its arrays, and 0 in the bits behind.

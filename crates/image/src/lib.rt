@@ -21,12 +21,14 @@ pub use fields::clock_at;
 pub use fields::hdma_at;
 pub use fields::joypad_at;
 pub use fields::lcd_at;
+pub use fields::mapper_at;
 pub use fields::put_banks;
 pub use fields::put_clock;
 pub use fields::put_hdma;
 pub use fields::put_joypad;
 pub use fields::put_lcd;
 pub use fields::put_mapping;
+pub use fields::put_used;
 pub use fields::registers_at;
 pub use fields::used_at;
 pub use layout::LENGTH;
@@ -105,33 +107,36 @@ fn closed(number: u8) -> Opened
     }
 }
 
-// What a load gives, without the arrays: 4 for another length, 3 for an image that no state in range has. The colours are not
-// looked at: a channel of five bits is in range.
+// The number that a load gives: 4 for another length, 3 for an image that no state in range has. The colours are not looked at: a
+// channel of five bits is in range.
+pub fn number(image: &[u8]) -> u8
+    ensures { λ r. ⌜ r ≡ loadCall (now (image .entry)) .number ⌝ }
+{
+    if image.len() != LENGTH {
+        return numbers::WRONG_LENGTH;
+    }
+    if !fields::head_fits(image) {
+        return numbers::OUT_OF_RANGE;
+    }
+    if !fields::tail_fits(image) {
+        return numbers::OUT_OF_RANGE;
+    }
+    numbers::DONE
+}
+
+// What a load gives, without the arrays.
 pub fn open(image: &[u8]) -> Opened
     ensures { λ r. ⌜ r ≡ openCall (now (image .entry)) ⌝ }
 {
-    if image.len() != LENGTH {
-        return closed(numbers::WRONG_LENGTH);
-    }
-    if !fields::is_sound(image) {
-        return closed(numbers::OUT_OF_RANGE);
+    let number = number(image);
+    if number != numbers::DONE {
+        return closed(number);
     }
     let core = fields::core_at(image);
-    if !memory::core_in_range(core, savelog::LOG_LIMIT) {
-        return closed(numbers::OUT_OF_RANGE);
-    }
     Opened {
         number: numbers::DONE,
         core: core,
     }
-}
-
-// The number alone.
-pub fn number(image: &[u8]) -> u8
-    ensures { λ r. ⌜ r ≡ loadCall (now (image .entry)) .number ⌝ }
-{
-    let opened = open(image);
-    opened.number
 }
 
 // The state that an image's bytes hold.

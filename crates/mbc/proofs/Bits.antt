@@ -1,8 +1,10 @@
 -- A bit as a number.
-use mathlib.Core.Path.{_≡_, refl}
+use mathlib.Core.Path.{_≡_, refl, sym, _∙_}
 use mathlib.Core.Bool.{Bool, true, false}
-use Prim.Native.Nat.{_<_}
-use lib.Dec.{lit<}
+use Prim.Native.Nat.{ℕ, zero, suc, _<_}
+use native.Mathlib.Omega.{arith}
+use lib.Dec.{eqb, leb, lit<}
+use borrow.Author.Tests.{ne-eqb, lt-leb}
 use Rattle.mbc.specs.Registers.{bit, isOn}
 
 pub bit-back : (b : Bool) → isOn (bit b) ≡ b
@@ -12,3 +14,11 @@ bit-back false = refl
 pub bit-small : (b : Bool) → bit b < 2
 bit-small true = lit< tt
 bit-small false = lit< tt
+
+-- a number is a bit's where it is at most 1
+pub bit-test : (n : ℕ) → eqb n (bit (isOn n)) ≡ leb n 1
+bit-test zero = refl
+bit-test (suc zero) = refl
+bit-test (suc (suc n)) =
+    let k : ℕ = suc (suc n) in
+    ne-eqb k (bit (isOn k)) (λ e. omega (arith, bit-small (isOn k))) ∙ sym (lt-leb k 1 (omega arith))

@@ -1,6 +1,6 @@
 -- Registers and mappers, both ways.
 use mathlib.Core.Path.{_≡_, refl, sym, ap, _∙_}
-use mathlib.Core.Bool.{true}
+use mathlib.Core.Bool.{Bool, true, false}
 use Prim.Native.Nat.{ℕ, _<_}
 use lib.Dec.{eqb}
 use borrow.Author.Tests.{eqb-true, eq-eqb}
@@ -41,6 +41,13 @@ same-is r s e =
     let f = both-true (eqb (r .enabled) (s .enabled)) _ (d .1) in
     numbers-are (r .kind) (r .rom) (r .ram) (r .mode) (r .enabled) (r .high) s (eqb-true _ _ (a .0)) (eqb-true _ _ (b .0)) (eqb-true _ _ (c .0))
     (eqb-true _ _ (d .0)) (eqb-true _ _ (f .0)) (eqb-true _ _ (f .1))
+
+refuted : (b : Bool) → (b ≡ true → ⊥) → false ≡ b
+refuted true h = absurd (h refl)
+refuted false h = refl
+
+pub unlike : (r s : Registers) → (r ≡ s → ⊥) → false ≡ same r s
+unlike r s h = refuted (same r s) (λ e. h (sym (same-is r s e)))
 
 pub mapper-of-registers : (m : Mapper) → mapperOf (registersOf m) ≡ m
 mapper-of-registers m = lawful m .back

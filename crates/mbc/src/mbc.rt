@@ -12,7 +12,7 @@ ghost use mathlib.Core.List.{[]};
 ghost use Prim.Native.Nat.{_<_, _≤_};
 ghost use lib.ListN.{length};
 ghost use Rattle.mbc.specs.PanDocs.{romAddress, romPlace, ramAddress};
-ghost use Rattle.mbc.specs.Mbc.{romLen, ramLen, inRange, behaviour, mapperOf, registersOf, mapped, start, ramSource, source, byteOf, readAt, storedAt, after, written, fresh, lengths, readAs, readByte, writeByte};
+ghost use Rattle.mbc.specs.Mbc.{romLen, ramLen, inRange, behaviour, mapperOf, registersOf, sound, mapped, start, ramSource, source, byteOf, readAt, storedAt, after, written, fresh, lengths, readAs, readByte, writeByte};
 
 // Kinds are the state image's: each mapper's file has its own.
 pub enum Mapper {
@@ -156,6 +156,19 @@ impl Mapper {
             return Mapper::Mbc1(Mbc1::from_registers(r));
         }
         Mapper::Mbc2(Mbc2::from_registers(r))
+    }
+
+    // Whether a mapper has these fields: its kind is known, and a field that it lacks holds its starting value.
+    pub fn has(r: Registers) -> bool
+        ensures { λ b. ⌜ b ≡ sound r ⌝ }
+    {
+        if r.kind == rom_only::KIND {
+            return rom_only::has(r);
+        }
+        if r.kind == mbc1::KIND {
+            return Mbc1::has(r);
+        }
+        Mbc2::has(r)
     }
 
     fn start(kind: u8) -> Mapper

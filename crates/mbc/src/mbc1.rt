@@ -8,6 +8,7 @@ ghost use mathlib.Core.Path.{_≡_};
 ghost use mathlib.Core.Bool.{true};
 ghost use Prim.Native.Nat.{_<_, _≤_};
 ghost use Rattle.mbc.specs.PanDocs.{mbc1Bank};
+ghost use Rattle.mbc.specs.Registers.{same};
 ghost use Rattle.mbc.specs.Mbc1.{held1, suits, ramBank1, enable1, low1, high1, mode1, after1, from1, numbers1, ramSource1};
 ghost use Rattle.mbc.specs.Mbc.{inRange};
 ghost use Rattle.mbc.specs.declared.mbc.Mapper.the-variants as mapper;
@@ -61,6 +62,19 @@ impl Mbc1 {
             enabled: bit(self.enabled),
             high: self.high,
         }
+    }
+
+    // Whether one has these registers.
+    pub fn has(r: Registers) -> bool
+        ensures { λ b. ⌜ b ≡ same r (numbers1 (from1 r)) ⌝ }
+    {
+        if r.kind != KIND {
+            return false;
+        }
+        if 1 < r.mode {
+            return false;
+        }
+        r.enabled <= 1
     }
 
     // RAM enabled needs code 2 or 3; banking mode or a RAM bank above 0 needs code 3.

@@ -1,7 +1,7 @@
 // A mapper's fields as numbers, as the state image has them.
 use crate::mbc::Mapper;
 ghost use mathlib.Core.Path.{_≡_};
-ghost use Rattle.mbc.specs.Registers.{starting, bit, same};
+ghost use Rattle.mbc.specs.Registers.{starting, bit};
 ghost use Rattle.mbc.specs.Mbc.{sound};
 
 // Those that the mapper lacks hold their starting values.
@@ -35,33 +35,10 @@ impl Registers {
         }
     }
 
-    fn same(self, other: Registers) -> bool
-        ensures { λ r. ⌜ r ≡ same self other ⌝ }
-    {
-        if self.kind != other.kind {
-            return false;
-        }
-        if self.rom != other.rom {
-            return false;
-        }
-        if self.ram != other.ram {
-            return false;
-        }
-        if self.mode != other.mode {
-            return false;
-        }
-        if self.enabled != other.enabled {
-            return false;
-        }
-        self.high == other.high
-    }
-
-    // Whether a mapper has them: its kind is known, and a field that it lacks holds its starting value.
+    // Whether a mapper has them.
     pub fn is_sound(self) -> bool
         ensures { λ r. ⌜ r ≡ sound self ⌝ }
     {
-        let mapper = Mapper::from_registers(self);
-        let held = mapper.registers();
-        self.same(held)
+        Mapper::has(self)
     }
 }

@@ -2,12 +2,37 @@
 use crate::cartridge::Cartridge;
 use crate::mbc::Source;
 use crate::mbc::ram_address;
+use crate::registers::Registers;
 ghost use mathlib.Core.Path.{_≡_};
 ghost use Prim.Native.Nat.{_≤_};
+ghost use Rattle.mbc.specs.Registers.{starting, same};
+ghost use Rattle.mbc.specs.RomOnly.{kindRomOnly};
 ghost use Rattle.mbc.specs.Mbc.{inRange, ramSource};
 ghost use Rattle.mbc.specs.declared.mbc.Mapper.the-variants as mapper;
 
 pub const KIND: u8 = 0;
+
+// Whether it has these registers.
+pub fn has(r: Registers) -> bool
+    ensures { λ b. ⌜ b ≡ same r (starting kindRomOnly) ⌝ }
+{
+    if r.kind != KIND {
+        return false;
+    }
+    if r.rom != 1 {
+        return false;
+    }
+    if r.ram != 0 {
+        return false;
+    }
+    if r.mode != 0 {
+        return false;
+    }
+    if r.enabled != 0 {
+        return false;
+    }
+    r.high == 0
+}
 
 pub fn in_range(cartridge: Cartridge) -> bool
     ensures { λ r. ⌜ r ≡ inRange cartridge mapper.RomOnly ⌝ }

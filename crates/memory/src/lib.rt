@@ -1,5 +1,6 @@
 // The state of the bus, as the Rust's `Memory` without what is lent: its groups, its ranges, and how it starts.
 // The groups are the records of the crates below; the lent memories are slices, which the calls take beside the state.
+ghost use mathlib.Core.Bool.{not, _||_};
 ghost use mathlib.Core.Path.{_≡_};
 ghost use Prim.Native.Nat.{_<_};
 ghost use Rattle.memory.specs.Ranges.{banksInRange, hdmaInRange, groupsInRange, palettesInRange, inRange, coreInRange, vramLen, wramLen};
@@ -106,7 +107,7 @@ pub fn wram_len(colour: bool) -> usize
     if colour { 0x8000 } else { 0x2000 }
 }
 
-fn banks_in_range(banks: Banks) -> bool
+pub fn banks_in_range(banks: Banks) -> bool
     ensures { λ r. ⌜ r ≡ banksInRange banks ⌝ }
 {
     if banks.colour {
@@ -124,19 +125,26 @@ fn banks_in_range(banks: Banks) -> bool
     banks.wram == 1
 }
 
-fn hdma_in_range(hdma: Hdma, colour: bool) -> bool
-    ensures { λ r. ⌜ r ≡ hdmaInRange hdma colour ⌝ }
+// Monochrome: HDMA off.
+fn hdma_allowed(on: bool, colour: bool) -> bool
+    ensures { λ r. ⌜ r ≡ (colour || not on) ⌝ }
 {
-    if hdma.source % 16 != 0 {
-        return false;
-    }
-    if hdma.destination % 16 != 0 {
-        return false;
-    }
     if colour {
         return true;
     }
-    !hdma.on
+    !on
+}
+
+pub fn hdma_in_range(hdma: Hdma, colour: bool) -> bool
+    ensures { λ r. ⌜ r ≡ hdmaInRange hdma colour ⌝ }
+{
+    if !hdma_allowed(hdma.on, colour) {
+        return false;
+    }
+    if hdma.source % 16 != 0 {
+        return false;
+    }
+    hdma.destination % 16 == 0
 }
 
 // The ranges of the groups.

@@ -1,7 +1,5 @@
 -- The groups, one by one.
 use Rattle.image.proofs.FieldLaws.{core-same}
-use Rattle.mbc.specs.Mbc.{mapperOf}
-use mathlib.Core.Path.{ap, _∙_}
 use borrow.Author.Needs.{needs}
 use Rattle.image.proofs.fields.core_at.Statement.{statement}
 use Rattle.image.proofs.fields.core_at.Tie as tie
@@ -24,17 +22,14 @@ clock-at-requires c κs = search needs
 cartridge-at-requires : tie.Need-cartridge-at-requires
 cartridge-at-requires c κs = search needs
 
-registers-at-requires : tie.Need-registers-at-requires
-registers-at-requires c κs = search needs
-
-from-registers-requires : tie.Need-from-registers-requires
-from-registers-requires c κs = search needs
+mapper-at-requires : tie.Need-mapper-at-requires
+mapper-at-requires c κs = search needs
 
 used-at-requires : tie.Need-used-at-requires
 used-at-requires c κs = search needs
 
 returns : tie.Need-returns
-returns c = core-same (c .before .before .before .before .before .before .before .before .banks-at .ensures) (c .before .before .before .before .before .before .before .lcd-at .ensures) (c .before .before .before .before .before .before .hdma-at .ensures) (c .before .before .before .before .before .joypad-at .ensures) (c .before .before .before .before .clock-at .ensures) (c .before .before .before .cartridge-at .ensures) (c .before .from-registers .ensures ∙ ap mapperOf (c .before .before .registers-at .ensures)) (c .used-at .ensures)
+returns c = core-same (c .before .before .before .before .before .before .before .banks-at .ensures) (c .before .before .before .before .before .before .lcd-at .ensures) (c .before .before .before .before .before .hdma-at .ensures) (c .before .before .before .before .joypad-at .ensures) (c .before .before .before .clock-at .ensures) (c .before .before .cartridge-at .ensures) (c .before .mapper-at .ensures) (c .used-at .ensures)
 
 pub core-at-spec : {M : Type 1} → statement M
 core-at-spec =
@@ -46,7 +41,6 @@ core-at-spec =
     joypad-at-requires
     clock-at-requires
     cartridge-at-requires
-    registers-at-requires
-    from-registers-requires
+    mapper-at-requires
     used-at-requires
     returns)

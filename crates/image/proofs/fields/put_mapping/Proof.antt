@@ -1,5 +1,5 @@
 -- The registers' fields, then the log use.
-use Rattle.image.specs.Patches.{mappingPut}
+use Rattle.image.specs.Patches.{usedPut, mappingPut}
 use native.Mathlib.Omega.{arith}
 use borrow.Author.Needs.{needs}
 use Rattle.image.proofs.fields.put_mapping.Statement.{statement}
@@ -17,14 +17,14 @@ put-u8-requires c κs = rw (c .before .before .before .before .before .registers
 put-u8-requires-2 : tie.Need-put-u8-requires-2
 put-u8-requires-2 c κs = rw (c .before .before .before .before .before .before .before .before .before .registers .ensures) (omega (arith, c .before .before .before .before .before .before .before .before .before .before .before .pre))
 
-put-u16-requires : tie.Need-put-u16-requires
-put-u16-requires c κs = search needs
+put-used-requires : tie.Need-put-used-requires
+put-used-requires c κs = search needs
 
 same-length : tie.Need-same-length
 same-length c = search needs
 
 returns : tie.Need-returns
-unfolding mappingPut
+unfolding usedPut mappingPut
 returns c = cc
 
 pub put-mapping-spec : {M : Type 1} → statement M
@@ -35,6 +35,6 @@ put-mapping-spec =
     put-numbers-requires
     put-u8-requires
     put-u8-requires-2
-    put-u16-requires
+    put-used-requires
     same-length
     returns)
