@@ -7,3 +7,4 @@ pub mod Round
 pub mod OpenLaws
 pub mod PatchLaws
 pub mod LoadedPatches
+pub mod GroupPatches
