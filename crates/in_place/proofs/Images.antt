@@ -1,6 +1,6 @@
 -- An image with the state that it is of, and what a byte of the page or a group of fields put in it makes of both. An image that is taken is such a pair
 -- (`held`); each law leaves one, so that they follow one another as the code does.
-use mathlib.Core.Bool.{true}
+use mathlib.Core.Bool.{Bool, true, false}
 use mathlib.Core.List.{List}
 use mathlib.Core.Path.{_≡_, refl, sym, ap, _∙_}
 use Prim.Native.Nat.{ℕ, _+_, _<_}
@@ -9,11 +9,13 @@ use lib.ListN.{length, getD, set}
 use Rattle.image.proofs.GroupPatches.{LcdTyped, joypad-typed, joypad-storable, joypad-image, lcd-typed, lcd-storable, lcd-image, loaded-core}
 use Rattle.image.proofs.LoadedPatches.{loaded-typed, loaded-storable}
 use Rattle.image.proofs.OpenLaws.{load-length, load-image, load-page}
-use Rattle.image.proofs.PatchLaws.{page-image, typed-bytes, storable-bytes, bytes-set}
+use Rattle.hdma.specs.declared.Hdma.{Hdma}
+use Rattle.image.proofs.PatchLaws.{image-put, page-image, typed-bytes, storable-bytes, bytes-set}
+use Rattle.image.proofs.StateLaws.{storable-state, fields-fit, banks-fit}
 use Rattle.image.specs.Laws.{Typed}
-use Rattle.image.specs.Layout.{imageLen, imageOf}
+use Rattle.image.specs.Layout.{imageLen, imageOf, fieldValues}
 use Rattle.image.specs.Load.{storable, lcdOf, coreFrom, loadCall}
-use Rattle.image.specs.Patches.{fields, put, lcdFields, joypadFields}
+use Rattle.image.specs.Patches.{fields, put, Fits, banksFields, lcdFields, hdmaFields, joypadFields}
 use Rattle.joypad.proofs.Bytes.{update-bytes}
 use Rattle.joypad.specs.Joypad.{Bytes, polled}
 use Rattle.joypad.specs.declared.Controller.{Controller}
@@ -21,15 +23,52 @@ use Rattle.joypad.specs.declared.Polled.{Polled}
 use Rattle.lcd.proofs.Laws.{ScreenBytes, ScreenNumbers}
 use Rattle.lcd.specs.declared.Lcd.{Lcd}
 use Rattle.lcd.specs.declared.Screen.{Screen}
+use Rattle.memory.specs.Ranges.{stateInRange, inRange}
+use Rattle.memory.specs.World.{withBanks, withCore, withHdma}
+use Rattle.memory.specs.declared.Banks.{Banks}
 use Rattle.memory.specs.declared.Core.{Core}
 use Rattle.memory.specs.declared.Memory.{Memory}
+use Rattle.places.specs.Places.{setAll}
+use Rattle.registers.proofs.Kept.{Kept}
+use Rattle.registers.specs.Colour.{inColour}
 use Rattle.registers.specs.State.{loaded, stored, screenOf, withScreen, onScreen, hosted, withController, polledIn}
+use Rattle.rules.proofs.Tests.{both-true}
+use Rattle.savelog.specs.Log.{logLimit, useInRange}
 use Rattle.in_place.specs.Held.{Held}
+use Rattle.in_place.proofs.Fine.{typed-fine, fine-typed, banks-fine}
 
 pub record ImageOf (i : List ℕ) (m : Memory) : Type 0 where
   pub same : i ≡ imageOf m
   pub typed : Typed m
   pub storable : storable m ≡ true
+
+hdma-typed : (m : Memory) → Typed m → (x : Hdma) → (x .source < 65536) × (x .destination < 65536) → Typed (withHdma m x (m .page))
+hdma-typed m t x b =
+    record {
+      oam = t .oam;
+      page = t .page;
+      background = t .background;
+      sprites = t .sprites;
+      released = t .released;
+      state = t .state;
+      line = t .line;
+      signal = t .signal;
+      mode = t .mode;
+      delay = t .delay;
+      counter = t .counter;
+      aux = t .aux;
+      window = t .window;
+      div = t .div;
+      source = b .0;
+      destination = b .1;
+    }
+
+-- what a write that keeps the ranges leaves is in range
+pub kept-storable : {m n : Memory} → Kept m n → storable m ≡ true → storable n ≡ true
+unfolding storable inRange
+kept-storable {m} {n} k h =
+    let r = storable-state m h in
+    rw (k .range r, k .used) (both-true (stateInRange m) (useInRange (m .core .used) logLimit) h .1)
 
 module _ (i : List ℕ) (h : Held i) where
   abbrev pub state : Memory
@@ -73,6 +112,25 @@ module _ {i : List ℕ} {m : Memory} (e : ImageOf i m) where
         typed = lcd-typed m (e .typed) l k;
         storable = lcd-storable m (e .typed) (e .storable) l;
       }
+
+  -- fields that the ranges read: what is left is asked to be in range
+  put-core : (ps : List (ℕ × ℕ)) → Fits ps → (c : Core) → setAll ps (fieldValues (m .core)) ≡ fieldValues c → Typed (withCore m c)
+      → storable (withCore m c) ≡ true → ImageOf (put ps i) (withCore m c)
+  put-core ps f c k t h =
+      record { same = ap (put ps) (e .same) ∙ image-put m (e .typed) (e .storable) ps f c k; typed = t; storable = h }
+
+  pub put-banks : (b : Banks) → storable (withBanks m b (m .page)) ≡ true → ImageOf (put (banksFields b) i) (withBanks m b (m .page))
+  put-banks b h =
+      let n = withBanks m b (m .page) in
+      let t = fine-typed n (banks-fine (typed-fine m (e .typed) (storable-state m (e .storable))) b (record { size = e .typed .page .0; bytes = e .typed .page .1 })) in
+      put-core (banksFields b) (banks-fit (n .core) (fields-fit n t h)) (n .core) refl t h
+
+  pub put-hdma : (x : Hdma) → (x .source < 65536) × (x .destination < 65536) → storable (withHdma m x (m .page)) ≡ true
+      → ImageOf (put (hdmaFields x) i) (withHdma m x (m .page))
+  put-hdma x b h =
+      let n = withHdma m x (m .page) in
+      let t = hdma-typed m (e .typed) x b in
+      put-core (hdmaFields x) (omega (arith, fields-fit n t h)) (n .core) refl t h
 
 module _ (i : List ℕ) (h : Held i) where
   -- the joypad's update
@@ -118,6 +176,15 @@ module _ (i : List ℕ) (h : Held i) where
         aux = n .aux;
         window = n .window;
       }) .same
+
+-- a register of a colour machine alone, by what the test found
+pub in-colour : (m : Memory) (at v : ℕ) (n : Memory) {t : Bool} {j : List ℕ} → t ≡ m .core .banks .colour → t ≡ true → j ≡ imageOf n
+    → j ≡ imageOf (inColour m at v n)
+in-colour m at v n a b c = rw (sym a ∙ b) c
+
+pub in-monochrome : (m : Memory) (at v : ℕ) (n : Memory) {t : Bool} {j : List ℕ} → t ≡ m .core .banks .colour → t ≡ false → j ≡ imageOf (stored m at v)
+    → j ≡ imageOf (inColour m at v n)
+in-monochrome m at v n a b c = rw (sym a ∙ b) c
 
 -- an LCD function on the state, by the screen that it gave
 pub on-screen : (f : Screen → Screen) (m : Memory) {s n : Screen} {j : List ℕ} → s ≡ screenOf m → n ≡ f s → j ≡ imageOf (withScreen m n)
