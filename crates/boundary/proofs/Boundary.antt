@@ -43,7 +43,7 @@ use Rattle.boundary.specs.Held.{Held, held, entryRun, entryAnswers, answ
 use Rattle.boundary.specs.Types.{CallTyped, TurnTyped, TurnsTyped}
 use Rattle.boundary.proofs.Bytes.{Whole, step-whole}
 use Rattle.boundary.proofs.Entries.{entry-step}
-use Rattle.boundary.proofs.Fine.{Page, Fine, typed-fine, fine-typed}
+use Rattle.in_place.proofs.Fine.{Page, Fine, typed-fine, fine-typed}
 
 -- a state whose image gives it back, with memories of bytes
 record Sound (w : World) : Type 0 where

@@ -1,4 +1,4 @@
--- Every byte that is read is a byte, so every call leaves bytes: in the state by proofs/Fine.antt, in the memories here.
+-- Every byte that is read is a byte, so every call leaves bytes: in the state by proofs/Fine.antt and the crate in_place's, in the memories here.
 use mathlib.Core.List.{List}
 use mathlib.Core.Path.{_≡_, refl}
 use Prim.Native.Nat.{ℕ, zero, suc, _+_, _-_, _*_, _/_, _%_, _<_}
@@ -34,7 +34,8 @@ use Rattle.registers.specs.declared.transfers.Copy.{Copy}
 use Rattle.rules.proofs.Tests.{cond-both}
 use Rattle.savelog.specs.Log.{width, full}
 use Rattle.boundary.specs.Types.{CallTyped}
-use Rattle.boundary.proofs.Fine.{Fine, page-set, oam-fine, mapper-fine, used-fine, loaded-byte, write-fine, finished-fine, state-fine}
+use Rattle.in_place.proofs.Fine.{Fine, page-set, oam-fine, mapper-fine, used-fine, loaded-byte, write-fine, finished-fine}
+use Rattle.boundary.proofs.Fine.{state-fine}
 
 abbrev Byte : ℕ → Type 0
 Byte n = n < 256

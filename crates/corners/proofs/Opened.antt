@@ -17,6 +17,7 @@ use Rattle.refusals.specs.Refusal as refusal
 use Rattle.registers.specs.Colour as colour
 use Rattle.registers.specs.Page as page
 use Rattle.registers.specs.PanDocs as selected
+use Rattle.registers.specs.Register as register
 use Rattle.registers.specs.Transfers as transfers
 use Rattle.savelog.specs.Log as log
 use Rattle.timer.specs.PanDocs as counter
@@ -33,8 +34,8 @@ unfolding
     mbc.ramSource mbc.source mbc.low1 mbc.high1 mbc.after1 mbc.enable2 mbc.after2 banks.zeroAsOne start.monochromePage start.colourPage
     start.startPage start.startHdma start.started region.regionOf access.savePut map.echo map.wramAt write.copyBy write.writeAt
     palette.moved colours.byteAt colours.putAt answers.changed refusal.inSave refusal.inSound refusal.byteRoom refusal.byteOwed refusal.cyclesRefused
-    colour.wramBankPut colour.backgroundIndexPut colour.backgroundDataPut page.byKind page.lineRead page.plainRead page.shownAs page.readRegister page.plainWrite
-    page.writeRegister selected.wramBankOf transfers.sourceHighPut transfers.sourceLowPut transfers.destinationHighPut transfers.destinationLowPut
+    colour.wramBankPut colour.backgroundIndexPut colour.backgroundDataPut page.byKind page.lineRead page.plainRead page.shownAs page.readRegister
+    register.registerOf register.byteAs selected.wramBankOf transfers.sourceHighPut transfers.sourceLowPut transfers.destinationHighPut transfers.destinationLowPut
     transfers.started transfers.copyOf transfers.finished log.bytesOf log.recordNumber log.recordBytes log.appended counter.period
     counter.stepTima counter.steps timer.divided timer.counted rows.bytes rows.due oam.written oam.dma oam.oamAfter oam.laid quick.quick quick.quickly
 opened = tt

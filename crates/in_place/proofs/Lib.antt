@@ -1,2 +1,3 @@
+pub mod Fine
 pub mod Images
 pub mod Groups

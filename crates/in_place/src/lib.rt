@@ -7,8 +7,11 @@ ghost use Rattle.image.specs.Load.{loadCall};
 ghost use Rattle.registers.specs.State.{loaded, stored};
 ghost use Rattle.in_place.specs.Held.{Held};
 
+pub mod colour;
 pub mod interrupts;
+pub mod page;
 pub mod screen;
+pub mod transfers;
 
 // FF00 + at, raw.
 pub fn load(image: &[u8], at: u8) -> u8

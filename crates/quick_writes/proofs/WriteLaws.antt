@@ -25,6 +25,7 @@ use Rattle.image.specs.Load.{storable, loaded, loadCall, openCall}
 use Rattle.image.specs.Patches.{Slim, mappingPut}
 use Rattle.image.specs.declared.Loaded.{Loaded}
 use Rattle.image.specs.declared.Opened.{Opened}
+use Rattle.in_place.specs.Held.{Held}
 use Rattle.mbc.specs.Mbc.{inRange, ramLen, after}
 use Rattle.mbc.specs.declared.mbc.Mapper.{Mapper}
 use Rattle.memory.proofs.Laws.{mapper-kept}
@@ -35,7 +36,7 @@ use Rattle.memory.specs.declared.Core.{Core}
 use Rattle.memory.specs.declared.Memory.{Memory}
 use Rattle.memory.specs.declared.region.Region.the-variants.{Rom, Vram, Save, Wram, Oam, Page}
 use Rattle.mmu.proofs.Laws.{Stays, put-stays}
-use Rattle.mmu.proofs.Places.{holds-mapper, holds-vram, holds-wram, put-rom, put-vram, put-save, put-wram}
+use Rattle.mmu.proofs.Places.{holds-mapper, holds-vram, holds-wram, put-rom, put-vram, put-save, put-wram, put-register}
 use Rattle.mmu.specs.Access.{Holds, mapperPut, savePut, inState, inVram, inWram, put}
 use Rattle.mmu.specs.PanDocs.{vramAt, wramAt}
 use Rattle.mmu.specs.Write.{writeAt, wordAt}
@@ -44,12 +45,13 @@ use Rattle.packing.specs.Packing.{Below}
 use Rattle.refusals.proofs.Answers.{both-pass}
 use Rattle.rules.proofs.Tests.{both-true, by-cond}
 use Rattle.refusals.proofs.Core.{write-lent}
+use Rattle.registers.specs.Page.{writeRegister}
 use Rattle.refusals.specs.Refusal.{orElse, useRefused, lentRefused, writeRefused, refusedWrite, inSound, nextIndex, byteRoom, wordRoom, byteOwed, wordOwed}
 use Rattle.savelog.specs.Log.{logLimit, useInRange}
 use Rattle.entry.specs.Entry.{Left, left, leftIn, encodedIn, worldEntry}
-use Rattle.quick_writes.specs.Writes.{quick, worldOf, Taken, leftBy, ownPut, pagePut}
+use Rattle.quick_writes.specs.Writes.{quick, worldOf, Taken, leftBy, ownPut}
 use Rattle.entry.proofs.Laws.{stays-storable, in-log}
-use Rattle.quick_writes.proofs.Quick.{quick-plain, put-typed, own-oam, own-page}
+use Rattle.quick_writes.proofs.Quick.{quick-plain, put-typed, own-oam}
 
 -- the image and the memories of what a write leaves
 as-left : (w : World) (index b : ℕ) {u : World} {j : List ℕ} → u ≡ put w index b → j ≡ imageOf (u .state)
@@ -79,6 +81,9 @@ module _ {i v w s l : List ℕ} (t : Taken i v w s l) where
 
   left-storable : (index b : ℕ) {u : World} → u ≡ put (worldOf i v w s l) index b → storable (u .state) ≡ true
   left-storable index b e = ap (λ (a : World). storable (a .state)) e ∙ put-storable index b
+
+  pub taken-held : Held i
+  taken-held = (t .bytes, t .number)
 
   pub taken-length : length i ≡ imageLen
   taken-length = load-length i (t .number)
@@ -140,20 +145,18 @@ module _ {i v w s l : List ℕ} (t : Taken i v w s l) where
           let o = own-oam (worldOf i v w s l) taken-typed taken-storable index b z q in
           as-left (worldOf i v w s l) index b (o .same) (f ∙ ap (λ (a : List ℕ). ownPut a index b) taken-image ∙ o .image)
 
-      pub left-page : regionOf index ≡ Page → quick index ≡ true → b < 256 → {j : List ℕ} → j ≡ pagePut i index b
+      pub left-page : regionOf index ≡ Page → {j : List ℕ} → j ≡ imageOf (writeRegister (loadCall i .state) (index - 0xFF00) b)
           → left 0 0 j v w s l ≡ leftBy (put (worldOf i v w s l) index b)
-      left-page q y z f =
-          let o = own-page (worldOf i v w s l) taken-typed taken-storable index b z y q in
-          as-left (worldOf i v w s l) index b (o .same) (f ∙ ap (λ (a : List ℕ). pagePut a index b) taken-image ∙ o .image)
+      left-page q f = as-left (worldOf i v w s l) index b (put-register (worldOf i v w s l) index b q refl) f
 
   -- and the next write finds an image that is taken
-  pub taken-put : (index b : ℕ) → b < 256 → quick index ≡ true → {j v' w' s' l' : List ℕ}
+  pub taken-put : (index b : ℕ) → b < 256 → {j v' w' s' l' : List ℕ}
       → left 0 0 j v' w' s' l' ≡ leftBy (put (worldOf i v w s l) index b)
       → Taken j v' w' s' l' × (worldOf j v' w' s' l' ≡ put (worldOf i v w s l) index b)
-  taken-put index b z q e =
+  taken-put index b z e =
       let u = put (worldOf i v w s l) index b in
       let y = put-stays (worldOf i v w s l) (t .holds) index b in
-      let r = state-back (u .state) (put-typed (worldOf i v w s l) taken-typed index b z q) (put-storable index b) in
+      let r = state-back (u .state) (put-typed (worldOf i v w s l) taken-typed (storable-state _ taken-storable) index b z) (put-storable index b) in
       let n : loadCall (imageOf (u .state)) .state ≡ u .state = ap (λ (d : Loaded). d .state) (r .1 .1) in
       subst (λ (a : Left). Taken (a .image) (a .vram) (a .wram) (a .save) (a .log) × (worldOf (a .image) (a .vram) (a .wram) (a .save) (a .log) ≡ u)) (sym e) (
         record {

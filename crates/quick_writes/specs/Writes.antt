@@ -4,7 +4,7 @@ use mathlib.Core.Bool.{Bool, true, false, cond}
 use mathlib.Core.List.{List}
 use mathlib.Core.Path.{_≡_}
 use Prim.Native.Nat.{ℕ, _-_}
-use lib.Dec.{ltb}
+use lib.Dec.{eqb}
 use lib.ListN.{length, set}
 use Rattle.image.specs.Layout.{imageOf}
 use Rattle.image.specs.Load.{loadCall}
@@ -15,9 +15,9 @@ use Rattle.packing.specs.Packing.{Below}
 use Rattle.savelog.specs.Log.{useInRange}
 use Rattle.entry.specs.Entry.{Left, leftIn}
 
--- an index whose write changes nothing of the state but its mapper, its log use, or one byte of OAM or page: all but the registers
+-- an index whose write starts no transfer
 unfoldable pub quick : ℕ → Bool
-quick at = cond (ltb at 0xFF10) (ltb at 0xFF00) (cond (ltb at 0xFF40) true (cond (ltb at 0xFF80) false (ltb at 0xFFFF)))
+quick at = cond (eqb at 0xFF46) false (cond (eqb at 0xFF55) false true)
 
 -- the world of an image that is taken
 abbrev pub worldOf : List ℕ → List ℕ → List ℕ → List ℕ → List ℕ → World
@@ -34,10 +34,6 @@ pub record Taken (i v w s l : List ℕ) : Type 0 where
 abbrev pub leftBy : World → Left
 leftBy w = leftIn done 0 (imageOf (w .state)) w
 
--- OAM and page are the first 512 bytes of an image
+-- OAM is the first 256 bytes of an image
 abbrev pub ownPut : List ℕ → ℕ → ℕ → List ℕ
 ownPut i at v = set i (at - 0xFE00) v
-
--- a quick write to the page: one to the sound window changes no byte
-unfoldable pub pagePut : List ℕ → ℕ → ℕ → List ℕ
-pagePut i at v = cond (ltb at 0xFF40) i (ownPut i at v)

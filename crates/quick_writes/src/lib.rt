@@ -1,22 +1,24 @@
-// Byte and word writes of an image and what is lent. Most change a lent memory, the mapper with the log use, or one byte of OAM or page, and leave the rest of
-// the image: these are quick. They take the image's fields alone, and change it in place (specs/Writes.antt).
+// Byte and word writes of an image and what is lent. Those that start no transfer are quick: they take the image's fields alone, and change it in place
+// (specs/Writes.antt).
 ghost use mathlib.Core.Bool.{true};
 ghost use mathlib.Core.List.{[]};
 ghost use mathlib.Core.Path.{_≡_};
-ghost use Prim.Native.Nat.{_/_, _%_, _<_, _≤_};
+ghost use Prim.Native.Nat.{_-_, _/_, _%_, _<_, _≤_};
 ghost use lib.ListN.{length};
 ghost use Rattle.dispatch.specs.declared.Call.the-variants.{WriteByte, WriteWord};
-ghost use Rattle.image.specs.Layout.{imageLen};
+ghost use Rattle.image.specs.Layout.{imageLen, imageOf};
+ghost use Rattle.in_place.specs.Held.{Held};
 ghost use Rattle.image.specs.Load.{loadCall};
 ghost use Rattle.image.specs.Patches.{Slim, mappingPut};
 ghost use Rattle.mbc.specs.Mbc.{inRange, ramLen, after};
 ghost use Rattle.memory.specs.World.{world, fixed, withMapper, withUsed};
 ghost use Rattle.memory.specs.declared.Memory.{Memory};
 ghost use Rattle.mmu.specs.Access.{savePut, put};
+ghost use Rattle.registers.specs.Page.{writeRegister};
 ghost use Rattle.refusals.specs.Refusal.{orElse, writeRefused, nextIndex};
 ghost use Rattle.savelog.specs.Log.{logLimit};
 ghost use Rattle.entry.specs.Entry.{left, worldEntry};
-ghost use Rattle.quick_writes.specs.Writes.{quick, worldOf, Taken, leftBy, ownPut, pagePut};
+ghost use Rattle.quick_writes.specs.Writes.{quick, worldOf, Taken, leftBy, ownPut};
 use dispatch::Call;
 use entry::on_bus;
 use image::Opened;
@@ -24,20 +26,17 @@ use memory::Core;
 use memory::Region;
 use mmu::regions::Mapping;
 
-// Whether a write at an index is quick: all but those to a register.
+// Whether a write at an index is quick: it starts no transfer.
 fn is_quick(index: u16) -> bool
     ensures { λ r. ⌜ r ≡ quick index ⌝ }
 {
-    if index < 0xFF10 {
-        return index < 0xFF00;
-    }
-    if index < 0xFF40 {
-        return true;
-    }
-    if index < 0xFF80 {
+    if index == 0xFF46 {
         return false;
     }
-    index < 0xFFFF
+    if index == 0xFF55 {
+        return false;
+    }
+    true
 }
 
 // Below 8000: the mapper's registers.
@@ -72,7 +71,7 @@ fn put_save(
     mapping
 }
 
-// A byte of OAM or page.
+// A byte of OAM.
 fn put_own(image: &mut [u8], at: u16, value: u8)
     requires { ⌜ (length (now image) ≡ imageLen) × (0xFE00 ≤ at) ⌝ }
     ensures { λ _. ⌜ now (image .exit) ≡ ownPut (now (image .entry)) at value ⌝ }
@@ -81,15 +80,13 @@ fn put_own(image: &mut [u8], at: u16, value: u8)
     image[i] = value;
 }
 
-// The page: the sound window, or a byte behind the registers.
+// A register, on the image itself.
 fn put_page(image: &mut [u8], at: u16, value: u8)
-    requires { ⌜ (length (now image) ≡ imageLen) × (0xFF00 ≤ at) ⌝ }
-    ensures { λ _. ⌜ now (image .exit) ≡ pagePut (now (image .entry)) at value ⌝ }
+    requires { ⌜ Held (now image) × (0xFF00 ≤ at) ⌝ }
+    ensures { λ _. ⌜ now (image .exit) ≡ imageOf (writeRegister (loadCall (now (image .entry)) .state) (at - 0xFF00) value) ⌝ }
 {
-    if at < 0xFF40 {
-        return;
-    }
-    put_own(image, at, value);
+    let i = (at - 0xFF00) as u8;
+    in_place::page::write(image, i, value);
 }
 
 // A quick write that nothing refuses.

@@ -6,8 +6,7 @@ use mathlib.Core.Path.{_≡_, refl, _∙_}
 use Prim.Native.Nat.{ℕ, _+_, _%_, _≤_}
 use native.Mathlib.Nat.{mod-lt}
 use native.Mathlib.Omega.{arith}
-use lib.Bits.{bitOr}
-use lib.Dec.{eqb, ltb}
+use lib.Dec.{eqb}
 use lib.ListN.{set}
 use borrow.Author.Tests.{eqb-false}
 use Rattle.hdma.specs.Hdma.{sourceHigh, sourceLow, destinationHigh, destinationLow, risen, stepped, fallen, stillOn, blockEnded, generalEnded}
@@ -69,7 +68,10 @@ use Rattle.registers.specs.Colour.{
   spriteDataPut,
 }
 use Rattle.registers.specs.Transfers.{sourceHighPut, sourceLowPut, destinationHighPut, destinationLowPut, startedBy, started, startPut, withEnded, finished}
-use Rattle.registers.specs.Page.{plainWrite, writeRegister}
+use Rattle.registers.specs.Page.{writeIn, writeRegister}
+use Rattle.registers.specs.Register.{registerOf, byteAs}
+use Rattle.registers.specs.declared.register.Register.{Register}
+use Rattle.registers.specs.declared.register.Register.the-variants as is
 use Rattle.registers.specs.declared.transfers.Finish.{Finish}
 use Rattle.registers.specs.declared.transfers.Started.{Started}
 use Rattle.registers.specs.declared.transfers.Finish.the-variants.{Nothing, Block, General}
@@ -336,33 +338,25 @@ finished-kept m General v = general-kept m v
 
 -- The page
 
-pub plain-write-kept : (m : Memory) (at v : ℕ) → Kept m (plainWrite m at v)
-unfolding plainWrite
-plain-write-kept m at v =
-    cond-both (Kept m) (ltb at 0x10) (stored-kept m at v) (cond-both (Kept m) (ltb at 0x40) (kept-refl m) (stored-kept m at v))
+pub in-kept : (r : Register) (m : Memory) (at v : ℕ) → Kept m (writeIn r m at v)
+in-kept is.Sound m at v = kept-refl m
+in-kept is.Control m at v = screen-kept (λ s. controlWritten s v) m
+in-kept is.Status m at v = screen-kept (λ s. statusWritten s v) m
+in-kept is.Line m at v = screen-kept (λ s. scanlineWritten s v) m
+in-kept is.Compare m at v = screen-kept (λ s. lycWritten s v) m
+in-kept is.Speed m at v = speed-kept m v
+in-kept is.VramBank m at v = vram-bank-kept m v
+in-kept is.SourceHigh m at v = source-high-kept m v
+in-kept is.SourceLow m at v = source-low-kept m v
+in-kept is.DestinationHigh m at v = destination-high-kept m v
+in-kept is.DestinationLow m at v = destination-low-kept m v
+in-kept is.Start m at v = start-kept m v
+in-kept is.BackgroundIndex m at v = background-index-kept m v
+in-kept is.BackgroundData m at v = background-data-kept m v
+in-kept is.SpriteIndex m at v = sprite-index-kept m v
+in-kept is.SpriteData m at v = sprite-data-kept m v
+in-kept is.WramBank m at v = wram-bank-kept m v
+in-kept is.Byte m at v = stored-kept m at (byteAs at v)
 
 pub write-kept : (m : Memory) (at v : ℕ) → Kept m (writeRegister m at v)
-unfolding writeRegister
-write-kept m at v =
-    cond-both (Kept m) (eqb at 0x04) (stored-kept m 0x04 0)
-    (cond-both (Kept m) (eqb at 0x0F) (stored-kept m 0x0F (v % 32))
-    (cond-both (Kept m) (eqb at 0x40) (screen-kept (λ s. controlWritten s v) m)
-    (cond-both (Kept m) (eqb at 0x41) (screen-kept (λ s. statusWritten s v) m)
-    (cond-both (Kept m) (eqb at 0x44) (screen-kept (λ s. scanlineWritten s v) m)
-    (cond-both (Kept m) (eqb at 0x45) (screen-kept (λ s. lycWritten s v) m)
-    (cond-both (Kept m) (eqb at 0x4D) (speed-kept m v)
-    (cond-both (Kept m) (eqb at 0x4F) (vram-bank-kept m v)
-    (cond-both (Kept m) (eqb at 0x51) (source-high-kept m v)
-    (cond-both (Kept m) (eqb at 0x52) (source-low-kept m v)
-    (cond-both (Kept m) (eqb at 0x53) (destination-high-kept m v)
-    (cond-both (Kept m) (eqb at 0x54) (destination-low-kept m v)
-    (cond-both (Kept m) (eqb at 0x55) (start-kept m v)
-    (cond-both (Kept m) (eqb at 0x68) (background-index-kept m v)
-    (cond-both (Kept m) (eqb at 0x69) (background-data-kept m v)
-    (cond-both (Kept m) (eqb at 0x6A) (sprite-index-kept m v)
-    (cond-both (Kept m) (eqb at 0x6B) (sprite-data-kept m v)
-    (cond-both (Kept m) (eqb at 0x6C) (stored-kept m 0x6C (bitOr v 0xFE))
-    (cond-both (Kept m) (eqb at 0x70) (wram-bank-kept m v)
-    (cond-both (Kept m) (eqb at 0x75) (stored-kept m 0x75 (bitOr v 0x8F))
-    (cond-both (Kept m) (eqb at 0xFF) (stored-kept m 0xFF (v % 32))
-    (plain-write-kept m at v)))))))))))))))))))))
+write-kept m at v = in-kept (registerOf at) m at v

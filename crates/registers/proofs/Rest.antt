@@ -6,9 +6,7 @@ use Prim.Native.Nat.{ℕ, _-_, _^_, _<_, _≤_}
 use native.Mathlib.Omega.{arith}
 use lib.ListN.{getD}
 use borrow.Author.Tests.{ne-eqb, lt-ltb, le-ltb}
-use Rattle.memory.specs.declared.Memory.{Memory}
-use Rattle.registers.specs.State.{stored}
-use Rattle.registers.specs.Page.{shownAs, plainRead, writeRegister, plainWrite}
+use Rattle.registers.specs.Page.{shownAs, plainRead}
 
 pub rest-read : (byte : ℕ) (cgb : Bool) (line pad : ℕ) (sound : List ℕ) (at : ℕ)
     → (at ≡ 0x00 → ⊥)
@@ -49,55 +47,6 @@ rest-read byte cgb line pad sound at h1 h2 h3 h4 h5 h6 h7 h8 h9 h10 h11 h12 h13 
       ne-eqb at 0x77 h16,
     )
 
-pub rest-write : (m : Memory) (at v : ℕ)
-    → (at ≡ 0x04 → ⊥)
-    → (at ≡ 0x0F → ⊥)
-    → (at ≡ 0x40 → ⊥)
-    → (at ≡ 0x41 → ⊥)
-    → (at ≡ 0x44 → ⊥)
-    → (at ≡ 0x45 → ⊥)
-    → (at ≡ 0x4D → ⊥)
-    → (at ≡ 0x4F → ⊥)
-    → (at ≡ 0x51 → ⊥)
-    → (at ≡ 0x52 → ⊥)
-    → (at ≡ 0x53 → ⊥)
-    → (at ≡ 0x54 → ⊥)
-    → (at ≡ 0x55 → ⊥)
-    → (at ≡ 0x68 → ⊥)
-    → (at ≡ 0x69 → ⊥)
-    → (at ≡ 0x6A → ⊥)
-    → (at ≡ 0x6B → ⊥)
-    → (at ≡ 0x6C → ⊥)
-    → (at ≡ 0x70 → ⊥)
-    → (at ≡ 0x75 → ⊥)
-    → (at ≡ 0xFF → ⊥)
-    → writeRegister m at v ≡ plainWrite m at v
-unfolding writeRegister
-rest-write m at v h1 h2 h3 h4 h5 h6 h7 h8 h9 h10 h11 h12 h13 h14 h15 h16 h17 h18 h19 h20 h21 =
-    rw (
-      ne-eqb at 0x04 h1,
-      ne-eqb at 0x0F h2,
-      ne-eqb at 0x40 h3,
-      ne-eqb at 0x41 h4,
-      ne-eqb at 0x44 h5,
-      ne-eqb at 0x45 h6,
-      ne-eqb at 0x4D h7,
-      ne-eqb at 0x4F h8,
-      ne-eqb at 0x51 h9,
-      ne-eqb at 0x52 h10,
-      ne-eqb at 0x53 h11,
-      ne-eqb at 0x54 h12,
-      ne-eqb at 0x55 h13,
-      ne-eqb at 0x68 h14,
-      ne-eqb at 0x69 h15,
-      ne-eqb at 0x6A h16,
-      ne-eqb at 0x6B h17,
-      ne-eqb at 0x6C h18,
-      ne-eqb at 0x70 h19,
-      ne-eqb at 0x75 h20,
-      ne-eqb at 0xFF h21,
-    )
-
 module _ (byte : ℕ) (sound : List ℕ) (at : ℕ) where
   pub low-read : at < 0x10 → plainRead byte sound at ≡ byte
   unfolding plainRead
@@ -110,19 +59,6 @@ module _ (byte : ℕ) (sound : List ℕ) (at : ℕ) where
   pub high-read : 0x10 ≤ at → 0x40 ≤ at → plainRead byte sound at ≡ byte
   unfolding plainRead
   high-read h l = rw (le-ltb at 0x10 h, le-ltb at 0x40 l)
-
-module _ (m : Memory) (at v : ℕ) where
-  pub low-write : at < 0x10 → plainWrite m at v ≡ stored m at v
-  unfolding plainWrite
-  low-write h = rw (lt-ltb at 0x10 h)
-
-  pub sound-write : 0x10 ≤ at → at < 0x40 → plainWrite m at v ≡ m
-  unfolding plainWrite
-  sound-write h l = rw (le-ltb at 0x10 h, lt-ltb at 0x40 l)
-
-  pub high-write : 0x10 ≤ at → 0x40 ≤ at → plainWrite m at v ≡ stored m at v
-  unfolding plainWrite
-  high-write h l = rw (le-ltb at 0x10 h, le-ltb at 0x40 l)
 
 -- a place in the sound window
 pub offset-fits : (at : ℕ) → at < 0x40 → at - 0x10 < 2 ^ 64

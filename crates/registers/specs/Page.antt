@@ -1,7 +1,7 @@
 -- What FF00 + at reads, and what a byte write stores there (document 01, "The bus": "Reads with bits forced", "Writes", "Colour only").
 use mathlib.Core.Bool.{Bool, cond}
 use mathlib.Core.List.{List}
-use Prim.Native.Nat.{ℕ, _-_, _%_}
+use Prim.Native.Nat.{ℕ, _-_}
 use lib.Bits.{bitOr}
 use lib.Dec.{eqb, ltb}
 use lib.ListN.{getD}
@@ -10,9 +10,12 @@ use Rattle.lcd.specs.Lcd.{scanlineWritten, lycWritten, controlWritten, statusWr
 use Rattle.lcd.specs.declared.Lcd.{Lcd}
 use Rattle.memory.specs.declared.Memory.{Memory}
 use Rattle.registers.specs.Colour.{speedPut, vramBankPut, wramBankPut, backgroundIndexPut, backgroundDataPut, spriteIndexPut, spriteDataPut}
-use Rattle.registers.specs.PanDocs.{flagsOnes, statusOnes, vramBankOnes, divReset}
+use Rattle.registers.specs.PanDocs.{flagsOnes, statusOnes, vramBankOnes}
+use Rattle.registers.specs.Register.{registerOf, byteAs}
 use Rattle.registers.specs.State.{loaded, stored, onScreen}
 use Rattle.registers.specs.Transfers.{sourceHighPut, sourceLowPut, destinationHighPut, destinationLowPut, startPut}
+use Rattle.registers.specs.declared.register.Register.{Register}
+use Rattle.registers.specs.declared.register.Register.the-variants as is
 
 -- colour gives one byte, monochrome another
 unfoldable pub byKind : Bool → ℕ → ℕ → ℕ
@@ -50,31 +53,26 @@ shownAs byte cgb line pad sound at =
 unfoldable pub readRegister : Memory → List ℕ → ℕ → ℕ
 readRegister m sound at = shownAs (loaded m at) (m .core .banks .colour) (lineRead (m .core .lcd)) (m .core .joypad .state) sound at
 
--- the rest of the page: a write in FF10..FF3F changes no bus byte, all else is stored
-unfoldable pub plainWrite : Memory → ℕ → ℕ → Memory
-plainWrite m at v = cond (ltb at 0x10) (stored m at v) (cond (ltb at 0x40) m (stored m at v))
+-- a byte write to a register; one in FF10..FF3F changes no bus byte
+abbrev pub writeIn : Register → Memory → ℕ → ℕ → Memory
+writeIn is.Sound m at v = m
+writeIn is.Control m at v = onScreen (λ s. controlWritten s v) m
+writeIn is.Status m at v = onScreen (λ s. statusWritten s v) m
+writeIn is.Line m at v = onScreen (λ s. scanlineWritten s v) m
+writeIn is.Compare m at v = onScreen (λ s. lycWritten s v) m
+writeIn is.Speed m at v = speedPut m v
+writeIn is.VramBank m at v = vramBankPut m v
+writeIn is.SourceHigh m at v = sourceHighPut m v
+writeIn is.SourceLow m at v = sourceLowPut m v
+writeIn is.DestinationHigh m at v = destinationHighPut m v
+writeIn is.DestinationLow m at v = destinationLowPut m v
+writeIn is.Start m at v = startPut m v
+writeIn is.BackgroundIndex m at v = backgroundIndexPut m v
+writeIn is.BackgroundData m at v = backgroundDataPut m v
+writeIn is.SpriteIndex m at v = spriteIndexPut m v
+writeIn is.SpriteData m at v = spriteDataPut m v
+writeIn is.WramBank m at v = wramBankPut m v
+writeIn is.Byte m at v = stored m at (byteAs at v)
 
-unfoldable pub writeRegister : Memory → ℕ → ℕ → Memory
-writeRegister m at v =
-    cond (eqb at 0x04) (stored m 0x04 divReset)
-    (cond (eqb at 0x0F) (stored m 0x0F (v % 32))
-    (cond (eqb at 0x40) (onScreen (λ s. controlWritten s v) m)
-    (cond (eqb at 0x41) (onScreen (λ s. statusWritten s v) m)
-    (cond (eqb at 0x44) (onScreen (λ s. scanlineWritten s v) m)
-    (cond (eqb at 0x45) (onScreen (λ s. lycWritten s v) m)
-    (cond (eqb at 0x4D) (speedPut m v)
-    (cond (eqb at 0x4F) (vramBankPut m v)
-    (cond (eqb at 0x51) (sourceHighPut m v)
-    (cond (eqb at 0x52) (sourceLowPut m v)
-    (cond (eqb at 0x53) (destinationHighPut m v)
-    (cond (eqb at 0x54) (destinationLowPut m v)
-    (cond (eqb at 0x55) (startPut m v)
-    (cond (eqb at 0x68) (backgroundIndexPut m v)
-    (cond (eqb at 0x69) (backgroundDataPut m v)
-    (cond (eqb at 0x6A) (spriteIndexPut m v)
-    (cond (eqb at 0x6B) (spriteDataPut m v)
-    (cond (eqb at 0x6C) (stored m 0x6C (bitOr v 0xFE))
-    (cond (eqb at 0x70) (wramBankPut m v)
-    (cond (eqb at 0x75) (stored m 0x75 (bitOr v 0x8F))
-    (cond (eqb at 0xFF) (stored m 0xFF (v % 32))
-    (plainWrite m at v)))))))))))))))))))))
+abbrev pub writeRegister : Memory → ℕ → ℕ → Memory
+writeRegister m at v = writeIn (registerOf at) m at v

@@ -7,7 +7,7 @@ use memory::Memory;
 use palette::Palette;
 
 // Bit 7 stays, bit 0 is armed, the others read 1.
-fn speed(current: u8, value: u8) -> u8
+pub fn speed(current: u8, value: u8) -> u8
     ensures { λ r. ⌜ r ≡ speedOf current value ⌝ }
 {
     current / 128 * 128 + value % 2 + 126
@@ -43,7 +43,7 @@ pub fn write_vram_bank(memory: Memory, value: u8) -> Memory
 }
 
 // The bank that FF70 selects: 0 selects 1.
-fn wram_bank(value: u8) -> u8
+pub fn wram_bank(value: u8) -> u8
     ensures { λ r. ⌜ r ≡ wramBankOf value ⌝ }
 {
     let bank = value % 8;

@@ -2,13 +2,18 @@
 // Each takes the state apart, calls the crate that knows the rule, and puts the state together again.
 ghost use mathlib.Core.Path.{_≡_};
 ghost use Rattle.registers.specs.State.{loaded, stored};
-use memory::Memory;
 
 pub mod colour;
 pub mod interrupts;
 pub mod page;
+mod register;
 pub mod screen;
 pub mod transfers;
+
+use memory::Memory;
+pub use register::Register;
+pub use register::byte_as;
+pub use register::register_of;
 
 // FF00 + at, raw.
 pub fn load(memory: Memory, at: u8) -> u8

@@ -5,6 +5,9 @@ ghost use lib.ListN.{length};
 ghost use Rattle.registers.specs.Page.{byKind, lineRead, shownAs, readRegister, writeRegister};
 use crate::colour;
 use crate::load;
+use crate::register::Register;
+use crate::register::byte_as;
+use crate::register::register_of;
 use crate::screen;
 use crate::store;
 use crate::transfers;
@@ -81,36 +84,24 @@ pub fn read(memory: Memory, sound: &[u8], at: u8) -> u8
 pub fn write(memory: Memory, at: u8, value: u8) -> Memory
     ensures { λ r. ⌜ r ≡ writeRegister memory at value ⌝ }
 {
-    match at {
-        0x04 => store(memory, 0x04, 0),
-        0x0F => store(memory, 0x0F, value % 32),
-        0x40 => screen::do_lcd_control_write(memory, value),
-        0x41 => screen::do_lcd_status_write(memory, value),
-        0x44 => screen::do_scanline_write(memory, value),
-        0x45 => screen::do_lyc_write(memory, value),
-        0x4D => colour::write_speed(memory, value),
-        0x4F => colour::write_vram_bank(memory, value),
-        0x51 => transfers::write_source_high(memory, value),
-        0x52 => transfers::write_source_low(memory, value),
-        0x53 => transfers::write_destination_high(memory, value),
-        0x54 => transfers::write_destination_low(memory, value),
-        0x55 => transfers::write_start(memory, value),
-        0x68 => colour::write_background_index(memory, value),
-        0x69 => colour::write_background_data(memory, value),
-        0x6A => colour::write_sprite_index(memory, value),
-        0x6B => colour::write_sprite_data(memory, value),
-        0x6C => store(memory, 0x6C, value | 0xFE),
-        0x70 => colour::write_wram_bank(memory, value),
-        0x75 => store(memory, 0x75, value | 0x8F),
-        0xFF => store(memory, 0xFF, value % 32),
-        _ => {
-            if at < 0x10 {
-                return store(memory, at, value);
-            }
-            if at < 0x40 {
-                return memory;
-            }
-            store(memory, at, value)
-        }
+    match register_of(at) {
+        Register::Sound => memory,
+        Register::Control => screen::do_lcd_control_write(memory, value),
+        Register::Status => screen::do_lcd_status_write(memory, value),
+        Register::Line => screen::do_scanline_write(memory, value),
+        Register::Compare => screen::do_lyc_write(memory, value),
+        Register::Speed => colour::write_speed(memory, value),
+        Register::VramBank => colour::write_vram_bank(memory, value),
+        Register::SourceHigh => transfers::write_source_high(memory, value),
+        Register::SourceLow => transfers::write_source_low(memory, value),
+        Register::DestinationHigh => transfers::write_destination_high(memory, value),
+        Register::DestinationLow => transfers::write_destination_low(memory, value),
+        Register::Start => transfers::write_start(memory, value),
+        Register::BackgroundIndex => colour::write_background_index(memory, value),
+        Register::BackgroundData => colour::write_background_data(memory, value),
+        Register::SpriteIndex => colour::write_sprite_index(memory, value),
+        Register::SpriteData => colour::write_sprite_data(memory, value),
+        Register::WramBank => colour::write_wram_bank(memory, value),
+        Register::Byte => store(memory, at, byte_as(at, value)),
     }
 }

@@ -18,7 +18,7 @@ put-quick-requires : tie.Need-put-quick-requires
 put-quick-requires c κs = search needs
 
 put-again-requires : tie.Need-put-again-requires
-put-again-requires c κs = let P = c .before .before .before .before .before .before .before .before .before .before .before .before .before .before .before .before .before .before .before .before .before .before .before .before .before .before .before .pre in (taken-put (P .0) _ _ (omega arith) (P .1 .1 .0) (c .before .before .before .before .before .before .before .before .before .before .before .before .before .before .before .put-quick .ensures) .0, rw (c .before .before .before .before .before .before .before .before .before .before .before .before .before .before .before .before .before .before .before .before .before .next-index .ensures) (P .1 .1 .1))
+put-again-requires c κs = let P = c .before .before .before .before .before .before .before .before .before .before .before .before .before .before .before .before .before .before .before .before .before .before .before .before .before .before .before .pre in (taken-put (P .0) _ _ (omega arith) (c .before .before .before .before .before .before .before .before .before .before .before .before .before .before .before .put-quick .ensures) .0, rw (c .before .before .before .before .before .before .before .before .before .before .before .before .before .before .before .before .before .before .before .before .before .next-index .ensures) (P .1 .1 .1))
 
 same-length : tie.Need-same-length
 same-length c = search needs
@@ -36,7 +36,7 @@ same-length-5 : tie.Need-same-length-5
 same-length-5 c = search needs
 
 returns : tie.Need-returns
-returns c = let P = c .before .before .before .before .before .before .before .before .before .before .before .before .before .before .before .before .before .before .before .before .before .before .before .before .before .before .before .before .before .before .before .before .before .before .before .before .before .before .pre in rw (taken-put (P .0) _ _ (omega arith) (P .1 .1 .0) (c .before .before .before .before .before .before .before .before .before .before .before .before .before .before .before .before .before .before .before .before .before .before .before .before .before .before .put-quick .ensures) .1, c .before .before .before .before .before .before .before .before .before .before .before .before .before .before .before .before .before .before .before .before .before .before .before .before .before .before .before .before .before .before .before .before .next-index .ensures) at (c .before .before .before .before .before .before .before .before .before .before .put-again .ensures)
+returns c = let P = c .before .before .before .before .before .before .before .before .before .before .before .before .before .before .before .before .before .before .before .before .before .before .before .before .before .before .before .before .before .before .before .before .before .before .before .before .before .before .pre in rw (taken-put (P .0) _ _ (omega arith) (c .before .before .before .before .before .before .before .before .before .before .before .before .before .before .before .before .before .before .before .before .before .before .before .before .before .before .put-quick .ensures) .1, c .before .before .before .before .before .before .before .before .before .before .before .before .before .before .before .before .before .before .before .before .before .before .before .before .before .before .before .before .before .before .before .before .next-index .ensures) at (c .before .before .before .before .before .before .before .before .before .before .put-again .ensures)
 
 pub put-both-spec : {M : Type 1} → statement M
 put-both-spec =

@@ -2,7 +2,7 @@
 use mathlib.Core.Path.{sym, _∙_}
 use native.Mathlib.Omega.{arith}
 use Rattle.memory.proofs.Regions.{within}
-use Rattle.quick_writes.proofs.WriteLaws.{taken-length, taken-mapper, taken-slim, taken-save, taken-vram, taken-wram, after-slim, left-rom, left-vram, left-save, left-wram, left-oam, left-page}
+use Rattle.quick_writes.proofs.WriteLaws.{taken-held, taken-length, taken-mapper, taken-slim, taken-save, taken-vram, taken-wram, after-slim, left-rom, left-vram, left-save, left-wram, left-oam, left-page}
 use borrow.Author.Needs.{needs}
 use Rattle.quick_writes.proofs.put_quick.Statement.{statement}
 use Rattle.quick_writes.proofs.put_quick.Tie as tie
@@ -44,7 +44,7 @@ enum-told-6 : tie.Need-enum-told-6
 enum-told-6 c = search needs
 
 put-page-requires : tie.Need-put-page-requires
-put-page-requires c κs = (taken-length (c .before .before .before .before .before .before .before .before .before .before .pre .0), within _ (sym (c .before .before .before .region-of .ensures) ∙ c .before .enum-told6 .given .1))
+put-page-requires c κs = (taken-held (c .before .before .before .before .before .before .before .before .before .before .pre .0), within _ (sym (c .before .before .before .region-of .ensures) ∙ c .before .enum-told6 .given .1))
 
 same-length : tie.Need-same-length
 same-length c = search needs
@@ -86,7 +86,7 @@ same-length-8 : tie.Need-same-length-8
 same-length-8 c = search needs
 
 returns-6 : tie.Need-returns-6
-returns-6 c = let P = c .before .before .before .before .before .before .before .before .before .before .before .before .before .pre in left-page (P .0) (P .1 .0) _ _ (sym (c .before .before .before .before .before .before .region-of .ensures) ∙ c .before .before .before .before .enum-told6 .given .1) (P .1 .1) (c .before .before .before .before .before .before .before .before .before .before .before .before .before .fits .value .fits) (c .before .before .put-page .ensures)
+returns-6 c = let P = c .before .before .before .before .before .before .before .before .before .before .before .before .before .pre in left-page (P .0) (P .1 .0) _ _ (sym (c .before .before .before .before .before .before .region-of .ensures) ∙ c .before .before .before .before .enum-told6 .given .1) (c .before .before .put-page .ensures)
 
 pub put-quick-spec : {M : Type 1} → statement M
 put-quick-spec =
