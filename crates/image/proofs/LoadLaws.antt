@@ -24,7 +24,7 @@ use Rattle.savelog.specs.Log.{logLimit, useInRange}
 use Rattle.image.specs.Layout.{imageLen, fieldWidths, widths}
 use Rattle.image.specs.Load.{bytesIn, colorsIn, fieldsIn, valuesOf, stateFrom, stateOf, colorsOf, at, isOn, banksOf, hdmaOf, cartridgeOf, registersIn, coreFrom, sound, storable, loaded, loadCall}
 use Rattle.image.specs.declared.Loaded.{Loaded}
-use Rattle.image.specs.Patches.{fields}
+use Rattle.image.specs.Patches.{fields, headFits, tailFits}
 use Rattle.image.proofs.ColorLaws.{below-colors}
 use Rattle.image.proofs.FieldLaws.{fields-number, fields-in}
 use Rattle.image.proofs.Parts.{fieldLen, values-parts, repacked-length, repacked-fit}
@@ -160,13 +160,8 @@ module _ (l : List ℕ) (size : length l ≡ imageLen) (below : Below 256 l) whe
       ∙ ten-bits (at (unpacked fieldWidths (number l)) 13)
       (fit-at fieldWidths (unpacked fieldWidths (number l)) 13 (unpack-fit fieldWidths (number l)))
 
-  -- the number of a load, by the tests that the code makes: head, mapper, the rest of the tail
-  pub load-fits : loadCall l .number
-      ≡ cond
-      ((banksInRange (banksOf (fields l)) && hdmaInRange (hdmaOf (fields l)) (isOn (fields l) 0))
-      && ((mbc.sound (registersIn (fields l)) && mbc.inRange (cartridgeOf (fields l)) (mbc.mapperOf (registersIn (fields l))))
-      && (eqb (at (fields l) 29) 0 && useInRange (at (fields l) 28) logLimit)))
-      done outOfRange
+  -- the number of a load, by the tests that the code makes
+  pub load-fits : loadCall l .number ≡ cond (headFits (fields l) && tailFits (fields l)) done outOfRange
   unfolding loadCall sound coreInRange groupsInRange
   load-fits =
       let fs = fields l in

@@ -1,21 +1,27 @@
 -- The fields of an image at their places, read and put there: how the code goes. Nothing here need be believed: proofs/FieldLaws.antt has that the fields
 -- read are those of specs/Load.antt, proofs/PatchLaws.antt that an image with fields put is `imageOf` of the changed state.
+use mathlib.Core.Bool.{Bool, _&&_}
 use mathlib.Core.List.{List, [], _∷_, _++_}
 use Prim.Native.Nat.{ℕ}
+use lib.Dec.{eqb}
 use Rattle.packing.specs.Packing.{repacked, eights, fives}
 use Rattle.places.specs.Places.{fieldsFrom, putFields, FitAll}
 use Rattle.hdma.specs.declared.Hdma.{Hdma}
 use Rattle.joypad.specs.declared.Controller.{Controller}
 use Rattle.lcd.specs.declared.Lcd.{Lcd}
+use Rattle.mbc.specs.Mbc as mbc
 use Rattle.mbc.specs.Mbc.{registersOf, log2}
 use Rattle.mbc.specs.declared.cartridge.Cartridge.{Cartridge}
 use Rattle.mbc.specs.declared.mbc.Mapper.{Mapper}
 use Rattle.mbc.specs.declared.registers.Registers.{Registers}
+use Rattle.savelog.specs.Log.{logLimit, useInRange}
 use Rattle.memory.specs.declared.Banks.{Banks}
 use Rattle.memory.specs.declared.Clock.{Clock}
 use Rattle.memory.specs.declared.Core.{Core}
 use Rattle.memory.specs.declared.Memory.{Memory}
+use Rattle.memory.specs.Ranges.{banksInRange, hdmaInRange}
 use Rattle.image.specs.Layout.{fieldWidths, bit, complement, channels}
+use Rattle.image.specs.Load.{at, isOn, banksOf, hdmaOf, cartridgeOf, registersIn}
 
 -- the bytes before the fields
 unfoldable pub arraysOf : Memory → List ℕ
@@ -29,6 +35,17 @@ front = 5056
 
 abbrev pub fields : List ℕ → List ℕ
 fields l = fieldsFrom l front fieldWidths
+
+-- What a load asks of them, in the code's order (proofs/LoadLaws.antt, `load-fits`): those before the mapper, and those from it on
+
+abbrev pub headFits : List ℕ → Bool
+headFits fs = banksInRange (banksOf fs) && hdmaInRange (hdmaOf fs) (isOn fs 0)
+
+abbrev pub mapperFits : List ℕ → Bool
+mapperFits fs = mbc.sound (registersIn fs) && mbc.inRange (cartridgeOf fs) (mbc.mapperOf (registersIn fs))
+
+abbrev pub tailFits : List ℕ → Bool
+tailFits fs = mapperFits fs && (eqb (at fs 29) 0 && useInRange (at fs 28) logLimit)
 
 -- fields of an image put, and that each is within its width
 abbrev pub put : List (ℕ × ℕ) → List ℕ → List ℕ

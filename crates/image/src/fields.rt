@@ -10,21 +10,16 @@ use mbc::Registers;
 use memory::Banks;
 use memory::Clock;
 use memory::Core;
-ghost use mathlib.Core.Bool.{_&&_};
 ghost use mathlib.Core.Path.{_≡_};
-ghost use lib.Dec.{eqb};
 ghost use lib.ListN.{length};
 ghost use mir.Syntax.{w32};
 ghost use mir.Val.{ofZ, toZ};
 ghost use Rattle.packing.specs.Packing.{Fit};
 ghost use Rattle.places.specs.Places.{fieldAt, putAt, Within};
-ghost use Rattle.mbc.specs.Mbc as mbc;
-ghost use Rattle.mbc.specs.Mbc.{inRange, mapperOf};
-ghost use Rattle.savelog.specs.Log.{logLimit, useInRange};
-ghost use Rattle.memory.specs.Ranges.{banksInRange, hdmaInRange};
+ghost use Rattle.mbc.specs.Mbc.{mapperOf};
 ghost use Rattle.image.specs.Layout.{imageLen, fieldWidths, fieldValues};
-ghost use Rattle.image.specs.Load.{banksOf, lcdOf, hdmaOf, joypadOf, clockOf, cartridgeOf, registersIn, coreFrom, at, isOn};
-ghost use Rattle.image.specs.Patches.{fields, put, Fits, banksFields, linesFields, lcdFields, hdmaFields, joypadFields, clockFields, cartridgeFields, numbersFields, Slim, usedPut, mappingPut, clockPut, coreFields};
+ghost use Rattle.image.specs.Load.{banksOf, lcdOf, hdmaOf, joypadOf, clockOf, cartridgeOf, registersIn, coreFrom, at};
+ghost use Rattle.image.specs.Patches.{fields, headFits, mapperFits, tailFits, put, Fits, banksFields, linesFields, lcdFields, hdmaFields, joypadFields, clockFields, cartridgeFields, numbersFields, Slim, usedPut, mappingPut, clockPut, coreFields};
 
 pub fn banks_at(image: &[u8]) -> Banks
     requires { ⌜ length (now image) ≡ imageLen ⌝ }
@@ -159,7 +154,7 @@ pub fn core_at(image: &[u8]) -> Core
 // Whether the fields before the mapper are in range. The timer's remainders are: they are as wide as their ranges.
 pub fn head_fits(image: &[u8]) -> bool
     requires { ⌜ length (now image) ≡ imageLen ⌝ }
-    ensures { λ r. ⌜ r ≡ (banksInRange (banksOf (fields (now (image .entry)))) && hdmaInRange (hdmaOf (fields (now (image .entry)))) (isOn (fields (now (image .entry))) 0)) ⌝ }
+    ensures { λ r. ⌜ r ≡ headFits (fields (now (image .entry))) ⌝ }
 {
     let banks = banks_at(image);
     if !memory::banks_in_range(banks) {
@@ -172,7 +167,7 @@ pub fn head_fits(image: &[u8]) -> bool
 // Whether a mapper has the registers, and is in range.
 fn mapper_fits(image: &[u8]) -> bool
     requires { ⌜ length (now image) ≡ imageLen ⌝ }
-    ensures { λ r. ⌜ r ≡ (mbc.sound (registersIn (fields (now (image .entry)))) && inRange (cartridgeOf (fields (now (image .entry)))) (mapperOf (registersIn (fields (now (image .entry)))))) ⌝ }
+    ensures { λ r. ⌜ r ≡ mapperFits (fields (now (image .entry))) ⌝ }
 {
     let registers = registers_at(image);
     if !registers.is_sound() {
@@ -186,7 +181,7 @@ fn mapper_fits(image: &[u8]) -> bool
 // Whether the fields from the mapper on are in range, and the bits behind them 0.
 pub fn tail_fits(image: &[u8]) -> bool
     requires { ⌜ length (now image) ≡ imageLen ⌝ }
-    ensures { λ r. ⌜ r ≡ ((mbc.sound (registersIn (fields (now (image .entry)))) && inRange (cartridgeOf (fields (now (image .entry)))) (mapperOf (registersIn (fields (now (image .entry)))))) && (eqb (at (fields (now (image .entry))) 29) 0 && useInRange (at (fields (now (image .entry))) 28) logLimit)) ⌝ }
+    ensures { λ r. ⌜ r ≡ tailFits (fields (now (image .entry))) ⌝ }
 {
     if !mapper_fits(image) {
         return false;
