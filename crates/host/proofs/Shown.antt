@@ -1,5 +1,4 @@
--- What the screen's entries answer. The numbers are those that `open` gave; of the colours, the image may be refused, then the lent length, and two halves
--- fill the lent bytes.
+-- What the colours' entry answers: the image may be refused, then the lent length, and two halves fill the lent bytes.
 use mathlib.Core.List.{List, _++_}
 use mathlib.Core.Path.{_≡_, ap, sym, _∙_}
 use Prim.Native.Nat.{ℕ}
@@ -7,15 +6,10 @@ use native.Mathlib.Omega.{arith}
 use lib.ListN.{length, take}
 use lib.Seq.{paste, take-paste, length-paste, take-all}
 use borrow.Author.Tests.{ne-eqb}
-use Rattle.entry.specs.Host.{shownOf, numbersEntry, colorsLen, colorsEntry}
-use Rattle.image.proofs.OpenLaws.{open-number, open-core}
+use Rattle.entry.specs.Host.{colorsLen, colorsEntry}
 use Rattle.image.specs.Layout.{channels}
-use Rattle.image.specs.Load.{stored, loadCall, openCall}
+use Rattle.image.specs.Load.{stored, loadCall}
 use Rattle.image.specs.declared.Loaded.{Loaded}
-use Rattle.image.specs.declared.Opened.{Opened}
-
-pub opened-numbers : (i : List ℕ) {o : Opened} → o ≡ openCall i → shownOf (o .number) (o .core .lcd) ≡ numbersEntry i
-opened-numbers i e = rw (open-number i e, open-core i e)
 
 halves : (l b s : List ℕ) {m r : List ℕ} → length l ≡ 192 → length b ≡ 96 → length s ≡ 96 → m ≡ paste l 0 b (length b) → r ≡ paste m 96 s (length s)
     → r ≡ b ++ s
