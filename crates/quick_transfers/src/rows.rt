@@ -1,0 +1,107 @@
+// Bytes of the bus that lie within 256 from a multiple of 256, read at once: all are in one region. Those of video and work memory stand in a row.
+ghost use mathlib.Core.Path.{_≡_};
+ghost use Prim.Native.Nat.{ℕ, _+_, _<_, _≤_};
+ghost use lib.ListN.{length, getD};
+ghost use Rattle.image.specs.Load.{loadCall};
+ghost use Rattle.memory.specs.World.{fixed};
+ghost use Rattle.mmu.specs.Access.{readByte};
+ghost use Rattle.quick_transfers.specs.Transfers.{Lent, Row, Read};
+use memory::Core;
+use memory::Region;
+
+// Bytes in a row, from `at` on.
+fn take(bytes: &[u8], at: usize, out: &mut [u8])
+    requires { ⌜ at + length (now out) ≤ length (now bytes) ⌝ }
+    ensures { λ _. ⌜ ((k : ℕ) → k < length (now (out .exit)) → getD (now (out .exit)) k 0 ≡ getD (now (bytes .entry)) (at + k) 0) ⌝ }
+{
+    let mut i = 0;
+    while i < out.len() {
+        out[i] = bytes[at + i];
+        i += 1;
+    }
+}
+
+// OAM and the page are the first 512 bytes of an image, so FE00 is its first.
+fn byte_at(
+    image: &[u8],
+    core: Core,
+    rom: &[u8],
+    vram: &[u8],
+    wram: &[u8],
+    save: &[u8],
+    sound: &[u8],
+    index: u16,
+) -> u8
+    requires { ⌜ Lent (fixed (now rom) (now sound)) (now image) core (now vram) (now wram) (now save) ⌝ }
+    ensures { λ r. ⌜ r ≡ readByte (fixed (now (rom .entry)) (now (sound .entry))) (loadCall (now (image .entry)) .state) (now (vram .entry)) (now (wram .entry)) (now (save .entry)) index ⌝ }
+{
+    let region = memory::region_of(index);
+    match region {
+        Region::Oam => {
+            let i = (index - 0xFE00) as usize;
+            image[i]
+        }
+        Region::Page => {
+            let i = (index - 0xFE00) as usize;
+            let byte = image[i];
+            let banks = core.banks;
+            let lcd = core.lcd;
+            let joypad = core.joypad;
+            registers::page::shown(
+                byte,
+                banks.colour,
+                lcd,
+                joypad.state,
+                sound,
+                (index - 0xFF00) as u8,
+            )
+        }
+        _ => mmu::regions::read_lent(core, rom, vram, wram, save, region, index),
+    }
+}
+
+// One byte after the other.
+fn take_each(
+    image: &[u8],
+    core: Core,
+    rom: &[u8],
+    vram: &[u8],
+    wram: &[u8],
+    save: &[u8],
+    sound: &[u8],
+    source: u16,
+    out: &mut [u8],
+)
+    requires { ⌜ Lent (fixed (now rom) (now sound)) (now image) core (now vram) (now wram) (now save) × Row source (length (now out)) ⌝ }
+    ensures { λ _. ⌜ Read (fixed (now (rom .entry)) (now (sound .entry))) (now (image .entry)) (now (vram .entry)) (now (wram .entry)) (now (save .entry)) source (now (out .exit)) ⌝ }
+{
+    let mut i = 0;
+    while i < out.len() {
+        let index = source + i as u16;
+        out[i] = byte_at(image, core, rom, vram, wram, save, sound, index);
+        i += 1;
+    }
+}
+
+// The bytes from `source` on, into `out`.
+pub fn read(
+    image: &[u8],
+    core: Core,
+    rom: &[u8],
+    vram: &[u8],
+    wram: &[u8],
+    save: &[u8],
+    sound: &[u8],
+    source: u16,
+    out: &mut [u8],
+)
+    requires { ⌜ Lent (fixed (now rom) (now sound)) (now image) core (now vram) (now wram) (now save) × Row source (length (now out)) ⌝ }
+    ensures { λ _. ⌜ Read (fixed (now (rom .entry)) (now (sound .entry))) (now (image .entry)) (now (vram .entry)) (now (wram .entry)) (now (save .entry)) source (now (out .exit)) ⌝ }
+{
+    let banks = core.banks;
+    match memory::region_of(source) {
+        Region::Vram => take(vram, mmu::regions::vram_at(banks.vram, source), out),
+        Region::Wram => take(wram, mmu::regions::wram_at(banks.wram, source), out),
+        _ => take_each(image, core, rom, vram, wram, save, sound, source, out),
+    }
+}
