@@ -10,7 +10,8 @@ use lib.Seq.{paste, paste-zero, paste-suc}
 use Rattle.hdma.specs.Hdma.{risen, stepped, blockEnded, generalEnded}
 use Rattle.hdma.specs.declared.Ended.{Ended}
 use Rattle.hdma.specs.declared.Hdma.{Hdma}
-use Rattle.image.proofs.PatchLaws.{image-put, oam-image, page-image, typed-bytes, storable-bytes, bytes-set}
+use Rattle.hdma.specs.declared.Written.{Written}
+use Rattle.image.proofs.PatchLaws.{Bytes, image-put, oam-image, page-image, typed-bytes, storable-bytes, bytes-set}
 use Rattle.image.specs.Laws.{Typed}
 use Rattle.image.specs.Layout.{bit, imageOf}
 use Rattle.image.specs.Load.{storable}
@@ -18,9 +19,9 @@ use Rattle.image.specs.Patches.{put, Fits, hdmaFields}
 use Rattle.memory.specs.World.{withOam, withHdma, withCore, hdmaIn}
 use Rattle.memory.specs.declared.Memory.{Memory}
 use Rattle.registers.specs.State.{stored}
-use Rattle.registers.specs.Transfers.{withEnded}
+use Rattle.registers.specs.Transfers.{transferPut, withEnded}
 use Rattle.rules.proofs.Tests.{cond-both}
-use Rattle.quick_transfers.specs.Transfers.{endedPut}
+use Rattle.quick_transfers.specs.Transfers.{endedPut, writtenPut}
 
 -- OAM, byte by byte from its first
 
@@ -141,3 +142,36 @@ ended-image m t h e f =
     ∙ ap (λ (l : List ℕ). g (set l 0x155 (e .r55))) (stored-image m₃ t₃ h₃ 0x54 (e .r54) (omega arith) (f .r54))
     ∙ ap g (stored-image m₄ t₄ h₄ 0x55 (e .r55) (omega arith) (f .r55))
     ∙ hdma-image m₅ t₅ h₅ (e .hdma) (f .source) (f .destination)
+
+-- FF55 as its write leaves it
+
+pub hdma-typed : (m : Memory) → Typed m → (x : Hdma) (p : List ℕ) → x .source < 65536 → x .destination < 65536 → Bytes p → Typed (withHdma m x p)
+hdma-typed m t x p a b h =
+    record {
+      oam = t .oam;
+      page = h;
+      background = t .background;
+      sprites = t .sprites;
+      released = t .released;
+      state = t .state;
+      line = t .line;
+      signal = t .signal;
+      mode = t .mode;
+      delay = t .delay;
+      counter = t .counter;
+      aux = t .aux;
+      window = t .window;
+      div = t .div;
+      source = a;
+      destination = b;
+    }
+
+module _ (m : Memory) (t : Typed m) (h : storable m ≡ true) (a : Written) (f : a .hdma .source < 65536) (g : a .hdma .destination < 65536) (b : a .byte < 256) where
+  pub written-image : writtenPut (imageOf m) a ≡ imageOf (transferPut m 0x55 a)
+  unfolding writtenPut
+  written-image =
+      ap (put (hdmaFields (a .hdma))) (stored-image m t h 0x55 (a .byte) (omega arith) b)
+      ∙ hdma-image (stored m 0x55 (a .byte)) (stored-typed m t h 0x55 (a .byte) b) (stored-storable m t h 0x55 (a .byte)) (a .hdma) f g
+
+  pub written-typed : Typed (transferPut m 0x55 a)
+  written-typed = hdma-typed m t (a .hdma) (set (m .page) 0x55 (a .byte)) f g (bytes-set (m .page) 0x55 (a .byte) (t .page) b)

@@ -3,13 +3,14 @@ use mathlib.Core.Bool.{Bool, true, cond}
 use mathlib.Core.List.{List, []}
 use mathlib.Core.Logic.{_⊎_, inl, inr, ⊎-elim}
 use mathlib.Core.Path.{_≡_, refl, sym, ap, subst, _∙_}
-use Prim.Native.Nat.{ℕ, _+_, _*_, _-_, _%_, _<_, _≤_}
+use Prim.Native.Nat.{ℕ, _+_, _*_, _-_, _%_, _<_, _≤_, min}
 use native.Mathlib.Omega.{arith}
 use lib.Dec.{ltb}
 use lib.ListN.{length, take, drop, getD, List·getD-append}
 use lib.Seq.{paste, take-length, getD-take}
 use borrow.Author.Tests.{ltb-true, ltb-false}
-use Rattle.hdma.specs.Hdma.{sourceUsed, destinationUsed, blockEnded}
+use Rattle.hdma.specs.Hdma.{sourceUsed, destinationUsed, blockEnded, generalEnded}
+use Rattle.hdma.specs.PanDocs.{lengthOf}
 use Rattle.hdma.specs.declared.Ended.{Ended}
 use Rattle.hdma.specs.declared.Hdma.{Hdma}
 use Rattle.image.proofs.LoadedPatches.{loaded-typed, loaded-storable}
@@ -20,19 +21,20 @@ use Rattle.image.specs.Load.{storable, loadCall}
 use Rattle.memory.specs.World.{World, world, Fixed}
 use Rattle.memory.specs.declared.Core.{Core}
 use Rattle.memory.specs.declared.Memory.{Memory}
+use Rattle.mmu.proofs.Laws.{copy-none}
 use Rattle.mmu.specs.Access.{readByte, readIn, inState}
 use Rattle.mmu.specs.PanDocs.{vramAt}
 use Rattle.mmu.specs.Write.{copyBy, writeAt}
 use Rattle.packing.specs.Packing.{Below}
 use Rattle.registers.specs.State.{loaded}
-use Rattle.registers.specs.Transfers.{nothing, oamCopy, blockCopy, finished, withEnded}
+use Rattle.registers.specs.Transfers.{nothing, oamCopy, blockCopy, generalCopy, finished, withEnded}
 use Rattle.registers.specs.declared.transfers.Copy.{Copy}
-use Rattle.registers.specs.declared.transfers.Finish.the-variants.{Nothing, Block}
+use Rattle.registers.specs.declared.transfers.Finish.the-variants.{Nothing}
 use Rattle.rules.proofs.Tests.{by-cond}
 use Rattle.entry.specs.Entry.{left}
 use Rattle.quick_transfers.specs.Transfers.{worldOf, leftBy, Lent, Row, Read, Lands, Copied, Moved, endedPut}
 use Rattle.quick_transfers.proofs.Copies.{From, copy-vram, copy-oam, block-ahead, copy-split}
-use Rattle.quick_transfers.proofs.ImageLaws.{oam-pasted, block-fitting, ended-image}
+use Rattle.quick_transfers.proofs.ImageLaws.{oam-pasted, Fitting, block-fitting, general-fitting, ended-image}
 use Rattle.quick_transfers.proofs.RowLaws.{lent-reaches}
 
 -- where a block's bytes come from and go to
@@ -68,10 +70,10 @@ module _ {x : Fixed} {i : List ℕ} {c : Core} {v w s : List ℕ} (t : Lent x i 
   abbrev state : Memory
   state = loadCall i .state
 
-  lent-typed : Typed state
+  pub lent-typed : Typed state
   lent-typed = loaded-typed i (t .bytes) (t .number)
 
-  lent-storable : storable state ≡ true
+  pub lent-storable : storable state ≡ true
   lent-storable = loaded-storable i (t .bytes) (t .number)
 
   pub lent-image : imageOf state ≡ i
@@ -134,20 +136,99 @@ module _ {x : Fixed} {i : List ℕ} {c : Core} {v w s : List ℕ} (t : Lent x i 
       ∙ sym (copy-vram x (worldOf i v w s l) source out destination (b .1) 1 16 b₂ (rw (← p) y) (omega arith)
       (from-read source out 16 z (omega arith) f l) (block-ahead source destination k d (b .0)))
 
-  pub block-moved : {source destination : ℕ} → source ≡ sourceUsed (c .hdma) → destination ≡ destinationUsed (c .hdma) → {v' : List ℕ}
-      → Copied x i v w s source destination 16 v' → {e : Ended} → e ≡ blockEnded (c .hdma) (getD i 0x155 0) → {j : List ℕ} → j ≡ endedPut i e → (value : ℕ)
-      → Moved x i v w s (blockCopy state) value j v'
-  unfolding finished
-  block-moved {source} {destination} a b {v'} f {e} g {j} q value l =
-      let H = state .core .hdma in
-      let h : c .hdma ≡ H = ap (λ (d : Core). d .hdma) (t .core) in
-      let r : e ≡ blockEnded H (loaded state 0x55) =
-      g ∙ ap (λ (d : Hdma). blockEnded d (getD i 0x155 0)) h ∙ ap (blockEnded H) (sym (load-page i (t .number) (t .bytes) 0x55 (omega arith))) in
-      let d : worldOf i v' w s l ≡ copyBy x (writeAt x 1) (sourceUsed H) (destinationUsed H) 16 (worldOf i v w s l) =
+  -- a copy and its registers
+  ended-moved : (k : Copy) {v' : List ℕ} → Copied x i v w s (k .source) (k .destination) (k .count) v' → (e : Ended) → Fitting e → (value : ℕ)
+      → withEnded state e ≡ finished state (k .finish) value → {j : List ℕ} → j ≡ endedPut i e → Moved x i v w s k value j v'
+  ended-moved k {v'} f e g value z {j} q l =
+      let y : j ≡ imageOf (finished state (k .finish) value) =
+      q ∙ ap (λ (n : List ℕ). endedPut n e) (sym lent-image) ∙ ended-image state lent-typed lent-storable e g ∙ ap imageOf z in
+      ap (λ (n : List ℕ). left 0 0 n v' w s l) y ∙ ap (λ (n : World). leftBy (inState n (finished (n .state) (k .finish) value))) (f l)
+
+  same-hdma : c .hdma ≡ state .core .hdma
+  same-hdma = ap (λ (d : Core). d .hdma) (t .core)
+
+  same-copied : {source destination n a b k : ℕ} → source ≡ a → destination ≡ b → n ≡ k → {v' : List ℕ} → Copied x i v w s source destination n v'
+      → Copied x i v w s a b k v'
+  same-copied {source} {destination} {n} {a} {b} {k} p q r f l =
       f l
-      ∙ ap (λ (n : ℕ). copyBy x (writeAt x 1) n destination 16 (worldOf i v w s l)) (a ∙ ap sourceUsed h)
-      ∙ ap (λ (n : ℕ). copyBy x (writeAt x 1) (sourceUsed H) n 16 (worldOf i v w s l)) (b ∙ ap destinationUsed h) in
-      let y : j ≡ imageOf (withEnded state (blockEnded H (loaded state 0x55))) =
-      q ∙ ap (endedPut i) r ∙ ap (λ (n : List ℕ). endedPut n (blockEnded H (loaded state 0x55))) (sym lent-image)
-      ∙ ended-image state lent-typed lent-storable (blockEnded H (loaded state 0x55)) (block-fitting H (loaded state 0x55)) in
-      ap (λ (n : List ℕ). left 0 0 n v' w s l) y ∙ ap (λ (n : World). leftBy (inState n (finished (n .state) Block value))) d
+      ∙ ap (λ (m : ℕ). copyBy x (writeAt x 1) m destination n (worldOf i v w s l)) p
+      ∙ ap (λ (m : ℕ). copyBy x (writeAt x 1) a m n (worldOf i v w s l)) q
+      ∙ ap (λ (m : ℕ). copyBy x (writeAt x 1) a b m (worldOf i v w s l)) r
+
+  module _ {source destination : ℕ} (a : source ≡ sourceUsed (c .hdma)) (b : destination ≡ destinationUsed (c .hdma)) where
+    a' : source ≡ sourceUsed (state .core .hdma)
+    a' = a ∙ ap sourceUsed same-hdma
+
+    b' : destination ≡ destinationUsed (state .core .hdma)
+    b' = b ∙ ap destinationUsed same-hdma
+
+    pub block-moved : {v' : List ℕ} → Copied x i v w s source destination 16 v' → {e : Ended} → e ≡ blockEnded (c .hdma) (getD i 0x155 0)
+        → {j : List ℕ} → j ≡ endedPut i e → (value : ℕ) → Moved x i v w s (blockCopy state) value j v'
+    unfolding finished
+    block-moved f {e} g q value =
+        let H = state .core .hdma in
+        let r : e ≡ blockEnded H (loaded state 0x55) =
+        g ∙ ap (λ (d : Hdma). blockEnded d (getD i 0x155 0)) same-hdma
+        ∙ ap (blockEnded H) (sym (load-page i (t .number) (t .bytes) 0x55 (omega arith))) in
+        ended-moved (blockCopy state) (same-copied a' b' refl f) (blockEnded H (loaded state 0x55)) (block-fitting H (loaded state 0x55)) value refl
+        (q ∙ ap (endedPut i) r)
+
+    pub general-moved : (value : ℕ) {n count : ℕ} → n ≡ lengthOf value → count ≡ min n (0xA000 - destination) → {v' : List ℕ}
+        → Copied x i v w s source destination count v' → {e : Ended} → e ≡ generalEnded (c .hdma) value → {j : List ℕ} → j ≡ endedPut i e
+        → Moved x i v w s (generalCopy state value) value j v'
+    unfolding finished
+    general-moved value {n} {count} y z f {e} g q =
+        let H = state .core .hdma in
+        let r : e ≡ generalEnded H value = g ∙ ap (λ (d : Hdma). generalEnded d value) same-hdma in
+        let p : count ≡ min (lengthOf value) (0xA000 - destinationUsed H) =
+        z ∙ ap (λ (k : ℕ). min k (0xA000 - destination)) y ∙ ap (λ (k : ℕ). min (lengthOf value) (0xA000 - k)) b' in
+        ended-moved (generalCopy state value) (same-copied a' b' p f) (generalEnded H value) (general-fitting H value) value refl
+        (q ∙ ap (endedPut i) r)
+
+  -- block after block
+  pub copied-none : (source destination : ℕ) → Copied x i v w s source destination 0 v
+  copied-none source destination l = sym (copy-none x (writeAt x 1) source destination (worldOf i v w s l))
+
+  pub copied-more : (source destination n : ℕ) {v₁ v₂ : List ℕ} → Copied x i v w s source destination n v₁
+      → Copied x i v₁ w s ((source + n) % 65536) (destination + n) 16 v₂ → Copied x i v w s source destination (n + 16) v₂
+  copied-more source destination n f g l =
+      g l
+      ∙ ap (λ (u : World). copyBy x (writeAt x 1) ((source + n) % 65536) (destination + n) 16 u) (f l)
+      ∙ sym (copy-split x (writeAt x 1) source destination n (worldOf i v w s l) 16)
+
+  pub lent-vram : {v' : List ℕ} → length v' ≡ length v → Lent x i c v' w s
+  lent-vram e =
+      record {
+        bytes = t .bytes;
+        number = t .number;
+        core = t .core;
+        ready = record {
+          holds = record {
+            state = t .ready .holds .state;
+            vram = e ∙ t .ready .holds .vram;
+            wram = t .ready .holds .wram;
+            save = t .ready .holds .save;
+            log = t .ready .holds .log;
+          };
+          rom = t .ready .rom;
+          sound = t .ready .sound;
+        };
+      }
+
+-- the bytes of a general transfer that land are blocks
+pub landing-sixteen : (n destination value : ℕ) {count : ℕ} → n ≡ lengthOf value → count ≡ min n (0xA000 - destination) → destination % 16 ≡ 0 → count % 16 ≡ 0
+landing-sixteen n destination value a e h = omega arith
+
+-- the next of blocks that land
+module _ (source destination count i : ℕ) (p : ((source % 16 ≡ 0) × (count % 16 ≡ 0)) × Lands destination count) (a : i ≤ count) (b : i % 16 ≡ 0) (h : i < count) where
+  pub step-within : i + 16 ≤ count
+  step-within = omega (arith, p .0 .1)
+
+  pub step-lands : ((source + i) % 65536 % 16 ≡ 0) × Lands (destination + i) 16
+  step-lands =
+      let p₁ = p .0 .0 in
+      let p₂ = p .0 .1 in
+      let p₃ = p .1 .0 in
+      let p₄ = p .1 .1 in
+      let p₅ = p .1 .2 in
+      (omega arith, (omega arith, omega arith, omega arith))

@@ -1,10 +1,13 @@
 -- The transfers of src/: what they need of an image and of what is lent, what is read, what is put. Nothing here need be believed: the contracts of the
 -- entries cite specs/Entry.antt alone.
+use mathlib.Core.Bool.{Bool, true}
 use mathlib.Core.List.{List, []}
 use mathlib.Core.Path.{_≡_}
 use Prim.Native.Nat.{ℕ, _+_, _%_, _<_, _≤_}
 use lib.ListN.{length, getD, set}
 use Rattle.hdma.specs.declared.Ended.{Ended}
+use Rattle.hdma.specs.declared.Hdma.{Hdma}
+use Rattle.hdma.specs.declared.Written.{Written}
 use Rattle.image.specs.Layout.{imageOf}
 use Rattle.image.specs.Load.{loadCall}
 use Rattle.image.specs.Patches.{put, hdmaFields}
@@ -59,3 +62,18 @@ unfoldable pub endedPut : List ℕ → Ended → List ℕ
 endedPut i e =
     put (hdmaFields (e .hdma))
     (set (set (set (set (set i 0x151 (e .r51)) 0x152 (e .r52)) 0x153 (e .r53)) 0x154 (e .r54)) 0x155 (e .r55))
+
+-- and after a byte write that starts one
+abbrev pub Wrote : Fixed → List ℕ → List ℕ → List ℕ → List ℕ → ℕ → ℕ → List ℕ → List ℕ → Type 0
+Wrote x i v w s index value j v' = (l : List ℕ) → left done 0 j v' w s l ≡ leftBy (writeAt x 2 (worldOf i v w s l) index value)
+
+-- FF55 and the hidden addresses as its write leaves them, in the image
+unfoldable pub writtenPut : List ℕ → Written → List ℕ
+writtenPut i a = put (hdmaFields (a .hdma)) (set i 0x155 (a .byte))
+
+-- a write of FF55 that switches HDMA keeps its addresses, in colour
+pub record Kept (b : Bool) (h : Hdma) (a : Written) : Type 0 where
+  pub colour : b ≡ true
+  pub source : a .hdma .source ≡ h .source
+  pub destination : a .hdma .destination ≡ h .destination
+  pub byte : a .byte < 256

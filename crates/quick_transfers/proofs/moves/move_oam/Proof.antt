@@ -3,8 +3,8 @@ use Rattle.quick_transfers.proofs.RowLaws.{lent-length}
 use Rattle.quick_transfers.proofs.MoveLaws.{oam-row, oam-none, oam-moved}
 use native.Mathlib.Omega.{arith}
 use borrow.Author.Needs.{needs}
-use Rattle.quick_transfers.proofs.move_oam.Statement.{statement}
-use Rattle.quick_transfers.proofs.move_oam.Tie as tie
+use Rattle.quick_transfers.proofs.moves.move_oam.Statement.{statement}
+use Rattle.quick_transfers.proofs.moves.move_oam.Tie as tie
 
 oam-copy-requires : tie.Need-oam-copy-requires
 oam-copy-requires c κs = search needs

@@ -4,8 +4,8 @@ use mathlib.Core.Path.{_∙_}
 use native.Mathlib.Omega.{arith}
 use lib.ListN.{length-set}
 use borrow.Author.Needs.{needs}
-use Rattle.quick_transfers.proofs.put_ended.Statement.{statement}
-use Rattle.quick_transfers.proofs.put_ended.Tie as tie
+use Rattle.quick_transfers.proofs.moves.put_ended.Statement.{statement}
+use Rattle.quick_transfers.proofs.moves.put_ended.Tie as tie
 
 slice-write-image : tie.Need-slice-write-image
 slice-write-image c = search needs
