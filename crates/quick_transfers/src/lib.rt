@@ -12,6 +12,7 @@ use image::Opened;
 mod blocks;
 mod moves;
 mod rows;
+mod starts;
 
 use moves::move_block;
 use moves::move_oam;
