@@ -11,12 +11,20 @@ use borrow.Author.Tests.{eqb-true, eqb-false, ltb-true, ltb-false, lt-ltb, le-lt
 use Rattle.image.proofs.OpenLaws.{load-length, load-oam, load-page}
 use Rattle.image.specs.Layout.{imageLen}
 use Rattle.image.specs.Load.{loadCall}
+use Rattle.mbc.proofs.Ranges.{some-banks, rom-below}
+use Rattle.mbc.proofs.Sources.{in-first, in-second}
+use Rattle.mbc.specs.Mbc as mbc
+use Rattle.mbc.specs.PanDocs.{romAddress}
+use Rattle.mbc.specs.declared.cartridge.Cartridge.{Cartridge}
+use Rattle.mbc.specs.declared.mbc.Mapper.{Mapper}
+use Rattle.mbc.specs.declared.mbc.Source.{Source}
+use Rattle.mbc.specs.declared.mbc.Source.the-variants as from
 use Rattle.memory.proofs.Regions.{within, region-at}
 use Rattle.memory.specs.Region.{regionOf}
 use Rattle.memory.specs.World.{world, Fixed}
 use Rattle.memory.specs.declared.Core.{Core}
 use Rattle.memory.specs.declared.Memory.{Memory}
-use Rattle.memory.specs.declared.region.Region.the-variants.{Vram, Wram, Oam, Page}
+use Rattle.memory.specs.declared.region.Region.the-variants.{Rom, Vram, Wram, Oam, Page}
 use Rattle.mmu.proofs.Places.{ready-reaches, read-by, echo-within, wram-below}
 use Rattle.mmu.specs.Access.{Ready, Reaches, readByte}
 use Rattle.mmu.specs.PanDocs.{echo, vramAt, wramAt}
@@ -165,3 +173,54 @@ module _ {x : Fixed} {i : List ℕ} {c : Core} {v w s : List ℕ} (l : Lent x i 
         f k h
         ∙ ap (λ (j : ℕ). getD w (j + k) 0) (a ∙ ap (λ (d : Core). wramAt (d .banks .wram) source) (l .core))
         ∙ wram-row x (loadCall i .state) v w s source n row e k (omega arith)
+
+-- ROM: neither bank begins within a row
+
+place : Source → ℕ
+place (from.Rom at) = at
+place (from.Save at) = 0
+place (from.Half at) = 0
+place (from.Fixed b) = 0
+
+module _ (d : Cartridge) (p : Mapper) (source n : ℕ) (row : Row source n) (h : source < 0x8000) {at : ℕ} (e : mbc.source d p source ≡ from.Rom at) where
+  abbrev Stands : Type 0
+  Stands = (k : ℕ) → k < n → mbc.source d p (source + k) ≡ from.Rom (at + k)
+
+  stands-by : (b : Bool) → ltb source 0x4000 ≡ b → Stands
+  unfolding place
+  stands-by true q k l =
+      let a = ltb-true source 0x4000 q in
+      let z : source ≡ at = ap place (sym (in-first d p source a) ∙ e) in
+      in-first d p (source + k) (omega arith) ∙ ap (λ (j : ℕ). from.Rom (j + k)) z
+  stands-by false q k l =
+      let a = ltb-false source 0x4000 q in
+      let z : romAddress (mbc.romBank p) source ≡ at = ap place (sym (in-second d p source a h) ∙ e) in
+      let y : romAddress (mbc.romBank p) (source + k) ≡ romAddress (mbc.romBank p) source + k = omega arith in
+      in-second d p (source + k) (omega arith) (omega arith) ∙ ap from.Rom (y ∙ ap (λ (j : ℕ). j + k) z)
+
+  stands : Stands
+  stands = stands-by (ltb source 0x4000) refl
+
+  fits-by : mbc.inRange d p ≡ true → (b : Bool) → ltb source 0x4000 ≡ b → at + n ≤ mbc.romLen d
+  unfolding place
+  fits-by r true q =
+      let a = ltb-true source 0x4000 q in
+      let z : source ≡ at = ap place (sym (in-first d p source a) ∙ e) in
+      omega (arith, some-banks d p r)
+  fits-by r false q =
+      let a = ltb-false source 0x4000 q in
+      let z : romAddress (mbc.romBank p) source ≡ at = ap place (sym (in-second d p source a h) ∙ e) in
+      omega (arith, rom-below d p r)
+
+module _ {x : Fixed} {i : List ℕ} {c : Core} {v w s : List ℕ} (l : Lent x i c v w s) (source n : ℕ) (row : Row source n) (h : source < 0x8000) {at : ℕ}
+    (e : mbc.source (c .cartridge) (c .mapper) source ≡ from.Rom at) where
+  pub read-rom-fits : at + n ≤ length (x .rom)
+  read-rom-fits = rw (lent-reaches l .rom) (fits-by (c .cartridge) (c .mapper) source n row h e (lent-reaches l .mapper) (ltb source 0x4000) refl)
+
+  pub read-rom : (out : List ℕ) → length out ≡ n → ((k : ℕ) → k < length out → getD out k 0 ≡ getD (x .rom) (at + k) 0) → Read x i v w s source out
+  read-rom out z f k g =
+      let y : mbc.source (loadCall i .state .core .cartridge) (loadCall i .state .core .mapper) (source + k) ≡ from.Rom (at + k) =
+      ap (λ (d : Core). mbc.source (d .cartridge) (d .mapper) (source + k)) (sym (l .core))
+      ∙ stands (c .cartridge) (c .mapper) source n row h e k (omega arith) in
+      f k g
+      ∙ read-by x (loadCall i .state) v w s (source + k) (region-at Rom (source + k) (omega arith)) (ap (mbc.byteOf (x .rom) s) (sym y))

@@ -79,7 +79,7 @@ module _ {x : Fixed} {i : List ℕ} {c : Core} {v w s : List ℕ} (t : Lent x i 
     pub page-lent : {j : List ℕ} → j ≡ set i 0x146 value → Lent x j c v w s
     page-lent {j} e = subst (λ (d : Core). Lent x j d v w s) (sym (t .core)) (page-next e .lent)
 
-    pub page-wrote : {j : List ℕ} → j ≡ set i 0x146 value → {j' v' : List ℕ} → ((value : ℕ) → Moved x j v w s (oamCopy value) value j' v')
+    pub page-wrote : {j : List ℕ} → j ≡ set i 0x146 value → {j' v' : List ℕ} → ((n : ℕ) → Moved x j v w s (oamCopy value) n j' v')
         → Wrote x i v w s 0xFF46 value j' v'
     unfolding starting writeRegister plainWrite copyOf
     page-wrote {j} e {j'} {v'} f l =
@@ -216,3 +216,6 @@ module _ {x : Fixed} {i : List ℕ} {c : Core} {v w s : List ℕ} (t : Lent x i 
         ∙ ap leftBy
         (write-transfer x W 2 0xFF55 value {k = nothing} {n = stored m₀ 0x55 value} {u = transferred x (writeAt x 1) nothing value (inState W (stored m₀ 0x55 value))}
         refl (ap (λ (d : Started). d .memory) r) (ap (λ (d : Started). d .copy) r) refl)
+
+pub wrote-at : (x : Fixed) (i v w s : List ℕ) (index k value : ℕ) (j v' : List ℕ) → index ≡ k → Wrote x i v w s k value j v' → Wrote x i v w s index value j v'
+wrote-at x i v w s index k value j v' e f = subst (λ (n : ℕ). Wrote x i v w s n value j v') (sym e) f

@@ -14,6 +14,7 @@ mod moves;
 mod rows;
 mod starts;
 
+pub use starts::start;
 use moves::move_block;
 use moves::move_oam;
 

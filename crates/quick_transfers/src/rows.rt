@@ -1,4 +1,4 @@
-// Bytes of the bus that lie within 256 from a multiple of 256, read at once: all are in one region. Those of video and work memory stand in a row.
+// Bytes of the bus that lie within 256 from a multiple of 256, read at once: all are in one region. Those of ROM, video and work memory stand in a row.
 ghost use mathlib.Core.Path.{_≡_};
 ghost use Prim.Native.Nat.{ℕ, _+_, _<_, _≤_};
 ghost use lib.ListN.{length, getD};
@@ -6,6 +6,7 @@ ghost use Rattle.image.specs.Load.{loadCall};
 ghost use Rattle.memory.specs.World.{fixed};
 ghost use Rattle.mmu.specs.Access.{readByte};
 ghost use Rattle.quick_transfers.specs.Transfers.{Lent, Row, Read};
+use mbc::Source;
 use memory::Core;
 use memory::Region;
 
@@ -83,6 +84,29 @@ fn take_each(
     }
 }
 
+// ROM, at the place that the mapper says.
+fn take_rom(
+    image: &[u8],
+    core: Core,
+    rom: &[u8],
+    vram: &[u8],
+    wram: &[u8],
+    save: &[u8],
+    sound: &[u8],
+    source: u16,
+    out: &mut [u8],
+)
+    requires { ⌜ Lent (fixed (now rom) (now sound)) (now image) core (now vram) (now wram) (now save) × (Row source (length (now out)) × (source < 0x8000)) ⌝ }
+    ensures { λ _. ⌜ Read (fixed (now (rom .entry)) (now (sound .entry))) (now (image .entry)) (now (vram .entry)) (now (wram .entry)) (now (save .entry)) source (now (out .exit)) ⌝ }
+{
+    let mapper = core.mapper;
+    let cartridge = core.cartridge;
+    match mapper.source(cartridge, source) {
+        Source::Rom(at) => take(rom, at, out),
+        _ => take_each(image, core, rom, vram, wram, save, sound, source, out),
+    }
+}
+
 // The bytes from `source` on, into `out`.
 pub fn read(
     image: &[u8],
@@ -102,6 +126,7 @@ pub fn read(
     match memory::region_of(source) {
         Region::Vram => take(vram, mmu::regions::vram_at(banks.vram, source), out),
         Region::Wram => take(wram, mmu::regions::wram_at(banks.wram, source), out),
+        Region::Rom => take_rom(image, core, rom, vram, wram, save, sound, source, out),
         _ => take_each(image, core, rom, vram, wram, save, sound, source, out),
     }
 }
