@@ -8,8 +8,6 @@ ghost use lib.ListN.{length};
 ghost use Rattle.bus.specs.Fresh.{freshCall};
 ghost use Rattle.entry.specs.Entry.{changed, given, readEntry, left, worldEntry, fresh, freshEntry, usedEntry};
 ghost use Rattle.entry.specs.Host.{useEntry};
-use dispatch::Call;
-use entry::on_bus;
 
 #[no_mangle]
 pub extern "C" fn pouch_read_byte(
@@ -112,17 +110,7 @@ pub extern "C" fn pouch_do_dma_transfer(
 ) -> u8
     ensures { λ r. ⌜ left r 0 (now (image .exit)) (now (vram .exit)) (now (wram .exit)) (now (save .exit)) (now (log .exit)) ≡ worldEntry (fixed (now (rom .entry)) (now (sound .entry))) (now (image .entry)) (now (vram .entry)) (now (wram .entry)) (now (save .entry)) (now (log .entry)) (DoDmaTransfer page) ⌝ }
 {
-    let done = on_bus(
-        image,
-        rom,
-        vram,
-        wram,
-        save,
-        log,
-        sound,
-        Call::DoDmaTransfer(page),
-    );
-    done.number
+    quick_transfers::do_dma_transfer(image, rom, vram, wram, save, log, sound, page)
 }
 
 // One block of 16 bytes; the value is 36 when it is done.
@@ -139,7 +127,7 @@ pub extern "C" fn pouch_do_hdma(
 ) -> u8
     ensures { λ r. ⌜ left r (now (value .exit)) (now (image .exit)) (now (vram .exit)) (now (wram .exit)) (now (save .exit)) (now (log .exit)) ≡ worldEntry (fixed (now (rom .entry)) (now (sound .entry))) (now (image .entry)) (now (vram .entry)) (now (wram .entry)) (now (save .entry)) (now (log .entry)) DoHdma ⌝ }
 {
-    let done = on_bus(image, rom, vram, wram, save, log, sound, Call::DoHdma);
+    let done = quick_transfers::do_hdma(image, rom, vram, wram, save, log, sound);
     *value = done.value;
     done.number
 }

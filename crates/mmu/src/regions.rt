@@ -30,7 +30,7 @@ fn lowered(index: u16) -> u16
 }
 
 // Where an index of video memory lies.
-fn vram_at(bank: u8, index: u16) -> usize
+pub fn vram_at(bank: u8, index: u16) -> usize
     requires { ⌜ 0x8000 ≤ index ⌝ }
     ensures { λ r. ⌜ r ≡ vramAt bank index ⌝ }
 {
@@ -45,7 +45,7 @@ fn banked(bank: u8, offset: u16) -> usize
 }
 
 // Where an index of work memory lies.
-fn wram_at(bank: u8, index: u16) -> usize
+pub fn wram_at(bank: u8, index: u16) -> usize
     requires { ⌜ 0xC000 ≤ index ⌝ }
     ensures { λ r. ⌜ r ≡ wramAt bank index ⌝ }
 {

@@ -84,7 +84,7 @@ pub fn other_at(image: &[u8], save: &[u8], sound: &[u8], index: u16) -> u8
     }
 }
 
-fn byte_at(
+pub fn byte_at(
     image: &[u8],
     rom: &[u8],
     vram: &[u8],

@@ -149,7 +149,7 @@ pub fn block_copy(memory: Memory) -> Copy
 }
 
 // Bytes of a general transfer that land: none past 9FFF.
-fn landing(destination: u16, length: u16) -> u16
+pub fn landing(destination: u16, length: u16) -> u16
     requires { ⌜ destination ≤ 0xA000 ⌝ }
     ensures { λ r. ⌜ (r ≡ min length (0xA000 - destination)) × (destination + r ≤ 0xA000) ⌝ }
 {
