@@ -164,7 +164,7 @@ pub fn head_fits(image: &[u8]) -> bool
     memory::hdma_in_range(hdma, banks.colour)
 }
 
-// Whether a mapper has the registers, and is in range.
+// Whether a mapper has the registers, and is in range. They are read anew for the mapper: loads cost less than handing them on.
 fn mapper_fits(image: &[u8]) -> bool
     requires { ⌜ length (now image) ≡ imageLen ⌝ }
     ensures { λ r. ⌜ r ≡ mapperFits (fields (now (image .entry))) ⌝ }
