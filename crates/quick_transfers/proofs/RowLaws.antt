@@ -8,13 +8,13 @@ use lib.Dec.{eqb, ltb}
 use lib.ListN.{length, getD, set}
 use lib.Seq.{getD-set-same, getD-set-other}
 use borrow.Author.Tests.{eqb-true, eqb-false, ltb-true, ltb-false, lt-ltb, le-ltb}
-use Rattle.image.proofs.OpenLaws.{load-length, load-oam, load-page}
+use Rattle.image.proofs.OpenLaws.{load-length}
 use Rattle.image.specs.Layout.{imageLen}
 use Rattle.image.specs.Load.{loadCall}
 use Rattle.mbc.proofs.Ranges.{some-banks, rom-below}
-use Rattle.mbc.proofs.Sources.{in-first, in-second}
+use Rattle.mbc.proofs.Sources.{in-rom}
 use Rattle.mbc.specs.Mbc as mbc
-use Rattle.mbc.specs.PanDocs.{romAddress}
+use Rattle.mbc.specs.PanDocs.{romAddress, romPlace}
 use Rattle.mbc.specs.declared.cartridge.Cartridge.{Cartridge}
 use Rattle.mbc.specs.declared.mbc.Mapper.{Mapper}
 use Rattle.mbc.specs.declared.mbc.Source.{Source}
@@ -157,6 +157,19 @@ module _ {x : Fixed} {i : List ℕ} {c : Core} {v w s : List ℕ} (l : Lent x i 
         ∙ wram-row x (loadCall i .state) v w s source n row e k (omega arith)
 
 -- ROM: neither bank begins within a row
+
+module _ (d : Cartridge) (p : Mapper) (index : ℕ) where
+  in-first : index < 0x4000 → mbc.source d p index ≡ from.Rom index
+  unfolding romPlace
+  in-first h =
+      let z : romPlace (mbc.romBank p) index ≡ index = rw (lt-ltb index 0x4000 h) in
+      in-rom d p index (omega arith) ∙ ap from.Rom z
+
+  in-second : 0x4000 ≤ index → index < 0x8000 → mbc.source d p index ≡ from.Rom (romAddress (mbc.romBank p) index)
+  unfolding romPlace
+  in-second l h =
+      let z : romPlace (mbc.romBank p) index ≡ romAddress (mbc.romBank p) index = rw (le-ltb index 0x4000 l) in
+      in-rom d p index h ∙ ap from.Rom z
 
 place : Source → ℕ
 place (from.Rom at) = at
