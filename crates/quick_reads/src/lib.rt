@@ -17,7 +17,7 @@ use refusals::Byte;
 use refusals::Word;
 
 // The lengths of what is lent, beside an image that is taken.
-fn lengths(image: &[u8], rom: usize, vram: usize, wram: usize, save: usize, sound: usize) -> u8
+pub fn lengths(image: &[u8], rom: usize, vram: usize, wram: usize, save: usize, sound: usize) -> u8
     requires { ⌜ loadCall (now image) .number ≡ 0 ⌝ }
     ensures { λ r. ⌜ r ≡ lengthsRefused (loadCall (now (image .entry)) .state .core) rom vram wram save sound ⌝ }
 {
