@@ -31,7 +31,7 @@ unfolding
     bits.isSet bits.setBit bits.unsetBit calls.unless hdma.keptBelow hdma.sourceHigh hdma.sourceLow hdma.destinationHigh hdma.destinationLow
     hdma.firstBlock hdma.starts hdma.sourceUsed hdma.destinationUsed hdma.stepped hdma.stillOn hdma.blockEnded
     hdma.generalEnded hdma.startOf joypad.named joypad.bitOf joypad.afterPress joypad.polled joypad.padRead mbc.ramBanks mbc.ramLen mbc.start
-    mbc.ramSource mbc.source mbc.low1 mbc.high1 mbc.after1 mbc.enable2 mbc.after2 banks.zeroAsOne start.monochromePage start.colourPage
+    mbc.ramSource mbc.source mbc.low1 mbc.high1 mbc.after1 mbc.enable2 mbc.after2 banks.zeroAsOne banks.romPlace start.monochromePage start.colourPage
     start.startPage start.startHdma start.started region.regionOf access.savePut map.echo map.wramAt write.copyBy write.writeAt
     palette.moved colours.byteAt colours.putAt answers.changed refusal.inSave refusal.inSound refusal.byteRoom refusal.byteOwed refusal.cyclesRefused
     colour.wramBankPut colour.backgroundIndexPut colour.backgroundDataPut page.byKind page.lineRead page.plainRead page.shownAs page.readRegister

@@ -8,7 +8,7 @@ use types.Run.{miss}
 use lib.Dec.{eqb}
 use lib.ListN.{length, getD}
 use borrow.Author.Tests.{ne-eqb, eqb-true}
-use Rattle.bus.proofs.Passes.{read-passes}
+use Rattle.bus.proofs.Passes.{read-passes, vram-passes}
 use Rattle.dispatch.specs.declared.Call.{Call}
 use Rattle.dispatch.specs.declared.Call.the-variants as call
 use Rattle.image.proofs.FieldLaws.{fields-in}
@@ -38,10 +38,10 @@ use Rattle.mmu.specs.PanDocs.{vramAt, wramAt}
 use Rattle.packing.specs.Packing.{Below}
 use Rattle.refusals.proofs.Answers.{both-pass, range-state, refused-byte, refused-word, accepted-byte, accepted-word}
 use Rattle.refusals.proofs.Core.{read-lengths}
-use Rattle.refusals.specs.Refusal.{orElse, readRefused, refusedRead, lengthsAre, lengthsFit, lengthsRefused}
+use Rattle.refusals.specs.Refusal.{orElse, stateRefused, refusedState, readRefused, refusedRead, lengthsAre, lengthsFit, lengthsRefused, vramLengthRefused, vramRefused}
 use Rattle.registers.specs.Page.{lineRead, shownAs, readRegister}
 use Rattle.entry.specs.Entry.{given, readEntry}
-use Rattle.entry.proofs.Entries.{unloaded-read, byte-read, word-read}
+use Rattle.entry.proofs.Entries.{unloaded-read, byte-read, word-read, lcd-ram-read}
 use Rattle.quick_reads.specs.Reads.{Lent, Others}
 
 -- the number: of the image first, then of the lengths
@@ -210,3 +210,39 @@ module _ (x : Fixed) (i v w s : List ℕ) {n : ℕ}
 
     pub done-word-read : (k : ℕ) {b : ℕ} → b ≡ readWord x (loadCall i .state) v w s k → given 0 b ≡ readEntry x i v w s (call.ReadWord k)
     done-word-read k f = word-read i refl (passed .0) x v w s k (accepted-word refl (passed .1) f)
+
+-- video memory by its bank
+
+module _ (i v : List ℕ) {n : ℕ} (e : n ≡ loadCall i .number) (k bank : ℕ) where
+  abbrev Answer : ℕ → ℕ → Type 0
+  Answer m b = given m b ≡ readEntry (fixed [] []) i v [] [] (call.ReadCgbLcdRam k bank)
+
+  pub lcd-ram-closed : (n ≡ 0 → ⊥) → Answer n 0
+  lcd-ram-closed h = rw e (unloaded-read i {d = loadCall i} refl (λ z. h (e ∙ z)) (fixed [] []) v [] [] (call.ReadCgbLcdRam k bank))
+
+  module _ (z : n ≡ 0) (b : Below 256 i) {r : ℕ}
+      (f : r ≡ orElse (vramLengthRefused (banksOf (fields i) .colour) (length v)) (vramRefused (banksOf (fields i) .colour) k bank)) where
+    taken : loadCall i .number ≡ 0
+    taken = sym e ∙ z
+
+    passes : refusedState (loadCall i .state) ≡ 0
+    unfolding stateRefused
+    passes = rw (load-range i taken b)
+
+    due : r ≡ orElse (refusedState (loadCall i .state))
+        (orElse (vramLengthRefused (loadCall i .state .core .banks .colour) (length v)) (vramRefused (loadCall i .state .core .banks .colour) k bank))
+    unfolding orElse
+    due =
+        f
+        ∙ ap (λ (c : Core). orElse (vramLengthRefused (c .banks .colour) (length v)) (vramRefused (c .banks .colour) k bank)) (sym (loaded-core i b taken))
+        ∙ rw passes
+
+    pub lcd-ram-refused : (r ≡ 0 → ⊥) → Answer r 0
+    lcd-ram-refused h = lcd-ram-read i {d = loadCall i} refl taken (fixed [] []) v [] [] k bank (refused-byte due h _)
+
+    module _ (h : r ≡ 0) where
+      pub lcd-ram-within : ((0x8000 ≤ k) × (k < 0xA000)) × (bank * 0x2000 + 0x2000 ≤ length v)
+      lcd-ram-within = let p = both-pass _ _ (sym f ∙ h) in vram-passes _ _ _ _ (p .0) (p .1)
+
+      pub lcd-ram-done : {a : ℕ} → a ≡ getD v (vramAt bank k) 0 → Answer 0 a
+      lcd-ram-done g = lcd-ram-read i {d = loadCall i} refl taken (fixed [] []) v [] [] k bank (accepted-byte due h g)
