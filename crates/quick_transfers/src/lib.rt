@@ -14,9 +14,9 @@ mod moves;
 mod rows;
 mod starts;
 
-pub use starts::start;
 use moves::move_block;
 use moves::move_oam;
+pub use starts::start;
 
 // An image with the lengths of what is lent beside it.
 fn open_lent(
