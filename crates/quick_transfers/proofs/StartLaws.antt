@@ -26,7 +26,7 @@ use Rattle.mmu.specs.Access.{Ready, inState}
 use Rattle.mmu.specs.Write.{copyBy, transferred, starting, writeAt}
 use Rattle.packing.specs.Packing.{Below}
 use Rattle.registers.proofs.Kept as state
-use Rattle.registers.specs.Page.{writeRegister, plainWrite}
+use Rattle.registers.specs.Register.{registerOf, byteAs}
 use Rattle.registers.specs.State.{stored}
 use Rattle.registers.specs.Transfers.{transferPut, nothing, oamCopy, blockCopy, generalCopy, startedBy, started, startPut, startCopy, copyOf, finished}
 use Rattle.registers.specs.declared.transfers.Copy.{Copy}
@@ -81,7 +81,7 @@ module _ {x : Fixed} {i : List ℕ} {c : Core} {v w s : List ℕ} (t : Lent x i 
 
     pub page-wrote : {j : List ℕ} → j ≡ set i 0x146 value → {j' v' : List ℕ} → ((n : ℕ) → Moved x j v w s (oamCopy value) n j' v')
         → Wrote x i v w s 0xFF46 value j' v'
-    unfolding starting writeRegister plainWrite copyOf
+    unfolding starting registerOf byteAs copyOf
     page-wrote {j} e {j'} {v'} f l =
         let m = stored (loadCall i .state) 0x46 value in
         let W = worldOf i v w s l in
@@ -176,7 +176,7 @@ module _ {x : Fixed} {i : List ℕ} {c : Core} {v w s : List ℕ} (t : Lent x i 
       start-by : (l : List ℕ)
           → transferred x (writeAt x 1) (startedBy m₀ value k .copy) value (inState (worldOf i v w s l) (startedBy m₀ value k .memory))
           ≡ writeAt x 2 (worldOf i v w s l) 0xFF55 value
-      unfolding starting writeRegister copyOf
+      unfolding starting registerOf copyOf
       start-by l =
           write-transfer x (worldOf i v w s l) 2 0xFF55 value {k = startedBy m₀ value k .copy} {n = startedBy m₀ value k .memory} refl
           (ap (λ (d : Started). d .memory) started-by) (ap (λ (d : Started). d .copy) started-by) refl
@@ -205,7 +205,7 @@ module _ {x : Fixed} {i : List ℕ} {c : Core} {v w s : List ℕ} (t : Lent x i 
 
     -- a monochrome machine just stores it
     pub plain-wrote : c .banks .colour ≡ false → value < 256 → {j : List ℕ} → j ≡ set i 0x155 value → Wrote x i v w s 0xFF55 value j v
-    unfolding starting writeRegister copyOf started copyBy finished
+    unfolding starting registerOf copyOf started copyBy finished
     plain-wrote h b {j} f l =
         let h' : m₀ .core .banks .colour ≡ false = ap (λ (d : Core). d .banks .colour) (sym (t .core)) ∙ h in
         let W = worldOf i v w s l in

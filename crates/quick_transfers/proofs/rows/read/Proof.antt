@@ -42,6 +42,12 @@ take-requires-2 : tie.Need-take-requires-2
 take-requires-2 c κs = read-wram-fits (c .before .before .before .before .before .before .before .before .before .before .before .before .before .pre .0) _ _ (c .before .before .before .before .before .before .before .before .before .before .before .before .before .pre .1) (sym (c .before .before .before .before .region-of .ensures) ∙ c .before .before .enum-told2 .given .1) (c .before .wram-at .ensures)
 
 -- src/rows.rt:105:14
+enum-told-3 : tie.Need-enum-told-3
+enum-told-3 c = search needs
+
+take-rom-requires : tie.Need-take-rom-requires
+take-rom-requires c κs = (c .before .before .before .before .before .before .before .before .before .before .before .before .pre .0, (c .before .before .before .before .before .before .before .before .before .before .before .before .pre .1, within _ (sym (c .before .before .before .region-of .ensures) ∙ c .before .enum-told3 .given .1)))
+
 take-each-requires : tie.Need-take-each-requires
 take-each-requires c κs = search needs
 
@@ -69,6 +75,12 @@ same-length-3 c = search needs
 returns-3 : tie.Need-returns-3
 returns-3 c = search needs
 
+same-length-4 : tie.Need-same-length-4
+same-length-4 c = search needs
+
+returns-4 : tie.Need-returns-4
+returns-4 c = search needs
+
 pub read-spec : {M : Type 1} → statement M
 read-spec =
     tie.close
@@ -80,10 +92,14 @@ read-spec =
     enum-told-2
     wram-at-requires
     take-requires-2
+    enum-told-3
+    take-rom-requires
     take-each-requires
     same-length
     returns
     same-length-2
     returns-2
     same-length-3
-    returns-3)
+    returns-3
+    same-length-4
+    returns-4)

@@ -13,10 +13,10 @@ use Rattle.quick_transfers.proofs.rows.take_each.Statement.{statement}
 use Rattle.quick_transfers.proofs.rows.take_each.Tie as tie
 
 abbrev Inv-loop : tie.InvT-loop
-Inv-loop image core rom vram wram save sound source out₀ i₀ out i = (i ≤ length out₀) × ((length out ≡ length out₀) × Filled out (λ k. readByte (fixed rom sound) (loadCall image .state) vram wram save (source + k)) i)
+Inv-loop image rom vram wram save sound source out₀ i₀ out i = (i ≤ length out₀) × ((length out ≡ length out₀) × Filled out (λ k. readByte (fixed rom sound) (loadCall image .state) vram wram save (source + k)) i)
 
 abbrev μ-loop : tie.MeasureT-loop
-μ-loop image core rom vram wram save sound source out₀ i₀ out i = length out₀ - i
+μ-loop image rom vram wram save sound source out₀ i₀ out i = length out₀ - i
 
 loop-holds : tie.Need-loop-holds Inv-loop μ-loop
 loop-holds c = search needs
