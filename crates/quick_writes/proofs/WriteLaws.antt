@@ -15,16 +15,16 @@ use Rattle.dispatch.specs.Step.{step}
 use Rattle.dispatch.specs.declared.Call.{Call}
 use Rattle.dispatch.specs.declared.Call.the-variants as call
 use Rattle.image.proofs.LoadedPatches.{loaded-typed, loaded-storable, loaded-mapping}
-use Rattle.image.proofs.OpenLaws.{load-length, load-range, load-image, open-number, open-core}
+use Rattle.image.proofs.OpenLaws.{load-length, load-range, load-image}
 use Rattle.image.proofs.PatchLaws.{slim}
 use Rattle.image.proofs.StateLaws.{storable-state}
 use Rattle.image.proofs.Round.{state-back}
 use Rattle.image.specs.Laws.{Typed}
 use Rattle.image.specs.Layout.{imageLen, imageOf}
-use Rattle.image.specs.Load.{storable, loaded, loadCall, openCall}
-use Rattle.image.specs.Patches.{Slim, mappingPut}
+use Rattle.image.specs.Load.{at, storable, loaded, loadCall}
+use Rattle.image.specs.Patches.{fields, Slim, mappingPut}
 use Rattle.image.specs.declared.Loaded.{Loaded}
-use Rattle.image.specs.declared.Opened.{Opened}
+use Rattle.in_place.proofs.Images.{core}
 use Rattle.in_place.specs.Held.{Held}
 use Rattle.mbc.specs.Mbc.{inRange, ramLen, after}
 use Rattle.mbc.specs.declared.mbc.Mapper.{Mapper}
@@ -46,10 +46,10 @@ use Rattle.refusals.proofs.Answers.{both-pass}
 use Rattle.rules.proofs.Tests.{both-true, by-cond}
 use Rattle.refusals.proofs.Core.{write-lent}
 use Rattle.registers.specs.Page.{writeRegister}
-use Rattle.refusals.specs.Refusal.{orElse, useRefused, lentRefused, writeRefused, refusedWrite, inSound, nextIndex, byteRoom, wordRoom, byteOwed, wordOwed}
+use Rattle.refusals.specs.Refusal.{orElse, useRefused, lengthsRefused, logRefused, lentRefused, writeRefused, refusedWrite, inSound, nextIndex, byteRoom, wordRoom, byteOwed, wordOwed}
 use Rattle.savelog.specs.Log.{logLimit, useInRange}
 use Rattle.entry.specs.Entry.{Left, left, leftIn, encodedIn, worldEntry}
-use Rattle.quick_writes.specs.Writes.{quick, worldOf, Taken, leftBy, ownPut}
+use Rattle.quick_writes.specs.Writes.{quick, worldOf, Taken, coreIn, leftBy, ownPut}
 use Rattle.entry.proofs.Laws.{stays-storable, in-log}
 use Rattle.quick_writes.proofs.Quick.{quick-plain, put-typed, own-oam}
 
@@ -87,6 +87,9 @@ module _ {i v w s l : List ℕ} (t : Taken i v w s l) where
 
   pub taken-length : length i ≡ imageLen
   taken-length = load-length i (t .number)
+
+  pub taken-core : coreIn i ≡ loadCall i .state .core
+  taken-core = core i taken-held
 
   -- what the parts ask for, of the state without its arrays
   module _ {c : Core} (e : c ≡ loadCall i .state .core) where
@@ -235,74 +238,108 @@ word-owed : (index : ℕ) → wordOwed index ≤ 1
 unfolding wordOwed
 word-owed index = by-cond (λ (n : ℕ). n ≤ 1) (inSound index || inSound (nextIndex index)) 1 0 (λ t. omega arith) (λ f. omega arith)
 
--- the number that the code finds: the image's, the lengths', the log's
-module _ (rom sound i v w s l : List ℕ) (below : Below 256 i) {o : Opened} (r : ℕ) {n : ℕ}
-    (p : (o .number ≡ orElse (loadCall i .number) (refusedWrite (fixed rom sound) (worldOf i v w s l))) × (o .core ≡ loadCall i .state .core))
-    (e : n ≡ orElse (o .number) r) where
-  numbered : (room : ℕ) → r ≡ room → n ≡ orElse (orElse (loadCall i .number) (refusedWrite (fixed rom sound) (worldOf i v w s l))) room
-  numbered room y = e ∙ ap (λ (a : ℕ). orElse (o .number) a) y ∙ ap (λ (a : ℕ). orElse a room) (p .0)
-
-  pub write-taken : n ≡ 0 → Taken i v w s l
-  write-taken z =
-      let q = both-pass (orElse (loadCall i .number) (refusedWrite (fixed rom sound) (worldOf i v w s l))) r (sym (numbered r refl) ∙ z) in
-      let d = both-pass (loadCall i .number) (refusedWrite (fixed rom sound) (worldOf i v w s l)) (q .0) in
-      record {
-        bytes = below;
-        number = d .0;
-        holds = write-passes rom sound (loadCall i .state) v w s l (d .1) .holds;
-        used = in-log (fixed rom sound) (worldOf i v w s l) (loaded-storable i below (d .0)) (d .1);
-      }
-
-  module _ (index b : ℕ) (q : quick index ≡ true) (y : r ≡ byteRoom (o .core .used) (length l) index) where
-    byte-number : n
-        ≡ orElse (orElse (loadCall i .number) (refusedWrite (fixed rom sound) (worldOf i v w s l))) (byteRoom (loadCall i .state .core .used) (length l) index)
-    byte-number = numbered (byteRoom (loadCall i .state .core .used) (length l) index) (y ∙ ap (λ (d : Core). byteRoom (d .used) (length l) index) (p .1))
-
-    pub byte-refused : (n ≡ 0 → ⊥) → left n 0 i v w s l ≡ worldEntry (fixed rom sound) i v w s l (call.WriteByte index b)
-    byte-refused =
-        write-refused (fixed rom sound) i v w s l below (call.WriteByte index b) (byteRoom (loadCall i .state .core .used) (length l) index) (byteOwed index)
-        (put (worldOf i v w s l) index b) (byte-call (fixed rom sound) (worldOf i v w s l) index b q) byte-number
-
-    pub byte-done : n ≡ 0 → {k : ℕ} → k ≡ byteOwed index → {j v' w' s' l' : List ℕ} → left 0 0 j v' w' s' l' ≡ leftBy (put (worldOf i v w s l) index b)
-        → left k 0 j v' w' s' l' ≡ worldEntry (fixed rom sound) i v w s l (call.WriteByte index b)
-    byte-done z d g =
-        rw d
-        (write-done (fixed rom sound) i v w s l below (call.WriteByte index b) (byteRoom (loadCall i .state .core .used) (length l) index) (byteOwed index)
-        (put (worldOf i v w s l) index b) (byte-call (fixed rom sound) (worldOf i v w s l) index b q) byte-number z (byte-owed index) g)
-
-  module _ (index b : ℕ) (q : (quick index ≡ true) × (quick (nextIndex index) ≡ true)) (y : r ≡ wordRoom (o .core .used) (length l) index) where
-    word-number : n
-        ≡ orElse (orElse (loadCall i .number) (refusedWrite (fixed rom sound) (worldOf i v w s l))) (wordRoom (loadCall i .state .core .used) (length l) index)
-    word-number = numbered (wordRoom (loadCall i .state .core .used) (length l) index) (y ∙ ap (λ (d : Core). wordRoom (d .used) (length l) index) (p .1))
-
-    pub word-refused : (n ≡ 0 → ⊥) → left n 0 i v w s l ≡ worldEntry (fixed rom sound) i v w s l (call.WriteWord index b)
-    word-refused =
-        write-refused (fixed rom sound) i v w s l below (call.WriteWord index b) (wordRoom (loadCall i .state .core .used) (length l) index) (wordOwed index)
-        (put (put (worldOf i v w s l) index (b % 256)) (nextIndex index) (b / 256)) (word-call (fixed rom sound) (worldOf i v w s l) index b (q .0) (q .1))
-        word-number
-
-    pub word-done : n ≡ 0 → {k : ℕ} → k ≡ wordOwed index → {j v' w' s' l' : List ℕ}
-        → left 0 0 j v' w' s' l' ≡ leftBy (put (put (worldOf i v w s l) index (b % 256)) (nextIndex index) (b / 256))
-        → left k 0 j v' w' s' l' ≡ worldEntry (fixed rom sound) i v w s l (call.WriteWord index b)
-    word-done z d g =
-        rw d
-        (write-done (fixed rom sound) i v w s l below (call.WriteWord index b) (wordRoom (loadCall i .state .core .used) (length l) index) (wordOwed index)
-        (put (put (worldOf i v w s l) index (b % 256)) (nextIndex index) (b / 256)) (word-call (fixed rom sound) (worldOf i v w s l) index b (q .0) (q .1))
-        word-number z (word-owed index) g)
-
--- what `open_lent` finds
-module _ {o : Opened} (i : List ℕ) (e : o ≡ openCall i) where
-  pub opened-refused : (o .number ≡ 0 → ⊥) → (a : ℕ) → o .number ≡ orElse (loadCall i .number) a
+-- the number that the code finds: the image's and the lengths', then the log's
+module _ (rom sound i v w s l : List ℕ) (below : Below 256 i) {o : ℕ}
+    (p : o ≡ orElse (loadCall i .number) (refusedWrite (fixed rom sound) (worldOf i v w s l))) where
+  closed : (o ≡ 0 → ⊥) → (a : ℕ) → o ≡ orElse o a
   unfolding orElse
-  opened-refused h a = open-number i e ∙ rw (ne-eqb (loadCall i .number) 0 (λ z. h (open-number i e ∙ z)))
+  closed h a = rw (ne-eqb o 0 h)
 
-  pub opened-write : Below 256 i → o .number ≡ 0 → (rom vram wram save sound log : ℕ) {n : ℕ}
-      → n ≡ orElse (useRefused (o .core .used) log) (lentRefused (o .core) rom vram wram save sound log)
-      → n ≡ orElse (loadCall i .number) (writeRefused (loadCall i .state) rom vram wram save sound log)
-  opened-write below z rom vram wram save sound log f =
+  numbered : (room : ℕ) {n : ℕ} → n ≡ orElse o room → n ≡ orElse (orElse (loadCall i .number) (refusedWrite (fixed rom sound) (worldOf i v w s l))) room
+  numbered room e = e ∙ ap (λ (a : ℕ). orElse a room) p
+
+  module _ (z : o ≡ 0) where
+    passed : (a : ℕ) → a ≡ orElse o a
+    passed a = sym (ap (λ (x : ℕ). orElse x a) z ∙ zero-else a)
+
+    both : (loadCall i .number ≡ 0) × (refusedWrite (fixed rom sound) (worldOf i v w s l) ≡ 0)
+    both = both-pass (loadCall i .number) (refusedWrite (fixed rom sound) (worldOf i v w s l)) (sym p ∙ z)
+
+    pub write-taken : Taken i v w s l
+    write-taken =
+        record {
+          bytes = below;
+          number = both .0;
+          holds = write-passes rom sound (loadCall i .state) v w s l (both .1) .holds;
+          used = in-log (fixed rom sound) (worldOf i v w s l) (loaded-storable i below (both .0)) (both .1);
+        }
+
+    used-is : {u : ℕ} → u ≡ at (fields i) 28 → u ≡ loadCall i .state .core .used
+    used-is f = f ∙ ap (λ (c : Core). c .used) (taken-core write-taken)
+
+  module _ (index b : ℕ) (q : quick index ≡ true) where
+    abbrev byteAsked : ℕ
+    byteAsked = byteRoom (loadCall i .state .core .used) (length l) index
+
+    pub byte-closed : (o ≡ 0 → ⊥) → left o 0 i v w s l ≡ worldEntry (fixed rom sound) i v w s l (call.WriteByte index b)
+    byte-closed h =
+        write-refused (fixed rom sound) i v w s l below (call.WriteByte index b) byteAsked (byteOwed index) (put (worldOf i v w s l) index b)
+        (byte-call (fixed rom sound) (worldOf i v w s l) index b q) (numbered byteAsked (closed h byteAsked)) h
+
+    module _ (z : o ≡ 0) {u r : ℕ} (f : u ≡ at (fields i) 28) (y : r ≡ byteRoom u (length l) index) where
+      byte-number : r ≡ orElse (orElse (loadCall i .number) (refusedWrite (fixed rom sound) (worldOf i v w s l))) byteAsked
+      byte-number =
+          let e : r ≡ byteAsked = y ∙ ap (λ (a : ℕ). byteRoom a (length l) index) (used-is z f) in
+          e ∙ numbered byteAsked (passed z byteAsked)
+
+      pub byte-refused : (r ≡ 0 → ⊥) → left r 0 i v w s l ≡ worldEntry (fixed rom sound) i v w s l (call.WriteByte index b)
+      byte-refused =
+          write-refused (fixed rom sound) i v w s l below (call.WriteByte index b) byteAsked (byteOwed index) (put (worldOf i v w s l) index b)
+          (byte-call (fixed rom sound) (worldOf i v w s l) index b q) byte-number
+
+      pub byte-done : r ≡ 0 → {k : ℕ} → k ≡ byteOwed index → {j v' w' s' l' : List ℕ} → left 0 0 j v' w' s' l' ≡ leftBy (put (worldOf i v w s l) index b)
+          → left k 0 j v' w' s' l' ≡ worldEntry (fixed rom sound) i v w s l (call.WriteByte index b)
+      byte-done t d g =
+          rw d
+          (write-done (fixed rom sound) i v w s l below (call.WriteByte index b) byteAsked (byteOwed index) (put (worldOf i v w s l) index b)
+          (byte-call (fixed rom sound) (worldOf i v w s l) index b q) byte-number t (byte-owed index) g)
+
+  module _ (index b : ℕ) (q : (quick index ≡ true) × (quick (nextIndex index) ≡ true)) where
+    abbrev wordAsked : ℕ
+    wordAsked = wordRoom (loadCall i .state .core .used) (length l) index
+
+    abbrev wordPut : World
+    wordPut = put (put (worldOf i v w s l) index (b % 256)) (nextIndex index) (b / 256)
+
+    pub word-closed : (o ≡ 0 → ⊥) → left o 0 i v w s l ≡ worldEntry (fixed rom sound) i v w s l (call.WriteWord index b)
+    word-closed h =
+        write-refused (fixed rom sound) i v w s l below (call.WriteWord index b) wordAsked (wordOwed index) wordPut
+        (word-call (fixed rom sound) (worldOf i v w s l) index b (q .0) (q .1)) (numbered wordAsked (closed h wordAsked)) h
+
+    module _ (z : o ≡ 0) {u r : ℕ} (f : u ≡ at (fields i) 28) (y : r ≡ wordRoom u (length l) index) where
+      word-number : r ≡ orElse (orElse (loadCall i .number) (refusedWrite (fixed rom sound) (worldOf i v w s l))) wordAsked
+      word-number =
+          let e : r ≡ wordAsked = y ∙ ap (λ (a : ℕ). wordRoom a (length l) index) (used-is z f) in
+          e ∙ numbered wordAsked (passed z wordAsked)
+
+      pub word-refused : (r ≡ 0 → ⊥) → left r 0 i v w s l ≡ worldEntry (fixed rom sound) i v w s l (call.WriteWord index b)
+      word-refused =
+          write-refused (fixed rom sound) i v w s l below (call.WriteWord index b) wordAsked (wordOwed index) wordPut
+          (word-call (fixed rom sound) (worldOf i v w s l) index b (q .0) (q .1)) word-number
+
+      pub word-done : r ≡ 0 → {k : ℕ} → k ≡ wordOwed index → {j v' w' s' l' : List ℕ} → left 0 0 j v' w' s' l' ≡ leftBy wordPut
+          → left k 0 j v' w' s' l' ≡ worldEntry (fixed rom sound) i v w s l (call.WriteWord index b)
+      word-done t d g =
+          rw d
+          (write-done (fixed rom sound) i v w s l below (call.WriteWord index b) wordAsked (wordOwed index) wordPut
+          (word-call (fixed rom sound) (worldOf i v w s l) index b (q .0) (q .1)) word-number t (word-owed index) g)
+
+-- what `number` finds
+module _ (i : List ℕ) {n : ℕ} (e : n ≡ loadCall i .number) (rom vram wram save sound log : ℕ) where
+  abbrev Number : ℕ → Type 0
+  Number k = k ≡ orElse (loadCall i .number) (writeRefused (loadCall i .state) rom vram wram save sound log)
+
+  pub number-closed : (n ≡ 0 → ⊥) → Number n
+  unfolding orElse
+  number-closed h = e ∙ rw (ne-eqb (loadCall i .number) 0 (λ z. h (e ∙ z)))
+
+  pub number-lent : n ≡ 0 → Below 256 i → {u a b c d k : ℕ} → u ≡ at (fields i) 28 → a ≡ useRefused u log
+      → b ≡ lengthsRefused (loadCall i .state .core) rom vram wram save sound → c ≡ logRefused log → d ≡ orElse b c → k ≡ orElse a d → Number k
+  unfolding lentRefused
+  number-lent z below {u} f g h x y w =
       let m = loadCall i .state in
-      let y = sym (open-number i e) ∙ z in
-      f
-      ∙ ap (λ (c : Core). orElse (useRefused (c .used) log) (lentRefused c rom vram wram save sound log)) (open-core i e)
-      ∙ sym (write-lent m (load-range i y below) rom vram wram save sound log)
-      ∙ sym (ap (λ (a : ℕ). orElse a (writeRefused m rom vram wram save sound log)) y ∙ zero-else (writeRefused m rom vram wram save sound log))
+      let t : loadCall i .number ≡ 0 = sym e ∙ z in
+      let r : u ≡ m .core .used = f ∙ ap (λ (c : Core). c .used) (core i (below, t)) in
+      (w ∙ rw (g, r, y, h, x))
+      ∙ sym (write-lent m (load-range i t below) rom vram wram save sound log)
+      ∙ sym (ap (λ (a : ℕ). orElse a (writeRefused m rom vram wram save sound log)) t ∙ zero-else (writeRefused m rom vram wram save sound log))

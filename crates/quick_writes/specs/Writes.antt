@@ -7,8 +7,10 @@ use Prim.Native.Nat.{ℕ, _-_}
 use lib.Dec.{eqb}
 use lib.ListN.{length, set}
 use Rattle.image.specs.Layout.{imageOf}
-use Rattle.image.specs.Load.{loadCall}
+use Rattle.image.specs.Load.{coreFrom, loadCall}
+use Rattle.image.specs.Patches.{fields}
 use Rattle.memory.specs.World.{World, world}
+use Rattle.memory.specs.declared.Core.{Core}
 use Rattle.mmu.specs.Access.{Holds}
 use Rattle.numbers.specs.Numbers.{done}
 use Rattle.packing.specs.Packing.{Below}
@@ -29,6 +31,10 @@ pub record Taken (i v w s l : List ℕ) : Type 0 where
   pub number : loadCall i .number ≡ done
   pub holds : Holds (worldOf i v w s l)
   pub used : useInRange (loadCall i .state .core .used) (length l) ≡ true
+
+-- the state but its arrays, by the fields
+abbrev pub coreIn : List ℕ → Core
+coreIn i = coreFrom (fields i)
 
 -- the image and the memories of a world
 abbrev pub leftBy : World → Left

@@ -1,4 +1,4 @@
-// Byte and word writes of an image and what is lent. Those that start no transfer are quick: they take the image's fields alone, and change it in place
+// Byte and word writes of an image and what is lent. Those that start no transfer are quick: they take of the image what they need, and change it in place
 // (specs/Writes.antt).
 ghost use mathlib.Core.Bool.{true};
 ghost use mathlib.Core.List.{[]};
@@ -18,11 +18,9 @@ ghost use Rattle.registers.specs.Page.{writeRegister};
 ghost use Rattle.refusals.specs.Refusal.{orElse, writeRefused, nextIndex};
 ghost use Rattle.savelog.specs.Log.{logLimit};
 ghost use Rattle.entry.specs.Entry.{left, worldEntry};
-ghost use Rattle.quick_writes.specs.Writes.{quick, worldOf, Taken, leftBy, ownPut};
+ghost use Rattle.quick_writes.specs.Writes.{quick, worldOf, Taken, coreIn, leftBy, ownPut};
 use dispatch::Call;
 use entry::on_bus;
-use image::Opened;
-use memory::Core;
 use memory::Region;
 use mmu::regions::Mapping;
 
@@ -40,32 +38,27 @@ fn is_quick(index: u16) -> bool
 }
 
 // Below 8000: the mapper's registers.
-fn put_mapper(core: Core, image: &mut [u8], at: u16, value: u8)
-    requires { ⌜ (length (now image) ≡ imageLen) × ((at < 0x8000) × ((inRange (core .cartridge) (core .mapper) ≡ true) × Slim (after (core .cartridge) (core .mapper) at value))) ⌝ }
-    ensures { λ _. ⌜ now (image .exit) ≡ mappingPut (now (image .entry)) (after (core .cartridge) (core .mapper) at value) (core .used) ⌝ }
+fn put_mapper(image: &mut [u8], at: u16, value: u8)
+    requires { ⌜ (length (now image) ≡ imageLen) × ((at < 0x8000) × ((inRange (coreIn (now image) .cartridge) (coreIn (now image) .mapper) ≡ true) × Slim (after (coreIn (now image) .cartridge) (coreIn (now image) .mapper) at value))) ⌝ }
+    ensures { λ _. ⌜ now (image .exit) ≡ mappingPut (now (image .entry)) (after (coreIn (now (image .entry)) .cartridge) (coreIn (now (image .entry)) .mapper) at value) (coreIn (now (image .entry)) .used) ⌝ }
 {
-    let cartridge = core.cartridge;
-    let mapper = core.mapper;
+    let cartridge = image::cartridge_at(image);
+    let mapper = image::mapper_at(image);
+    let used = image::used_at(image);
     let written = mapper.write(cartridge, at, value);
     let next = written.mapper;
-    image::put_mapping(image, next, core.used);
+    image::put_mapping(image, next, used);
 }
 
 // A000..BFFF: the save, its log, and the mapper with the log's use, which it gives.
-fn put_save(
-    core: Core,
-    image: &mut [u8],
-    save: &mut [u8],
-    log: &mut [u8],
-    at: u16,
-    value: u8,
-) -> Mapping
-    requires { ⌜ ((length (now image) ≡ imageLen) × (Slim (core .mapper) × Slim (after (core .cartridge) (core .mapper) at value))) × (((0xA000 ≤ at) × (at < 0xC000)) × ((inRange (core .cartridge) (core .mapper) ≡ true) × ((length (now save) ≡ ramLen (core .cartridge) (core .mapper)) × (length (now log) ≤ logLimit)))) ⌝ }
-    ensures { λ r. ⌜ (now (image .exit) ≡ mappingPut (now (image .entry)) (r .mapper) (r .used)) × ((m : Memory) → m .core .cartridge ≡ core .cartridge → m .core .mapper ≡ core .mapper → m .core .used ≡ core .used → world (withUsed (withMapper m (r .mapper)) (r .used)) [] [] (now (save .exit)) (now (log .exit)) ≡ savePut (world m [] [] (now (save .entry)) (now (log .entry))) at value) ⌝ }
+fn put_save(image: &mut [u8], save: &mut [u8], log: &mut [u8], at: u16, value: u8) -> Mapping
+    requires { ⌜ ((length (now image) ≡ imageLen) × (Slim (coreIn (now image) .mapper) × Slim (after (coreIn (now image) .cartridge) (coreIn (now image) .mapper) at value))) × (((0xA000 ≤ at) × (at < 0xC000)) × ((inRange (coreIn (now image) .cartridge) (coreIn (now image) .mapper) ≡ true) × ((length (now save) ≡ ramLen (coreIn (now image) .cartridge) (coreIn (now image) .mapper)) × (length (now log) ≤ logLimit)))) ⌝ }
+    ensures { λ r. ⌜ (now (image .exit) ≡ mappingPut (now (image .entry)) (r .mapper) (r .used)) × ((m : Memory) → m .core .cartridge ≡ coreIn (now (image .entry)) .cartridge → m .core .mapper ≡ coreIn (now (image .entry)) .mapper → m .core .used ≡ coreIn (now (image .entry)) .used → world (withUsed (withMapper m (r .mapper)) (r .used)) [] [] (now (save .exit)) (now (log .exit)) ≡ savePut (world m [] [] (now (save .entry)) (now (log .entry))) at value) ⌝ }
 {
-    let cartridge = core.cartridge;
-    let mapper = core.mapper;
-    let mapping = mmu::regions::store_save(cartridge, mapper, core.used, save, log, at, value);
+    let cartridge = image::cartridge_at(image);
+    let mapper = image::mapper_at(image);
+    let used = image::used_at(image);
+    let mapping = mmu::regions::store_save(cartridge, mapper, used, save, log, at, value);
     let next = mapping.mapper;
     image::put_mapping(image, next, mapping.used);
     mapping
@@ -89,9 +82,8 @@ fn put_page(image: &mut [u8], at: u16, value: u8)
     in_place::page::write(image, i, value);
 }
 
-// A quick write that nothing refuses.
-fn put_quick(
-    core: Core,
+// A write that nothing refuses, without the copying that it may start.
+fn put_byte(
     image: &mut [u8],
     vram: &mut [u8],
     wram: &mut [u8],
@@ -100,24 +92,29 @@ fn put_quick(
     index: u16,
     value: u8,
 )
-    requires { ⌜ Taken (now image) (now vram) (now wram) (now save) (now log) × ((core ≡ loadCall (now image) .state .core) × (quick index ≡ true)) ⌝ }
+    requires { ⌜ Taken (now image) (now vram) (now wram) (now save) (now log) ⌝ }
     ensures { λ _. ⌜ left 0 0 (now (image .exit)) (now (vram .exit)) (now (wram .exit)) (now (save .exit)) (now (log .exit)) ≡ leftBy (put (worldOf (now (image .entry)) (now (vram .entry)) (now (wram .entry)) (now (save .entry)) (now (log .entry))) index value) ⌝ }
 {
-    let banks = core.banks;
     match memory::region_of(index) {
-        Region::Rom => put_mapper(core, image, index, value),
-        Region::Vram => mmu::regions::write_cgb_lcd_ram(vram, banks.vram, index, value),
-        Region::Save => {
-            put_save(core, image, save, log, index, value);
+        Region::Rom => put_mapper(image, index, value),
+        Region::Vram => {
+            let banks = image::banks_at(image);
+            mmu::regions::write_cgb_lcd_ram(vram, banks.vram, index, value);
         }
-        Region::Wram => mmu::regions::write_cgb_wram(wram, banks.wram, index, value),
+        Region::Save => {
+            put_save(image, save, log, index, value);
+        }
+        Region::Wram => {
+            let banks = image::banks_at(image);
+            mmu::regions::write_cgb_wram(wram, banks.wram, index, value);
+        }
         Region::Oam => put_own(image, index, value),
         Region::Page => put_page(image, index, value),
     }
 }
 
-// An image with the lengths of what is lent beside it.
-fn open_lent(
+// The number of the image, of the log's use, and of the lengths.
+fn number(
     image: &[u8],
     rom: usize,
     vram: usize,
@@ -125,21 +122,17 @@ fn open_lent(
     save: usize,
     sound: usize,
     log: usize,
-) -> Opened
-    ensures { λ r. ⌜ (r .number ≡ orElse (loadCall (now (image .entry)) .number) (writeRefused (loadCall (now (image .entry)) .state) rom vram wram save sound log)) × (r .core ≡ loadCall (now (image .entry)) .state .core) ⌝ }
+) -> u8
+    ensures { λ r. ⌜ r ≡ orElse (loadCall (now (image .entry)) .number) (writeRefused (loadCall (now (image .entry)) .state) rom vram wram save sound log) ⌝ }
 {
-    let opened = image::open(image);
-    if opened.number != numbers::DONE {
-        return opened;
+    let number = image::number(image);
+    if number != numbers::DONE {
+        return number;
     }
-    let core = opened.core;
-    let used = refusals::use_refused(core.used, log);
-    let lent = refusals::lent_refused(core, rom, vram, wram, save, sound, log);
-    let number = refusals::or_else(used, lent);
-    Opened {
-        number: number,
-        core: core,
-    }
+    let used = refusals::use_refused(image::used_at(image), log);
+    let lengths = quick_reads::lengths(image, rom, vram, wram, save, sound);
+    let lent = refusals::or_else(lengths, refusals::log_refused(log));
+    refusals::or_else(used, lent)
 }
 
 fn write_quick(
@@ -156,7 +149,7 @@ fn write_quick(
     requires { ⌜ quick index ≡ true ⌝ }
     ensures { λ r. ⌜ left r 0 (now (image .exit)) (now (vram .exit)) (now (wram .exit)) (now (save .exit)) (now (log .exit)) ≡ worldEntry (fixed (now (rom .entry)) (now (sound .entry))) (now (image .entry)) (now (vram .entry)) (now (wram .entry)) (now (save .entry)) (now (log .entry)) (WriteByte index value) ⌝ }
 {
-    let opened = open_lent(
+    let number = number(
         image,
         rom.len(),
         vram.len(),
@@ -165,13 +158,14 @@ fn write_quick(
         sound.len(),
         log.len(),
     );
-    let core = opened.core;
-    let room = refusals::byte_room(core.used, log.len(), index);
-    let number = refusals::or_else(opened.number, room);
     if number != numbers::DONE {
         return number;
     }
-    put_quick(core, image, vram, wram, save, log, index, value);
+    let room = refusals::byte_room(image::used_at(image), log.len(), index);
+    if room != numbers::DONE {
+        return room;
+    }
+    put_byte(image, vram, wram, save, log, index, value);
     refusals::byte_owed(index)
 }
 
@@ -205,27 +199,8 @@ pub fn write_byte(
     done.number
 }
 
-// A second quick write: the image has changed, and is opened again.
-fn put_again(
-    image: &mut [u8],
-    vram: &mut [u8],
-    wram: &mut [u8],
-    save: &mut [u8],
-    log: &mut [u8],
-    index: u16,
-    value: u8,
-)
-    requires { ⌜ Taken (now image) (now vram) (now wram) (now save) (now log) × (quick index ≡ true) ⌝ }
-    ensures { λ _. ⌜ left 0 0 (now (image .exit)) (now (vram .exit)) (now (wram .exit)) (now (save .exit)) (now (log .exit)) ≡ leftBy (put (worldOf (now (image .entry)) (now (vram .entry)) (now (wram .entry)) (now (save .entry)) (now (log .entry))) index value) ⌝ }
-{
-    let opened = image::open(image);
-    let core = opened.core;
-    put_quick(core, image, vram, wram, save, log, index, value);
-}
-
-// Two quick writes, low byte first.
+// Two writes, low byte first.
 fn put_both(
-    core: Core,
     image: &mut [u8],
     vram: &mut [u8],
     wram: &mut [u8],
@@ -234,14 +209,14 @@ fn put_both(
     index: u16,
     value: u16,
 )
-    requires { ⌜ Taken (now image) (now vram) (now wram) (now save) (now log) × ((core ≡ loadCall (now image) .state .core) × ((quick index ≡ true) × (quick (nextIndex index) ≡ true))) ⌝ }
+    requires { ⌜ Taken (now image) (now vram) (now wram) (now save) (now log) ⌝ }
     ensures { λ _. ⌜ left 0 0 (now (image .exit)) (now (vram .exit)) (now (wram .exit)) (now (save .exit)) (now (log .exit)) ≡ leftBy (put (put (worldOf (now (image .entry)) (now (vram .entry)) (now (wram .entry)) (now (save .entry)) (now (log .entry))) index (value % 256)) (nextIndex index) (value / 256)) ⌝ }
 {
     let low = (value % 256) as u8;
     let high = (value / 256) as u8;
     let above = refusals::next_index(index);
-    put_quick(core, image, vram, wram, save, log, index, low);
-    put_again(image, vram, wram, save, log, above, high);
+    put_byte(image, vram, wram, save, log, index, low);
+    put_byte(image, vram, wram, save, log, above, high);
 }
 
 fn write_both(
@@ -258,7 +233,7 @@ fn write_both(
     requires { ⌜ (quick index ≡ true) × (quick (nextIndex index) ≡ true) ⌝ }
     ensures { λ r. ⌜ left r 0 (now (image .exit)) (now (vram .exit)) (now (wram .exit)) (now (save .exit)) (now (log .exit)) ≡ worldEntry (fixed (now (rom .entry)) (now (sound .entry))) (now (image .entry)) (now (vram .entry)) (now (wram .entry)) (now (save .entry)) (now (log .entry)) (WriteWord index value) ⌝ }
 {
-    let opened = open_lent(
+    let number = number(
         image,
         rom.len(),
         vram.len(),
@@ -267,13 +242,14 @@ fn write_both(
         sound.len(),
         log.len(),
     );
-    let core = opened.core;
-    let room = refusals::word_room(core.used, log.len(), index);
-    let number = refusals::or_else(opened.number, room);
     if number != numbers::DONE {
         return number;
     }
-    put_both(core, image, vram, wram, save, log, index, value);
+    let room = refusals::word_room(image::used_at(image), log.len(), index);
+    if room != numbers::DONE {
+        return room;
+    }
+    put_both(image, vram, wram, save, log, index, value);
     refusals::word_owed(index)
 }
 

@@ -14,11 +14,11 @@ cast-high c = search needs
 next-index-requires : tie.Need-next-index-requires
 next-index-requires c κs = search needs
 
-put-quick-requires : tie.Need-put-quick-requires
-put-quick-requires c κs = search needs
+put-byte-requires : tie.Need-put-byte-requires
+put-byte-requires c κs = search needs
 
-put-again-requires : tie.Need-put-again-requires
-put-again-requires c κs = let P = c .before .before .before .before .before .before .before .before .before .before .before .before .before .before .before .before .before .before .before .before .before .before .before .before .before .before .before .pre in (taken-put (P .0) _ _ (omega arith) (c .before .before .before .before .before .before .before .before .before .before .before .before .before .before .before .put-quick .ensures) .0, rw (c .before .before .before .before .before .before .before .before .before .before .before .before .before .before .before .before .before .before .before .before .before .next-index .ensures) (P .1 .1 .1))
+put-byte-requires-2 : tie.Need-put-byte-requires-2
+put-byte-requires-2 c κs = taken-put (c .before .before .before .before .before .before .before .before .before .before .before .before .before .before .before .before .before .before .before .before .before .before .before .before .before .before .before .pre) _ _ (omega arith) (c .before .before .before .before .before .before .before .before .before .before .before .before .before .before .before .put-byte .ensures) .0
 
 same-length : tie.Need-same-length
 same-length c = search needs
@@ -36,7 +36,7 @@ same-length-5 : tie.Need-same-length-5
 same-length-5 c = search needs
 
 returns : tie.Need-returns
-returns c = let P = c .before .before .before .before .before .before .before .before .before .before .before .before .before .before .before .before .before .before .before .before .before .before .before .before .before .before .before .before .before .before .before .before .before .before .before .before .before .before .pre in rw (taken-put (P .0) _ _ (omega arith) (c .before .before .before .before .before .before .before .before .before .before .before .before .before .before .before .before .before .before .before .before .before .before .before .before .before .before .put-quick .ensures) .1, c .before .before .before .before .before .before .before .before .before .before .before .before .before .before .before .before .before .before .before .before .before .before .before .before .before .before .before .before .before .before .before .before .next-index .ensures) at (c .before .before .before .before .before .before .before .before .before .before .put-again .ensures)
+returns c = rw (taken-put (c .before .before .before .before .before .before .before .before .before .before .before .before .before .before .before .before .before .before .before .before .before .before .before .before .before .before .before .before .before .before .before .before .before .before .before .before .before .before .pre) _ _ (omega arith) (c .before .before .before .before .before .before .before .before .before .before .before .before .before .before .before .before .before .before .before .before .before .before .before .before .before .before .put-byte .ensures) .1, c .before .before .before .before .before .before .before .before .before .before .before .before .before .before .before .before .before .before .before .before .before .before .before .before .before .before .before .before .before .before .before .before .next-index .ensures) at (c .before .before .before .before .before .before .before .before .before .before .put-byte2 .ensures)
 
 pub put-both-spec : {M : Type 1} → statement M
 put-both-spec =
@@ -45,8 +45,8 @@ put-both-spec =
     cast-low
     cast-high
     next-index-requires
-    put-quick-requires
-    put-again-requires
+    put-byte-requires
+    put-byte-requires-2
     same-length
     same-length-2
     same-length-3

@@ -1,33 +1,39 @@
--- Refused, or written: then the image is taken, and what is lent has its lengths (`write-taken`).
+-- As write_quick.
+use mathlib.Core.Path.{sym, _∙_}
 use denote.Ref.{now}
-use Rattle.quick_writes.proofs.WriteLaws.{write-taken, word-refused, word-done}
+use Rattle.refusals.proofs.Answers.{both-pass}
+use Rattle.image.proofs.OpenLaws.{load-length}
+use Rattle.quick_writes.proofs.WriteLaws.{write-taken, word-closed, word-refused, word-done}
 use borrow.Author.Needs.{needs}
 use Rattle.quick_writes.proofs.write_both.Statement.{statement}
 use Rattle.quick_writes.proofs.write_both.Tie as tie
 
-open-lent-requires : tie.Need-open-lent-requires
-open-lent-requires c κs = search needs
-
-word-room-requires : tie.Need-word-room-requires
-word-room-requires c κs = search needs
-
-or-else-requires : tie.Need-or-else-requires
-or-else-requires c κs = search needs
+number-requires : tie.Need-number-requires
+number-requires c κs = search needs
 
 same-length : tie.Need-same-length
 same-length c = search needs
 
 returns : tie.Need-returns
-returns c = word-refused _ _ _ _ _ _ _ (λ k. c .before .before .before .before .before .before .before .before .before .before .before .before .slice-known .given k .fits) _ (c .before .before .before .before .open-lent .ensures) (c .before .or-else .ensures) _ _ (c .before .before .before .before .before .before .before .before .before .before .before .before .before .pre) (c .before .before .word-room .ensures) (c .if1 .taken)
+returns c = word-closed _ _ _ _ _ _ _ (λ k. c .before .before .before .before .before .before .before .before .before .slice-known .given k .fits) (c .before .number .ensures) _ _ (c .before .before .before .before .before .before .before .before .before .before .pre) (c .if1 .taken)
 
-put-both-requires : tie.Need-put-both-requires
-put-both-requires c κs = (write-taken (now (c .before .before .before .before .before .before .before .before .before .before .before .before .before .before .before .before .before .before .args .rom)) (now (c .before .before .before .before .before .before .before .before .before .before .before .before .before .before .before .before .before .before .args .sound)) _ _ _ _ _ (λ k. c .before .before .before .before .before .before .before .before .before .before .before .before .before .before .before .before .before .slice-known .given k .fits) _ (c .before .before .before .before .before .before .before .before .before .open-lent .ensures) (c .before .before .before .before .before .before .or-else .ensures) (c .before .before .before .before .before .if1 .left), (c .before .before .before .before .before .before .before .before .before .open-lent .ensures .1, c .before .before .before .before .before .before .before .before .before .before .before .before .before .before .before .before .before .before .pre))
+used-at-requires : tie.Need-used-at-requires
+used-at-requires c κs = load-length _ (both-pass _ _ (sym (c .before .before .number .ensures) ∙ c .before .if1 .left) .0)
 
-word-owed-requires : tie.Need-word-owed-requires
-word-owed-requires c κs = search needs
+word-room-requires : tie.Need-word-room-requires
+word-room-requires c κs = search needs
 
 same-length-2 : tie.Need-same-length-2
 same-length-2 c = search needs
+
+returns-2 : tie.Need-returns-2
+returns-2 c = word-refused _ _ _ _ _ _ _ (λ k. c .before .before .before .before .before .before .before .before .before .before .before .before .before .slice-known .given k .fits) (c .before .before .before .before .before .number .ensures) _ _ (c .before .before .before .before .before .before .before .before .before .before .before .before .before .before .pre) (c .before .before .before .before .if1 .left) (c .before .before .used-at .ensures) (c .before .word-room .ensures) (c .if2 .taken)
+
+put-both-requires : tie.Need-put-both-requires
+put-both-requires c κs = write-taken (now (c .before .before .before .before .before .before .before .before .before .before .before .before .before .before .before .before .before .before .before .args .rom)) (now (c .before .before .before .before .before .before .before .before .before .before .before .before .before .before .before .before .before .before .before .args .sound)) _ _ _ _ _ (λ k. c .before .before .before .before .before .before .before .before .before .before .before .before .before .before .before .before .before .before .slice-known .given k .fits) (c .before .before .before .before .before .before .before .before .before .before .number .ensures) (c .before .before .before .before .before .before .before .before .before .if1 .left)
+
+word-owed-requires : tie.Need-word-owed-requires
+word-owed-requires c κs = search needs
 
 same-length-3 : tie.Need-same-length-3
 same-length-3 c = search needs
@@ -41,23 +47,28 @@ same-length-5 c = search needs
 same-length-6 : tie.Need-same-length-6
 same-length-6 c = search needs
 
-returns-2 : tie.Need-returns-2
-returns-2 c = word-done _ _ _ _ _ _ _ (λ k. c .before .before .before .before .before .before .before .before .before .before .before .before .before .before .before .before .before .before .before .before .before .before .before .before .before .before .before .before .before .slice-known .given k .fits) _ (c .before .before .before .before .before .before .before .before .before .before .before .before .before .before .before .before .before .before .before .before .before .open-lent .ensures) (c .before .before .before .before .before .before .before .before .before .before .before .before .before .before .before .before .before .before .or-else .ensures) _ _ (c .before .before .before .before .before .before .before .before .before .before .before .before .before .before .before .before .before .before .before .before .before .before .before .before .before .before .before .before .before .before .pre) (c .before .before .before .before .before .before .before .before .before .before .before .before .before .before .before .before .before .before .before .word-room .ensures) (c .before .before .before .before .before .before .before .before .before .before .before .before .before .before .before .before .before .if1 .left) (c .word-owed .ensures) (c .before .before .before .before .before .before .before .before .before .before .before .put-both .ensures)
+same-length-7 : tie.Need-same-length-7
+same-length-7 c = search needs
+
+returns-3 : tie.Need-returns-3
+returns-3 c = word-done _ _ _ _ _ _ _ (λ k. c .before .before .before .before .before .before .before .before .before .before .before .before .before .before .before .before .before .before .before .before .before .before .before .before .before .before .before .before .before .before .slice-known .given k .fits) (c .before .before .before .before .before .before .before .before .before .before .before .before .before .before .before .before .before .before .before .before .before .before .number .ensures) _ _ (c .before .before .before .before .before .before .before .before .before .before .before .before .before .before .before .before .before .before .before .before .before .before .before .before .before .before .before .before .before .before .before .pre) (c .before .before .before .before .before .before .before .before .before .before .before .before .before .before .before .before .before .before .before .before .before .if1 .left) (c .before .before .before .before .before .before .before .before .before .before .before .before .before .before .before .before .before .before .before .used-at .ensures) (c .before .before .before .before .before .before .before .before .before .before .before .before .before .before .before .before .before .before .word-room .ensures) (c .before .before .before .before .before .before .before .before .before .before .before .before .before .before .before .before .before .if2 .left) (c .word-owed .ensures) (c .before .before .before .before .before .before .before .before .before .before .before .put-both .ensures)
 
 pub write-both-spec : {M : Type 1} → statement M
 write-both-spec =
     tie.close
     (tie.spec
-    open-lent-requires
-    word-room-requires
-    or-else-requires
+    number-requires
     same-length
     returns
+    used-at-requires
+    word-room-requires
+    same-length-2
+    returns-2
     put-both-requires
     word-owed-requires
-    same-length-2
     same-length-3
     same-length-4
     same-length-5
     same-length-6
-    returns-2)
+    same-length-7
+    returns-3)
