@@ -43,14 +43,15 @@ use Rattle.mmu.specs.Write.{writeAt, wordAt}
 use Rattle.numbers.specs.Numbers.{done}
 use Rattle.packing.specs.Packing.{Below}
 use Rattle.refusals.proofs.Answers.{both-pass}
-use Rattle.rules.proofs.Tests.{both-true, by-cond}
+use Rattle.rules.proofs.Tests.{both-true, by-cond, untrue}
 use Rattle.refusals.proofs.Core.{write-lent}
 use Rattle.registers.specs.Page.{writeRegister}
 use Rattle.refusals.specs.Refusal.{orElse, useRefused, lengthsRefused, logRefused, lentRefused, writeRefused, refusedWrite, inSound, nextIndex, byteRoom, wordRoom, byteOwed, wordOwed}
 use Rattle.savelog.specs.Log.{logLimit, useInRange}
 use Rattle.entry.specs.Entry.{Left, left, leftIn, encodedIn, worldEntry}
-use Rattle.quick_writes.specs.Writes.{quick, worldOf, Taken, coreIn, leftBy, ownPut}
+use Rattle.quick_writes.specs.Writes.{quick, worldOf, Taken, coreIn, coreOf, leftBy, ownPut}
 use Rattle.entry.proofs.Laws.{stays-storable, in-log}
+use Rattle.quick_transfers.specs.Transfers.{Lent}
 use Rattle.quick_writes.proofs.Quick.{quick-plain, put-typed, own-oam}
 
 -- the image and the memories of what a write leaves
@@ -216,11 +217,30 @@ module _ (x : Fixed) (i v w s l : List ℕ) (below : Below 256 i) (c : Call) (ro
 
 -- bytes and words
 
-byte-call : (x : Fixed) (w : World) (index b : ℕ) → quick index ≡ true
+byte-call : (x : Fixed) (w : World) (index b : ℕ)
     → step x w (call.WriteByte index b)
-    ≡ unless (orElse (refusedWrite x w) (byteRoom (w .state .core .used) (length (w .log)) index)) w (outcome (byteOwed index) 0 (put w index b))
+    ≡ unless (orElse (refusedWrite x w) (byteRoom (w .state .core .used) (length (w .log)) index)) w (outcome (byteOwed index) 0 (writeAt x 2 w index b))
 unfolding step
-byte-call x w index b q = rw (quick-plain x w 2 index b q)
+byte-call x w index b = refl
+
+-- quick, or by the transfer that it starts
+pub put-quick : (rom sound : List ℕ) (w : World) (index b : ℕ) {t : Bool} {u : Left} → t ≡ quick index → t ≡ true → u ≡ leftBy (put w index b)
+    → u ≡ leftBy (writeAt (fixed rom sound) 2 w index b)
+put-quick rom sound w index b e h g = g ∙ ap leftBy (sym (quick-plain (fixed rom sound) w 2 index b (sym e ∙ h)))
+
+starts-by : (a b : Bool) → cond a false (cond b false true) ≡ false → (a ≡ true → ⊥) → b ≡ true
+starts-by true b e h = absurd (h refl)
+starts-by false true e h = refl
+starts-by false false e h = untrue (sym e)
+
+-- what is lent, by another name of the same fields
+pub lent-as : {x : Fixed} {i : List ℕ} {c d : Core} {v w s : List ℕ} → Lent x i c v w s → d ≡ c → Lent x i d v w s
+lent-as {x} {i} {c} {d} {v} {w} {s} l e = subst (λ (k : Core). Lent x i k v w s) (sym e) l
+
+pub starts-either : (index : ℕ) {t : Bool} → t ≡ quick index → t ≡ false → (index ≡ 0xFF46 → ⊥) → index ≡ 0xFF55
+unfolding quick
+starts-either index e h n =
+    eqb-true index 0xFF55 (starts-by (eqb index 0xFF46) (eqb index 0xFF55) (sym e ∙ h) (λ t. n (eqb-true index 0xFF46 t)))
 
 byte-owed : (index : ℕ) → byteOwed index ≤ 1
 unfolding byteOwed
@@ -267,14 +287,36 @@ module _ (rom sound i v w s l : List ℕ) (below : Below 256 i) {o : ℕ}
     used-is : {u : ℕ} → u ≡ at (fields i) 28 → u ≡ loadCall i .state .core .used
     used-is f = f ∙ ap (λ (c : Core). c .used) (taken-core write-taken)
 
-  module _ (index b : ℕ) (q : quick index ≡ true) where
+    pub write-lent-to : Lent (fixed rom sound) i (coreOf i) v w s
+    write-lent-to =
+        let r = write-passes rom sound (loadCall i .state) v w s l (both .1) in
+        record {
+          bytes = below;
+          number = both .0;
+          core = refl;
+          ready =
+              record {
+                holds =
+                    record {
+                      state = r .holds .state;
+                      vram = r .holds .vram;
+                      wram = r .holds .wram;
+                      save = r .holds .save;
+                      log = omega arith;
+                    };
+                rom = r .rom;
+                sound = r .sound;
+              };
+        }
+
+  module _ (index b : ℕ) where
     abbrev byteAsked : ℕ
     byteAsked = byteRoom (loadCall i .state .core .used) (length l) index
 
     pub byte-closed : (o ≡ 0 → ⊥) → left o 0 i v w s l ≡ worldEntry (fixed rom sound) i v w s l (call.WriteByte index b)
     byte-closed h =
-        write-refused (fixed rom sound) i v w s l below (call.WriteByte index b) byteAsked (byteOwed index) (put (worldOf i v w s l) index b)
-        (byte-call (fixed rom sound) (worldOf i v w s l) index b q) (numbered byteAsked (closed h byteAsked)) h
+        write-refused (fixed rom sound) i v w s l below (call.WriteByte index b) byteAsked (byteOwed index) (writeAt (fixed rom sound) 2 (worldOf i v w s l) index b)
+        (byte-call (fixed rom sound) (worldOf i v w s l) index b) (numbered byteAsked (closed h byteAsked)) h
 
     module _ (z : o ≡ 0) {u r : ℕ} (f : u ≡ at (fields i) 28) (y : r ≡ byteRoom u (length l) index) where
       byte-number : r ≡ orElse (orElse (loadCall i .number) (refusedWrite (fixed rom sound) (worldOf i v w s l))) byteAsked
@@ -284,15 +326,15 @@ module _ (rom sound i v w s l : List ℕ) (below : Below 256 i) {o : ℕ}
 
       pub byte-refused : (r ≡ 0 → ⊥) → left r 0 i v w s l ≡ worldEntry (fixed rom sound) i v w s l (call.WriteByte index b)
       byte-refused =
-          write-refused (fixed rom sound) i v w s l below (call.WriteByte index b) byteAsked (byteOwed index) (put (worldOf i v w s l) index b)
-          (byte-call (fixed rom sound) (worldOf i v w s l) index b q) byte-number
+          write-refused (fixed rom sound) i v w s l below (call.WriteByte index b) byteAsked (byteOwed index) (writeAt (fixed rom sound) 2 (worldOf i v w s l) index b)
+          (byte-call (fixed rom sound) (worldOf i v w s l) index b) byte-number
 
-      pub byte-done : r ≡ 0 → {k : ℕ} → k ≡ byteOwed index → {j v' w' s' l' : List ℕ} → left 0 0 j v' w' s' l' ≡ leftBy (put (worldOf i v w s l) index b)
+      pub byte-done : r ≡ 0 → {k : ℕ} → k ≡ byteOwed index → {j v' w' s' l' : List ℕ} → left 0 0 j v' w' s' l' ≡ leftBy (writeAt (fixed rom sound) 2 (worldOf i v w s l) index b)
           → left k 0 j v' w' s' l' ≡ worldEntry (fixed rom sound) i v w s l (call.WriteByte index b)
       byte-done t d g =
           rw d
-          (write-done (fixed rom sound) i v w s l below (call.WriteByte index b) byteAsked (byteOwed index) (put (worldOf i v w s l) index b)
-          (byte-call (fixed rom sound) (worldOf i v w s l) index b q) byte-number t (byte-owed index) g)
+          (write-done (fixed rom sound) i v w s l below (call.WriteByte index b) byteAsked (byteOwed index) (writeAt (fixed rom sound) 2 (worldOf i v w s l) index b)
+          (byte-call (fixed rom sound) (worldOf i v w s l) index b) byte-number t (byte-owed index) g)
 
   module _ (index b : ℕ) (q : (quick index ≡ true) × (quick (nextIndex index) ≡ true)) where
     abbrev wordAsked : ℕ

@@ -36,6 +36,10 @@ pub record Taken (i v w s l : List ℕ) : Type 0 where
 abbrev pub coreIn : List ℕ → Core
 coreIn i = coreFrom (fields i)
 
+-- and as the load gives it
+abbrev pub coreOf : List ℕ → Core
+coreOf i = loadCall i .state .core
+
 -- the image and the memories of a world
 abbrev pub leftBy : World → Left
 leftBy w = leftIn done 0 (imageOf (w .state)) w

@@ -14,11 +14,13 @@ ghost use Rattle.mbc.specs.Mbc.{inRange, ramLen, after};
 ghost use Rattle.memory.specs.World.{world, fixed, withMapper, withUsed};
 ghost use Rattle.memory.specs.declared.Memory.{Memory};
 ghost use Rattle.mmu.specs.Access.{savePut, put};
+ghost use Rattle.mmu.specs.Write.{writeAt};
+ghost use Rattle.quick_transfers.specs.Transfers.{Lent};
 ghost use Rattle.registers.specs.Page.{writeRegister};
 ghost use Rattle.refusals.specs.Refusal.{orElse, writeRefused, nextIndex};
 ghost use Rattle.savelog.specs.Log.{logLimit};
 ghost use Rattle.entry.specs.Entry.{left, worldEntry};
-ghost use Rattle.quick_writes.specs.Writes.{quick, worldOf, Taken, coreIn, leftBy, ownPut};
+ghost use Rattle.quick_writes.specs.Writes.{quick, worldOf, Taken, coreIn, coreOf, leftBy, ownPut};
 use dispatch::Call;
 use entry::on_bus;
 use memory::Region;
@@ -135,7 +137,32 @@ fn number(
     refusals::or_else(used, lent)
 }
 
-fn write_quick(
+// A write that nothing refuses, with the copying that it may start.
+fn put_all(
+    image: &mut [u8],
+    rom: &[u8],
+    vram: &mut [u8],
+    wram: &mut [u8],
+    save: &mut [u8],
+    log: &mut [u8],
+    sound: &[u8],
+    index: u16,
+    value: u8,
+)
+    requires { ⌜ Taken (now image) (now vram) (now wram) (now save) (now log) × Lent (fixed (now rom) (now sound)) (now image) (coreOf (now image)) (now vram) (now wram) (now save) ⌝ }
+    ensures { λ _. ⌜ left 0 0 (now (image .exit)) (now (vram .exit)) (now (wram .exit)) (now (save .exit)) (now (log .exit)) ≡ leftBy (writeAt (fixed (now (rom .entry)) (now (sound .entry))) 2 (worldOf (now (image .entry)) (now (vram .entry)) (now (wram .entry)) (now (save .entry)) (now (log .entry))) index value) ⌝ }
+{
+    if is_quick(index) {
+        put_byte(image, vram, wram, save, log, index, value);
+        return;
+    }
+    let opened = image::open(image);
+    let core = opened.core;
+    quick_transfers::start(image, core, rom, vram, wram, save, sound, index, value);
+}
+
+// As the plain entry, which decodes and encodes the whole image.
+pub fn write_byte(
     image: &mut [u8],
     rom: &[u8],
     vram: &mut [u8],
@@ -146,7 +173,6 @@ fn write_quick(
     index: u16,
     value: u8,
 ) -> u8
-    requires { ⌜ quick index ≡ true ⌝ }
     ensures { λ r. ⌜ left r 0 (now (image .exit)) (now (vram .exit)) (now (wram .exit)) (now (save .exit)) (now (log .exit)) ≡ worldEntry (fixed (now (rom .entry)) (now (sound .entry))) (now (image .entry)) (now (vram .entry)) (now (wram .entry)) (now (save .entry)) (now (log .entry)) (WriteByte index value) ⌝ }
 {
     let number = number(
@@ -165,38 +191,8 @@ fn write_quick(
     if room != numbers::DONE {
         return room;
     }
-    put_byte(image, vram, wram, save, log, index, value);
+    put_all(image, rom, vram, wram, save, log, sound, index, value);
     refusals::byte_owed(index)
-}
-
-// As the plain entry, which decodes and encodes the whole image.
-pub fn write_byte(
-    image: &mut [u8],
-    rom: &[u8],
-    vram: &mut [u8],
-    wram: &mut [u8],
-    save: &mut [u8],
-    log: &mut [u8],
-    sound: &[u8],
-    index: u16,
-    value: u8,
-) -> u8
-    ensures { λ r. ⌜ left r 0 (now (image .exit)) (now (vram .exit)) (now (wram .exit)) (now (save .exit)) (now (log .exit)) ≡ worldEntry (fixed (now (rom .entry)) (now (sound .entry))) (now (image .entry)) (now (vram .entry)) (now (wram .entry)) (now (save .entry)) (now (log .entry)) (WriteByte index value) ⌝ }
-{
-    if is_quick(index) {
-        return write_quick(image, rom, vram, wram, save, log, sound, index, value);
-    }
-    let done = on_bus(
-        image,
-        rom,
-        vram,
-        wram,
-        save,
-        log,
-        sound,
-        Call::WriteByte(index, value),
-    );
-    done.number
 }
 
 // Two writes, low byte first.
