@@ -13,20 +13,16 @@ use Rattle.entry.proofs.Laws.{used-storable}
 use Rattle.entry.specs.Entry.{Changed, Given, changed, stateEntry, given, askEntry, usedEntry}
 use Rattle.entry.specs.Host.{shownOf, numbersEntry, useEntry}
 use Rattle.hdma.specs.declared.Hdma.{Hdma}
-use Rattle.image.proofs.LoadedPatches.{loaded-mapping}
+use Rattle.image.proofs.LoadedPatches.{loaded-used}
 use Rattle.image.proofs.OpenLaws.{load-refused}
-use Rattle.image.proofs.PatchLaws.{slim}
 use Rattle.image.specs.Layout.{imageOf}
-use Rattle.image.specs.Load.{at, lcdOf, hdmaOf, registersIn, loaded, loadCall}
-use Rattle.image.specs.Patches.{fields, Slim, mappingPut}
+use Rattle.image.specs.Load.{at, lcdOf, hdmaOf, loaded, loadCall}
+use Rattle.image.specs.Patches.{fields, usedPut}
 use Rattle.image.specs.declared.Loaded.{Loaded}
 use Rattle.in_place.proofs.Images.{state, held, core}
 use Rattle.in_place.specs.Held.{Held}
 use Rattle.lcd.specs.Lcd.{numbersOf}
 use Rattle.lcd.specs.declared.Lcd.{Lcd}
-use Rattle.mbc.specs.Mbc.{mapperOf}
-use Rattle.mbc.specs.declared.mbc.Mapper.{Mapper}
-use Rattle.mbc.specs.declared.registers.Registers.{Registers}
 use Rattle.memory.specs.Start.{zeroed}
 use Rattle.memory.specs.World.{withUsed}
 use Rattle.memory.specs.declared.Core.{Core}
@@ -66,20 +62,11 @@ module _ (i : List ℕ) (h : Held i) where
   numbers-given e = rw (e ∙ ap (λ (k : Core). k .lcd) (core i h), h .1)
 
   -- the log's use set; to clear the log is to set it to 0
-  module _ {g : Registers} (b : g ≡ registersIn (fields i)) {p : Mapper} (a : p ≡ mapperOf g) where
-    mapper : p ≡ state i h .core .mapper
-    mapper = a ∙ ap mapperOf b ∙ ap (λ (k : Core). k .mapper) (core i h)
-
-    pub mapper-slim : Slim p
-    mapper-slim = rw mapper (slim (state i h) (held i h .storable))
-
-    pub use-set : (u : ℕ) {t : Bool} → t ≡ useInRange u logLimit → not t ≡ false → {j : List ℕ} → j ≡ mappingPut i p u → changed 0 j ≡ useEntry i u
-    unfolding useEntry
-    use-set u e k {j} f =
-        let r : useInRange u logLimit ≡ true = granted e k in
-        let q : j ≡ mappingPut i (state i h .core .mapper) u = f ∙ ap (λ (x : Mapper). mappingPut i x u) mapper in
-        rw (h .1, r)
-        (ap (changed 0) (q ∙ loaded-mapping i (h .0) (h .1) (state i h .core .mapper) u (used-storable (state i h) (held i h .storable) u r)))
+  pub use-set : (u : ℕ) {t : Bool} → t ≡ useInRange u logLimit → not t ≡ false → {j : List ℕ} → j ≡ usedPut i u → changed 0 j ≡ useEntry i u
+  unfolding useEntry
+  use-set u e k {j} f =
+      let r : useInRange u logLimit ≡ true = granted e k in
+      rw (h .1, r) (ap (changed 0) (f ∙ loaded-used i (h .0) (h .1) u (used-storable (state i h) (held i h .storable) u r)))
 
   pub use-refused : (u : ℕ) {t : Bool} → t ≡ useInRange u logLimit → not t ≡ true → changed 3 i ≡ useEntry i u
   unfolding useEntry

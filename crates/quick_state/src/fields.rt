@@ -2,7 +2,6 @@
 use crate::flag_given;
 use crate::refused;
 use entry::Given;
-use mbc::Mapper;
 ghost use mathlib.Core.Path.{_≡_};
 ghost use Rattle.dispatch.specs.declared.StateCall.the-variants.{IsHdmaEnabled, ClearLog};
 ghost use Rattle.entry.specs.Entry.{changed, stateEntry, given, askEntry, usedEntry};
@@ -44,8 +43,7 @@ pub fn set_log_used(image: &mut [u8], used: u16) -> u8
     if !savelog::use_in_range(used, savelog::LOG_LIMIT) {
         return numbers::OUT_OF_RANGE;
     }
-    let mapper = Mapper::from_registers(image::registers_at(image));
-    image::put_mapping(image, mapper, used);
+    image::put_used(image, used);
     numbers::DONE
 }
 

@@ -1,7 +1,7 @@
--- The image, the use, then the use put beside the mapper.
+-- The image, the use, then the use put.
 use Rattle.in_place.proofs.Images.{size}
 use Rattle.quick_state.proofs.Calls.{taken}
-use Rattle.quick_state.proofs.Parts.{closed-use, use-refused, mapper-slim, use-set}
+use Rattle.quick_state.proofs.Parts.{closed-use, use-refused, use-set}
 use borrow.Author.Needs.{needs}
 use Rattle.quick_state.proofs.fields.set_log_used.Statement.{statement}
 use Rattle.quick_state.proofs.fields.set_log_used.Tie as tie
@@ -24,20 +24,14 @@ same-length-2 c = search needs
 returns-2 : tie.Need-returns-2
 returns-2 c = use-refused _ (taken _ (c .before .before .before .number .ensures) (c .before .before .if1 .left) (λ i. c .before .before .before .before .before .slice-known .given i .fits)) _ (c .before .use-in-range .ensures) (c .if2 .taken)
 
-registers-at-requires : tie.Need-registers-at-requires
-registers-at-requires c κs = size _ (taken _ (c .before .before .before .before .number .ensures) (c .before .before .before .if1 .left) (λ i. c .before .before .before .before .before .before .slice-known .given i .fits))
-
-from-registers-requires : tie.Need-from-registers-requires
-from-registers-requires c κs = search needs
-
-put-mapping-requires : tie.Need-put-mapping-requires
-put-mapping-requires c κs = (size _ (taken _ (c .before .before .before .before .before .before .before .number .ensures) (c .before .before .before .before .before .before .if1 .left) (λ i. c .before .before .before .before .before .before .before .before .before .slice-known .given i .fits)), mapper-slim _ (taken _ (c .before .before .before .before .before .before .before .number .ensures) (c .before .before .before .before .before .before .if1 .left) (λ i. c .before .before .before .before .before .before .before .before .before .slice-known .given i .fits)) (c .before .before .registers-at .ensures) (c .before .from-registers .ensures))
+put-used-requires : tie.Need-put-used-requires
+put-used-requires c κs = size _ (taken _ (c .before .before .before .before .number .ensures) (c .before .before .before .if1 .left) (λ i. c .before .before .before .before .before .before .slice-known .given i .fits))
 
 same-length-3 : tie.Need-same-length-3
 same-length-3 c = search needs
 
 returns-3 : tie.Need-returns-3
-returns-3 c = use-set _ (taken _ (c .before .before .before .before .before .before .before .before .before .before .number .ensures) (c .before .before .before .before .before .before .before .before .before .if1 .left) (λ i. c .before .before .before .before .before .before .before .before .before .before .before .before .slice-known .given i .fits)) (c .before .before .before .before .before .registers-at .ensures) (c .before .before .before .before .from-registers .ensures) _ (c .before .before .before .before .before .before .before .before .use-in-range .ensures) (c .before .before .before .before .before .before .before .if2 .left) (c .before .before .put-mapping .ensures)
+returns-3 c = use-set _ (taken _ (c .before .before .before .before .before .before .before .number .ensures) (c .before .before .before .before .before .before .if1 .left) (λ i. c .before .before .before .before .before .before .before .before .before .slice-known .given i .fits)) _ (c .before .before .before .before .before .use-in-range .ensures) (c .before .before .before .before .if2 .left) (c .before .before .put-used .ensures)
 
 pub set-log-used-spec : {M : Type 1} → statement M
 set-log-used-spec =
@@ -49,8 +43,6 @@ set-log-used-spec =
     use-in-range-requires
     same-length-2
     returns-2
-    registers-at-requires
-    from-registers-requires
-    put-mapping-requires
+    put-used-requires
     same-length-3
     returns-3)
