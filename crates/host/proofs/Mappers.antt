@@ -63,7 +63,7 @@ module _ (i : List ℕ) {n : ℕ} (e : n ≡ loadCall i .number) where
             → mapped (o .number) x j ≡ mapperWriteEntry i k v
         done-write {x} {u} {j} p q g =
             let t : u ≡ state .core .used = q ∙ ap (λ (k : Core). k .used) (sym (loaded-core i below taken)) in
-            let s = mapper-storable state k v answered h {n = withMapper state (o .mapper)} refl (loaded-storable i below taken) in
+            let s = mapper-storable state k v {n = withMapper state (o .mapper)} answered h refl (loaded-storable i below taken) in
             done-mapper i {d = loadCall i} refl taken k v answered h p refl
             (g
             ∙ ap (mappingPut i (o .mapper)) t
