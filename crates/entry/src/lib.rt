@@ -1,6 +1,6 @@
 // What an entry of the C boundary does, by value and on slices: decode the image, make the call, encode the state (specs/Entry.antt). Crate host exports
 // the entries themselves. None has a `requires`.
-// The crates quick_reads, quick_writes and quick_state do the same on the image itself, for calls that take little of the state.
+// The crates quick_reads, quick_transfers, quick_writes and quick_state do the same on the image itself.
 ghost use mathlib.Core.Path.{_≡_};
 ghost use Rattle.memory.specs.World.{fixed};
 ghost use Rattle.entry.specs.Entry.{changed, stateEntry, given, askEntry, left, worldEntry};

@@ -1,4 +1,5 @@
--- Which register FF00 + at is: the Rust's list of `_INDEX` constants (mmu/mod.rs), as in Pan Docs. Document 01, "The bus", has what each stores.
+-- Which register a byte write of FF00 + at is to: the arms of the Rust's `write_byte` (mmu/mod.rs). Document 01, "The bus", has what each stores; what FF46
+-- and FF55 copy is in specs/Transfers.antt.
 use mathlib.Core.Bool.{cond}
 use Prim.Native.Nat.{ℕ, _%_}
 use lib.Bits.{bitOr}
@@ -7,7 +8,7 @@ use Rattle.registers.specs.PanDocs.{divReset}
 use Rattle.registers.specs.declared.register.Register.{Register}
 use Rattle.registers.specs.declared.register.Register.the-variants as is
 
--- FF10..FF3F is the sound window; of the others those that do more than to store a byte
+-- FF10..FF3F is the sound window; of the others those of which more is stored than a byte of the page
 unfoldable pub registerOf : ℕ → Register
 registerOf at =
     cond (ltb at 0x10) is.Byte

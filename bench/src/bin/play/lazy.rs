@@ -77,17 +77,15 @@ impl<B: Bus> Engine<'_, B> {
     #[inline(never)]
     fn write_register(&mut self, index: u16, value: u8) {
         self.tell();
+        self.bus.set_numbers(self.numbers);
         self.bus.write_byte(index, value);
         self.look();
     }
 
-    /// Takes anew what a write to a register may have changed. The bus's counter of cycles is as old as the last mode, unless it turned the screen off.
+    /// Takes anew what a write to a register may have changed. The timer is told of the next cycles at once: what is left of a step may be longer than a
+    /// period that has become shorter.
     fn look(&mut self) {
-        let counter = self.numbers.cycles_counter;
         self.numbers = self.bus.numbers();
-        if !self.numbers.screen_disabled {
-            self.numbers.cycles_counter = counter;
-        }
         self.bus.update_joypad();
         self.period = match self.bus.read_byte(TAC) & 7 {
             4 => Some(1024),
@@ -96,7 +94,8 @@ impl<B: Bus> Engine<'_, B> {
             7 => Some(256),
             _ => None,
         };
-        self.ask();
+        self.wait = 0;
+        self.waiting = self.bus.get_interrupts();
     }
 
     /// Tells the timer of the cycles.
@@ -107,7 +106,7 @@ impl<B: Bus> Engine<'_, B> {
         self.ask();
     }
 
-    /// How long the timer can wait, and which interrupt waits. The last step of TIMA may come at any time, those before it take a period each; an entry
+    /// How long the timer can wait after an update, and which interrupt waits. The last step of TIMA may come at any time, those before it take a period each; an entry
     /// for the cycles until the overflow would say it exactly.
     fn ask(&mut self) {
         self.wait = match self.period {
