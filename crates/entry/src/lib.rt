@@ -3,51 +3,13 @@
 // The crates quick_reads, quick_transfers, quick_writes and quick_state do the same on the image itself.
 ghost use mathlib.Core.Path.{_≡_};
 ghost use Rattle.memory.specs.World.{fixed};
-ghost use Rattle.entry.specs.Entry.{changed, stateEntry, given, askEntry, left, worldEntry};
+ghost use Rattle.entry.specs.Entry.{left, worldEntry};
 use dispatch::Call;
-use dispatch::StateCall;
 
 // The number, and the value as a number.
 pub struct Given {
     pub number: u8,
     pub value: u16,
-}
-
-// A call that changes the state alone.
-pub fn on_state(image: &mut [u8], call: StateCall) -> u8
-    ensures { λ r. ⌜ changed r (now (image .exit)) ≡ stateEntry (now (image .entry)) call ⌝ }
-{
-    let loaded = image::decode(image);
-    if loaded.number != numbers::DONE {
-        return loaded.number;
-    }
-    let memory = loaded.state;
-    let done = dispatch::perform_state(memory, call);
-    if 1 < done.number {
-        return done.number;
-    }
-    let next = done.memory;
-    image::store(next, image);
-    done.number
-}
-
-// A call that asks the state.
-pub fn ask(image: &[u8], call: StateCall) -> Given
-    ensures { λ r. ⌜ given (r .number) (r .value) ≡ askEntry (now (image .entry)) call ⌝ }
-{
-    let loaded = image::decode(image);
-    if loaded.number != numbers::DONE {
-        return Given {
-            number: loaded.number,
-            value: 0,
-        };
-    }
-    let memory = loaded.state;
-    let done = dispatch::perform_state(memory, call);
-    Given {
-        number: done.number,
-        value: done.value,
-    }
 }
 
 // A call that writes what is lent.
