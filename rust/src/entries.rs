@@ -14,6 +14,7 @@ trait Lent {
 
 impl Lent for &[u8] {
     type Pointer = *const u8;
+    #[inline]
     fn lend(self) -> (*const u8, usize) {
         (self.as_ptr(), self.len())
     }
@@ -21,6 +22,7 @@ impl Lent for &[u8] {
 
 impl Lent for &mut [u8] {
     type Pointer = *mut u8;
+    #[inline]
     fn lend(self) -> (*mut u8, usize) {
         (self.as_mut_ptr(), self.len())
     }
@@ -37,7 +39,8 @@ macro_rules! entries {
                     $($($more: <$further as Lent>::Pointer, _: usize,)*)?) -> u8;)*
             }
         }
-        $(pub fn $name($($lent: $slice,)* $($argument: $type,)* $($($more: $further,)*)?) -> u8 {
+        $(#[inline]
+        pub fn $name($($lent: $slice,)* $($argument: $type,)* $($($more: $further,)*)?) -> u8 {
             $(let $lent = $lent.lend();)*
             $($(let $more = $more.lend();)*)?
             unsafe { c::$name($($lent.0, $lent.1,)* $($argument,)* $($($more.0, $more.1,)*)?) }

@@ -11,6 +11,7 @@ pub enum Interrupt {
 
 impl Interrupt {
     /// By its number; `None` for 5, which says that none waits.
+    #[inline]
     pub(crate) fn from_number(number: u16) -> Option<Interrupt> {
         use Interrupt::*;
         [Vblank, Lcd, Timer, Serial, Joypad].get(usize::from(number)).copied()

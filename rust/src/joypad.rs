@@ -28,18 +28,22 @@ enum Change {
 }
 
 impl Controller {
+    #[inline]
     pub const fn new() -> Controller {
         Controller { waiting: Vec::new() }
     }
 
+    #[inline]
     pub fn press(&mut self, button: Button) {
         self.waiting.push(Change::Press(button));
     }
 
+    #[inline]
     pub fn release(&mut self, button: Button) {
         self.waiting.push(Change::Release(button));
     }
 
+    #[inline]
     pub fn update(&mut self, memory: &mut Memory) {
         for change in self.waiting.drain(..) {
             match change {

@@ -138,6 +138,7 @@ impl Memory {
     }
 
     /// The numbers of the screen.
+    #[inline]
     pub fn host_numbers(&self) -> HostNumbers {
         let mut numbers = HostNumbers::default();
         let mut disabled = 0;
@@ -156,6 +157,7 @@ impl Memory {
     }
 
     /// Sets them, to any values.
+    #[inline]
     pub fn set_host_numbers(&mut self, to: HostNumbers) {
         done(pouch_host(
             &mut self.image,
@@ -191,6 +193,7 @@ impl Memory {
 
 /// Reads, writes and transfers.
 impl Memory {
+    #[inline]
     pub fn read_byte(&self, index: u16) -> u8 {
         let mut value = 0;
         done(pouch_read_byte(&self.image, &self.rom, &self.vram, &self.wram, &self.save, &self.sound, index, &mut value));
@@ -198,6 +201,7 @@ impl Memory {
     }
 
     /// Low byte first.
+    #[inline]
     pub fn read_word(&self, index: u16) -> u16 {
         let mut value = 0;
         done(pouch_read_word(&self.image, &self.rom, &self.vram, &self.wram, &self.save, &self.sound, index, &mut value));
@@ -205,27 +209,32 @@ impl Memory {
     }
 
     /// Refused by `NoRoom` alone: take the log off, keep it, and write again.
+    #[inline]
     pub fn write_byte(&mut self, index: u16, value: u8) -> Result<Written, Refusal> {
         outcome(pouch_write_byte(&mut self.image, &self.rom, &mut self.vram, &mut self.wram, &mut self.save, &mut self.log, &self.sound, index, value))
     }
 
     /// Low byte first. Refused by `NoRoom` alone, and then neither byte is written.
+    #[inline]
     pub fn write_word(&mut self, index: u16, value: u16) -> Result<Written, Refusal> {
         outcome(pouch_write_word(&mut self.image, &self.rom, &mut self.vram, &mut self.wram, &mut self.save, &mut self.log, &self.sound, index, value))
     }
 
     /// Video memory by its bank. Refused by `Outside` off 8000..9FFF and off the banks.
+    #[inline]
     pub fn read_cgb_lcd_ram(&self, index: u16, bank: i32) -> Result<u8, Refusal> {
         let mut value = 0;
         let bank = u8::try_from(bank).unwrap_or(u8::MAX);
         outcome(pouch_read_cgb_lcd_ram(&self.image, &self.vram, index, bank, &mut value)).map(|_| value)
     }
 
+    #[inline]
     pub fn do_dma_transfer(&mut self, data: u8) {
         done(pouch_do_dma_transfer(&mut self.image, &self.rom, &mut self.vram, &mut self.wram, &mut self.save, &mut self.log, &self.sound, data));
     }
 
     /// One block of 16 bytes; gives the cycles that it takes.
+    #[inline]
     pub fn do_hdma(&mut self) -> i32 {
         let mut value = 0;
         done(pouch_do_hdma(&mut self.image, &self.rom, &mut self.vram, &mut self.wram, &mut self.save, &mut self.log, &self.sound, &mut value));
@@ -236,77 +245,95 @@ impl Memory {
 /// Calls on the state alone.
 impl Memory {
     /// Raw: the page, FF00..FFFF. Refused by `Outside` below it.
+    #[inline]
     pub fn load(&self, index: u16) -> Result<u8, Refusal> {
         let mut value = 0;
         outcome(pouch_load(&self.image, index, &mut value)).map(|_| value as u8)
     }
 
     /// Raw, as `load`.
+    #[inline]
     pub fn store(&mut self, index: u16, value: u8) -> Result<(), Refusal> {
         outcome(pouch_store(&mut self.image, index, value)).map(|_| ())
     }
 
+    #[inline]
     pub fn set_joypad_state(&mut self, joypad_state: u8) {
         done(pouch_set_joypad_state(&mut self.image, joypad_state));
     }
 
+    #[inline]
     pub fn are_action_keys_enabled(&self) -> bool {
         self.ask(pouch_are_action_keys_enabled) == 1
     }
 
+    #[inline]
     pub fn are_direction_keys_enabled(&self) -> bool {
         self.ask(pouch_are_direction_keys_enabled) == 1
     }
 
+    #[inline]
     pub fn do_lcd_control_write(&mut self, value: u8) {
         done(pouch_do_lcd_control_write(&mut self.image, value));
     }
 
+    #[inline]
     pub fn do_lcd_status_write(&mut self, value: u8) {
         done(pouch_do_lcd_status_write(&mut self.image, value));
     }
 
+    #[inline]
     pub fn do_scanline_write(&mut self, value: u8) {
         done(pouch_do_scanline_write(&mut self.image, value));
     }
 
+    #[inline]
     pub fn do_lyc_write(&mut self, value: u8) {
         done(pouch_do_lyc_write(&mut self.image, value));
     }
 
+    #[inline]
     pub fn compare_ly_to_lyc(&mut self) {
         done(pouch_compare_ly_to_lyc(&mut self.image));
     }
 
+    #[inline]
     pub fn enable_screen(&mut self) {
         done(pouch_enable_screen(&mut self.image));
     }
 
+    #[inline]
     pub fn disable_screen(&mut self) {
         done(pouch_disable_screen(&mut self.image));
     }
 
+    #[inline]
     pub fn reset_window_line(&mut self) {
         done(pouch_reset_window_line(&mut self.image));
     }
 
     /// The interrupt that is served first, if one waits.
+    #[inline]
     pub fn get_interrupts(&self) -> Option<Interrupt> {
         Interrupt::from_number(self.ask(pouch_get_interrupts))
     }
 
+    #[inline]
     pub fn request_interrupt(&mut self, interrupt: Interrupt) {
         done(pouch_request_interrupt(&mut self.image, interrupt as u8));
     }
 
+    #[inline]
     pub fn remove_interrupt(&mut self, interrupt: Interrupt) {
         done(pouch_remove_interrupt(&mut self.image, interrupt as u8));
     }
 
+    #[inline]
     pub fn is_hdma_enabled(&self) -> bool {
         self.ask(pouch_is_hdma_enabled) == 1
     }
 
+    #[inline]
     fn ask(&self, entry: fn(&[u8], &mut u16) -> u8) -> u16 {
         let mut value = 0;
         done(entry(&self.image, &mut value));
@@ -316,18 +343,22 @@ impl Memory {
 
 /// What `Timer` and `Controller` call. A host that has the bus at hand may call it itself.
 impl Memory {
+    #[inline]
     pub fn update_timer(&mut self, cycles: u32) -> Result<(), Refusal> {
         outcome(pouch_update_timer(&mut self.image, cycles)).map(|_| ())
     }
 
+    #[inline]
     pub fn press(&mut self, button: Button) {
         done(pouch_press(&mut self.image, button as u8));
     }
 
+    #[inline]
     pub fn release(&mut self, button: Button) {
         done(pouch_release(&mut self.image, button as u8));
     }
 
+    #[inline]
     pub fn update_joypad(&mut self) {
         done(pouch_update_joypad(&mut self.image));
     }

@@ -44,6 +44,7 @@ pub struct Written {
 }
 
 /// The number of a call that may be refused.
+#[inline]
 pub(crate) fn outcome(number: u8) -> Result<Written, Refusal> {
     Err(match number {
         0 => return Ok(Written { owes_sound: false }),
@@ -59,6 +60,7 @@ pub(crate) fn outcome(number: u8) -> Result<Written, Refusal> {
 }
 
 /// The number of a call that nothing can refuse: a `Memory` holds an image in its ranges and memories of its lengths.
+#[inline]
 pub(crate) fn done(number: u8) {
     assert_eq!(number, 0, "a call on a bus in its ranges was refused");
 }
