@@ -16,14 +16,7 @@ use Rattle.packing.proofs.Laws.{unpack-length, unpack-append, below-fit}
 use Rattle.places.specs.Places.{number, fieldAt, setAll}
 use Rattle.places.proofs.Laws.{fields-from, field-lt}
 use Rattle.places.proofs.Puts.{Put, put-fields}
-use Rattle.hdma.specs.declared.Hdma.{Hdma}
-use Rattle.joypad.specs.declared.Controller.{Controller}
 use Rattle.lcd.specs.declared.Lcd.{Lcd}
-use Rattle.mbc.specs.declared.cartridge.Cartridge.{Cartridge}
-use Rattle.mbc.specs.declared.mbc.Mapper.{Mapper}
-use Rattle.memory.specs.declared.Banks.{Banks}
-use Rattle.memory.specs.declared.Clock.{Clock}
-use Rattle.memory.specs.declared.Core.{Core}
 use Rattle.image.specs.Layout.{imageLen, fieldWidths, widths}
 use Rattle.image.specs.Load.{fieldsIn, valuesOf}
 use Rattle.image.specs.Patches.{front, fields, put, Fits}
@@ -93,10 +86,3 @@ pub lcd-same : {d d' : Bool} {l l' s s' m m' : ℕ} {y y' c c' a a' w w' : ℤ} 
     → _≡_ {A = Lcd} (record { disabled = d; line = l; signal = s; mode = m; delay = y; counter = c; aux = a; window = w })
     (record { disabled = d'; line = l'; signal = s'; mode = m'; delay = y'; counter = c'; aux = a'; window = w' })
 lcd-same e₁ e₂ e₃ e₄ e₅ e₆ e₇ e₈ = rw (e₁, e₂, e₃, e₄, e₅, e₆, e₇, e₈)
-
-pub core-same : {k k' : Banks} {l l' : Lcd} {h h' : Hdma} {j j' : Controller} {c c' : Clock} {g g' : Cartridge} {m m' : Mapper} {u u' : ℕ}
-    → k ≡ k' → l ≡ l' → h ≡ h' → j ≡ j' → c ≡ c' → g ≡ g' → m ≡ m' → u ≡ u'
-    → _≡_ {A = Core}
-    (record { banks = k; lcd = l; hdma = h; joypad = j; clock = c; cartridge = g; mapper = m; used = u })
-    (record { banks = k'; lcd = l'; hdma = h'; joypad = j'; clock = c'; cartridge = g'; mapper = m'; used = u' })
-core-same e₁ e₂ e₃ e₄ e₅ e₆ e₇ e₈ = rw (e₁, e₂, e₃, e₄, e₅, e₆, e₇, e₈)

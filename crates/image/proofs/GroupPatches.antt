@@ -1,4 +1,5 @@
--- The joypad and the screen put alone: no range reads them, so what is left is again the image of a state in range. And the groups of an image that loads.
+-- The joypad and the screen put alone: no range reads them, so what is left is again the image of a state in range. What the types say of a state with
+-- another group, and the groups of an image that loads.
 use mathlib.Core.Bool.{true}
 use mathlib.Core.Path.{_≡_, refl, ap, _∙_}
 use mathlib.Core.List.{List}
@@ -8,11 +9,12 @@ use mir.Syntax.{w32}
 use mir.Val.{SFits}
 use Rattle.numbers.specs.Numbers.{done}
 use Rattle.packing.specs.Packing.{Below}
+use Rattle.hdma.specs.declared.Hdma.{Hdma}
 use Rattle.joypad.specs.declared.Controller.{Controller}
 use Rattle.lcd.specs.declared.Lcd.{Lcd}
 use Rattle.memory.proofs.Laws.{plain}
 use Rattle.memory.specs.Ranges.{groupsInRange, palettesInRange, stateInRange, inRange}
-use Rattle.memory.specs.World.{withLcd, withJoypad}
+use Rattle.memory.specs.World.{withLcd, withHdma, withJoypad}
 use Rattle.memory.specs.declared.Core.{Core}
 use Rattle.memory.specs.declared.Memory.{Memory}
 use Rattle.image.specs.Laws.{Typed}
@@ -22,7 +24,7 @@ use Rattle.image.specs.Patches.{fields, put, lcdFields, joypadFields}
 use Rattle.image.specs.declared.Loaded.{Loaded}
 use Rattle.image.proofs.LoadLaws.{state-core}
 use Rattle.image.proofs.OpenLaws.{load-length, load-state}
-use Rattle.image.proofs.PatchLaws.{typed-with, image-put}
+use Rattle.image.proofs.PatchLaws.{Bytes, div-byte, typed-with, image-put}
 use Rattle.image.proofs.StateLaws.{fields-fit}
 
 -- what the types say of the eight numbers
@@ -42,7 +44,7 @@ storable-plain m o p l j = refl
 module _ (m : Memory) (t : Typed m) where
   pub joypad-typed : (j : Controller) → j .released < 256 → j .state < 256 → Typed (withJoypad m j (m .page))
   joypad-typed j r s =
-      typed-with m t (m .oam) (m .page) j (m .core .clock) (m .core .mapper) (m .core .used) (t .oam) (t .page) r s (t .div)
+      typed-with m t (m .oam) (m .page) j (m .core .clock) (m .core .mapper) (m .core .used) (t .oam) (t .page) r s (div-byte t)
 
   pub lcd-typed : (l : Lcd) → LcdTyped l → Typed (withLcd m l (m .page))
   lcd-typed l k =
@@ -51,18 +53,37 @@ module _ (m : Memory) (t : Typed m) where
         page = t .page;
         background = t .background;
         sprites = t .sprites;
-        released = t .released;
-        state = t .state;
-        line = k .line;
-        signal = k .signal;
-        mode = k .mode;
+        numbers = omega (arith, t .numbers, k .line, k .signal, k .mode);
         delay = k .delay;
         counter = k .counter;
         aux = k .aux;
         window = k .window;
-        div = t .div;
-        source = t .source;
-        destination = t .destination;
+      }
+
+  pub lcd-bounds : LcdTyped (m .core .lcd)
+  lcd-bounds =
+      record {
+        line = omega (arith, t .numbers);
+        signal = omega (arith, t .numbers);
+        mode = omega (arith, t .numbers);
+        delay = t .delay;
+        counter = t .counter;
+        aux = t .aux;
+        window = t .window;
+      }
+
+  pub hdma-typed : (x : Hdma) (p : List ℕ) → x .source < 65536 → x .destination < 65536 → Bytes p → Typed (withHdma m x p)
+  hdma-typed x p a b h =
+      record {
+        oam = t .oam;
+        page = h;
+        background = t .background;
+        sprites = t .sprites;
+        numbers = omega (arith, t .numbers, a, b);
+        delay = t .delay;
+        counter = t .counter;
+        aux = t .aux;
+        window = t .window;
       }
 
   module _ (h : storable m ≡ true) where

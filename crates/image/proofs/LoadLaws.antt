@@ -21,7 +21,7 @@ use Rattle.memory.specs.Start.{zeroed}
 use Rattle.memory.proofs.Laws.{core-range}
 use Rattle.palette.specs.Palette.{colorsInRange}
 use Rattle.savelog.specs.Log.{logLimit, useInRange}
-use Rattle.image.specs.Layout.{imageLen, fieldWidths, widths}
+use Rattle.image.specs.Layout.{imageLen, fieldWidths, usedField, zerosField, widths}
 use Rattle.image.specs.Load.{bytesIn, colorsIn, fieldsIn, valuesOf, stateFrom, stateOf, colorsOf, at, isOn, banksOf, hdmaOf, cartridgeOf, registersIn, coreFrom, sound, storable, loaded, loadCall}
 use Rattle.image.specs.declared.Loaded.{Loaded}
 use Rattle.image.specs.Patches.{fields, headFits, tailFits}
@@ -169,4 +169,4 @@ module _ (l : List ℕ) (size : length l ≡ imageLen) (below : Below 256 l) whe
       (number-of (sound fs && coreInRange (coreFrom fs) logLimit) (stateOf l)
       ∙ ap (λ (b : Bool). cond b done outOfRange)
       (regrouped (banksInRange (banksOf fs)) (hdmaInRange (hdmaOf fs) (isOn fs 0)) (leb (at fs 13) 1023) (mbc.sound (registersIn fs))
-      (mbc.inRange (cartridgeOf fs) (mbc.mapperOf (registersIn fs))) (eqb (at fs 29) 0) (useInRange (at fs 28) logLimit) remainder-fits))
+      (mbc.inRange (cartridgeOf fs) (mbc.mapperOf (registersIn fs))) (eqb (at fs zerosField) 0) (useInRange (at fs usedField) logLimit) remainder-fits))

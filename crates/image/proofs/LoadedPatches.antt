@@ -9,14 +9,14 @@ use lib.Seq.{length-take-le}
 use mir.Syntax.{w32}
 use mir.Facts.{sfits-toZ}
 use Rattle.numbers.specs.Numbers.{done}
-use Rattle.packing.specs.Packing.{Below, packed, unpacked, repacked, eights, fives}
+use Rattle.packing.specs.Packing.{Below, Fit, packed, unpacked, repacked, eights, fives}
 use Rattle.packing.proofs.Laws.{below-take, below-drop, fit-at, unpack-fit}
 use Rattle.places.specs.Places.{number}
 use Rattle.palette.specs.declared.Color.{Color}
 use Rattle.mbc.specs.declared.mbc.Mapper.{Mapper}
 use Rattle.memory.specs.declared.Memory.{Memory}
 use Rattle.memory.specs.World.{withMapper, withUsed}
-use Rattle.image.specs.Layout.{imageLen, fieldWidths, imageOf}
+use Rattle.image.specs.Layout.{imageLen, fieldWidths, typedFields, picked, imageOf}
 use Rattle.image.specs.Load.{at, colorsOf, storable, stateOf, loadCall}
 use Rattle.image.specs.Laws.{Typed}
 use Rattle.image.specs.Patches.{usedPut, mappingPut}
@@ -30,6 +30,10 @@ use Rattle.image.proofs.PatchLaws.{Bytes, used-image, mapping-image}
 colors-length : (l : List ℕ) → length l ≡ 96 → length (colorsOf l) ≡ 32
 colors-length l h = omega (arith, channels-length (colorsOf l), ap length (channels-colors 32 l h))
 
+picked-fit : (ks ws fs : List ℕ) → Fit ws fs → Fit (picked ks ws) (picked ks fs)
+picked-fit [] ws fs f = omega arith
+picked-fit (k ∷ ks) ws fs f = (fit-at ws fs k f, picked-fit ks ws fs f)
+
 made-typed : (o p : List ℕ) (b s : List Color) (n : ℕ) → Bytes o → Bytes p → length b ≡ 32 → length s ≡ 32
     → Typed (made o p b s (unpacked fieldWidths n))
 made-typed o p b s n ho hp hb hs =
@@ -40,14 +44,7 @@ made-typed o p b s n ho hp hb hs =
       page = hp;
       background = hb;
       sprites = hs;
-      state = f 7;
-      released = f 8;
-      line = f 9;
-      signal = f 10;
-      mode = f 11;
-      div = f 12;
-      source = f 14;
-      destination = f 15;
+      numbers = picked-fit typedFields fieldWidths fs (unpack-fit fieldWidths n);
       delay = sfits-toZ {w = w32} (record { fits = f 16 });
       counter = sfits-toZ {w = w32} (record { fits = f 17 });
       aux = sfits-toZ {w = w32} (record { fits = f 18 });

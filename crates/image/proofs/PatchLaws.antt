@@ -30,7 +30,18 @@ use Rattle.image.proofs.Round.{state-back, values-back, fields-of-value
 abbrev pub Bytes : List ℕ → Type 0
 Bytes l = (length l ≡ 256) × Below 256 l
 
--- what the types say holds of a state with other parts
+-- what the types say, group by group
+module _ {m : Memory} (t : Typed m) where
+  pub joypad-bytes : (m .core .joypad .released < 256) × (m .core .joypad .state < 256)
+  joypad-bytes = omega (arith, t .numbers)
+
+  pub div-byte : m .core .clock .div < 256
+  div-byte = omega (arith, t .numbers)
+
+  pub hdma-words : (m .core .hdma .source < 65536) × (m .core .hdma .destination < 65536)
+  hdma-words = omega (arith, t .numbers)
+
+-- and of a state with other parts
 pub typed-with : (m : Memory) → Typed m → (o p : List ℕ) (j : Controller) (c : Clock) (x : Mapper) (u : ℕ)
     → Bytes o → Bytes p → j .released < 256 → j .state < 256 → c .div < 256
     → Typed (withUsed (withMapper (withClock (withJoypad (withOam m o) j p) c p) x) u)
@@ -40,18 +51,11 @@ typed-with m t o p j c x u ho hp r s d =
       page = hp;
       background = t .background;
       sprites = t .sprites;
-      released = r;
-      state = s;
-      line = t .line;
-      signal = t .signal;
-      mode = t .mode;
+      numbers = omega (arith, t .numbers, r, s, d);
       delay = t .delay;
       counter = t .counter;
       aux = t .aux;
       window = t .window;
-      div = d;
-      source = t .source;
-      destination = t .destination;
     }
 
 -- Fields put
@@ -119,7 +123,7 @@ pub bytes-set : (l : List ℕ) (i v : ℕ) → Bytes l → v < 256 → Bytes (se
 bytes-set l i v h b = (simp length-set (h .0), below-set 256 l i v (h .1) b)
 
 pub typed-bytes : (m : Memory) → Typed m → (o p : List ℕ) → Bytes o → Bytes p → Typed (withPage (withOam m o) p)
-typed-bytes m t o p ho hp = typed-with m t o p (m .core .joypad) (m .core .clock) (m .core .mapper) (m .core .used) ho hp (t .released) (t .state) (t .div)
+typed-bytes m t o p ho hp = typed-with m t o p (m .core .joypad) (m .core .clock) (m .core .mapper) (m .core .used) ho hp (joypad-bytes t .0) (joypad-bytes t .1) (div-byte t)
 
 pub storable-bytes : (m : Memory) (o p : List ℕ) → storable (withPage (withOam m o) p) ≡ storable m
 unfolding storable inRange stateInRange palettesInRange

@@ -15,22 +15,21 @@ use borrow.Author.Tests.{eqb-true, eq-eqb}
 use Rattle.rules.proofs.Tests.{both-true}
 use Rattle.numbers.specs.Numbers.{done, outOfRange, wrongLength}
 use Rattle.packing.specs.Packing.{Fit, Below, bits, packed, unpacked, repacked, eights, fives}
-use Rattle.packing.proofs.Laws.{fit-append, fit-below, fit-at, unpack-fit}
+use Rattle.packing.proofs.Laws.{fit-append, fit-below}
 use Rattle.places.specs.Places.{number}
 use Rattle.mbc.specs.Mbc as mbc
 use Rattle.mbc.proofs.Cartridges.{banks-of-log, log-of-banks}
 use Rattle.mbc.proofs.Ranges.{in-described}
 use Rattle.mbc.proofs.RegisterLaws.{mapper-of-registers, registers-sound, registers-of-mapper}
-use Rattle.mbc.specs.declared.registers.Registers.{Registers}
 use Rattle.memory.specs.declared.Memory.{Memory}
 use Rattle.memory.specs.Start.{zeroed}
 use Rattle.memory.proofs.Laws.{range-parts}
-use Rattle.image.specs.Layout.{imageLen, fieldWidths, widths, channels, bit, fieldValues, values, imageOf}
-use Rattle.image.specs.Load.{colorsOf, banksOf, lcdOf, hdmaOf, joypadOf, cartridgeOf, registersIn, coreFrom, at, sound, storable, loaded, valuesOf, bytesIn, colorsIn, fieldsIn, stateFrom, stateOf, loadCall}
+use Rattle.image.specs.Layout.{imageLen, fieldWidths, zerosField, widths, channels, bit, fieldValues, values, imageOf}
+use Rattle.image.specs.Load.{registersIn, coreFrom, at, sound, storable, loaded, valuesOf, bytesIn, colorsIn, fieldsIn, stateFrom, stateOf, loadCall}
 use Rattle.image.specs.Laws.{Typed, StateBack, ImageBack}
 use Rattle.image.specs.declared.Loaded.{Loaded}
 use Rattle.image.proofs.ColorLaws.{channels-length, colors-channels, channels-colors}
-use Rattle.image.proofs.FieldLaws.{core-same, fields-in, fields-number, image-of-values}
+use Rattle.image.proofs.FieldLaws.{fields-in, fields-number, image-of-values}
 use Rattle.image.proofs.Parts.{repacked-length, repacked-fit, repacked-back, joined}
 use Rattle.image.proofs.StateLaws.{storable-state, fields-fit, bytes-fit, background-fit, sprites-fit}
 use Rattle.image.proofs.LoadLaws.{made-same, all-same}
@@ -41,13 +40,19 @@ bit-back : (b : Bool) → eqb (bit b) 1 ≡ b
 bit-back true = refl
 bit-back false = refl
 
-bit-again : (n : ℕ) → n < 2 → bit (eqb n 1) ≡ n
-bit-again zero h = refl
-bit-again (suc zero) h = refl
-bit-again (suc (suc n)) h = absurd (omega arith)
+below-bit : (n : ℕ) → n < 2 → bit (eqb n 1) ≡ n
+below-bit zero h = refl
+below-bit (suc zero) h = refl
+below-bit (suc (suc n)) h = absurd (omega arith)
 
-signed-again : (n : ℕ) → n < 2 ^ 32 → ofZ w32 (toZ w32 n) ≡ n
-signed-again n h = ofZ-toZ {w = w32} {n = n} (record { fits = h })
+bit-again : (n : ℕ) → bit (eqb (n % 2) 1) ≡ n % 2
+bit-again n = below-bit (n % 2) (omega arith)
+
+signed-again : (n : ℕ) → ofZ w32 (toZ w32 (n % 2 ^ 32)) ≡ n % 2 ^ 32
+signed-again n = ofZ-toZ {w = w32} {n = n % 2 ^ 32} (record { fits = omega arith })
+
+log-again : (n : ℕ) → mbc.log2 (mbc.banksOf (n % 8)) ≡ n % 8
+log-again n = log-of-banks (n % 8) (omega arith)
 
 -- State, image, state
 
@@ -105,6 +110,16 @@ module _ (m : Memory) (t : Typed m) (h : storable m ≡ true) where
       ap (take 704) (sym (append-assoc x y (fieldValues (m .core))))
       ∙ take-at (x ++ y) (fieldValues (m .core)) 704 (length-append x y ∙ rw (bytes-long, colors-long))
 
+  cartridge-back : mbc.banksOf (mbc.log2 (m .core .cartridge .banks)) ≡ m .core .cartridge .banks
+  cartridge-back =
+      banks-of-log (m .core .cartridge .banks) (in-described (m .core .cartridge) (m .core .mapper) (range-parts m (storable-state m h) .mapper) .power)
+
+  mapper-back : mbc.mapperOf (registersIn (fieldValues (m .core))) ≡ m .core .mapper
+  mapper-back = mapper-of-registers (m .core .mapper)
+
+  core-back : coreFrom (fieldValues (m .core)) ≡ m .core
+  core-back = simp (bit-back, toZ-ofZ (t .delay), toZ-ofZ (t .counter), toZ-ofZ (t .aux), toZ-ofZ (t .window), cartridge-back, mapper-back)
+
   state-of-values : stateFrom (bytesIn (values m)) (colorsIn (values m)) (fieldsIn (values m)) ≡ m
   state-of-values =
       let b = channels (m .background) in
@@ -114,25 +129,7 @@ module _ (m : Memory) (t : Typed m) (h : storable m ≡ true) where
       (ap (take 96) colors-of-values ∙ take-at b s 96 background-long)
       (ap (drop 96) colors-of-values ∙ drop-at b s 96 background-long)
       fields-of-values
-      ∙ all-same refl refl (colors-channels (m .background)) (colors-channels (m .sprites)) (core-same banks lcd hdma joypad refl cartridge mapper refl)
-    where
-      banks : banksOf (fieldValues (m .core)) ≡ m .core .banks
-      banks = rw (bit-back (m .core .banks .colour))
-
-      lcd : lcdOf (fieldValues (m .core)) ≡ m .core .lcd
-      lcd = rw (bit-back (m .core .lcd .disabled), toZ-ofZ (t .delay), toZ-ofZ (t .counter), toZ-ofZ (t .aux), toZ-ofZ (t .window))
-
-      hdma : hdmaOf (fieldValues (m .core)) ≡ m .core .hdma
-      hdma = rw (bit-back (m .core .hdma .on))
-
-      joypad : joypadOf (fieldValues (m .core)) ≡ m .core .joypad
-      joypad = rw (bit-back (m .core .joypad .action), bit-back (m .core .joypad .direction))
-
-      cartridge : cartridgeOf (fieldValues (m .core)) ≡ m .core .cartridge
-      cartridge = rw (banks-of-log (m .core .cartridge .banks) (in-described (m .core .cartridge) (m .core .mapper) (range-parts m (storable-state m h) .mapper) .power))
-
-      mapper : mbc.mapperOf (registersIn (fieldValues (m .core))) ≡ m .core .mapper
-      mapper = mapper-of-registers (m .core .mapper)
+      ∙ all-same refl refl (colors-channels (m .background)) (colors-channels (m .sprites)) core-back
 
   sound-values : sound (fieldsIn (values m)) ≡ true
   unfolding sound
@@ -153,47 +150,12 @@ state-back m t h = (
 
 -- Image, state, image
 
-cons-same : {a b : ℕ} {l r : List ℕ} → a ≡ b → l ≡ r → _≡_ {A = List ℕ} (a ∷ l) (b ∷ r)
-cons-same p q = cc
-
 fields-again : (n : ℕ) → sound (unpacked fieldWidths n) ≡ true → fieldValues (coreFrom (unpacked fieldWidths n)) ≡ unpacked fieldWidths n
 unfolding sound
 fields-again n h =
     let fs = unpacked fieldWidths n in
-    let b : (k : ℕ) → at fs k < 2 ^ at fieldWidths k = λ k. fit-at fieldWidths fs k (unpack-fit fieldWidths n) in
-    let g = both-true (mbc.sound (registersIn fs)) (eqb (at fs 29) 0) h in
-    let e = registers-of-mapper (registersIn fs) (g .0) in
-    (cons-same (bit-again _ (b 0))
-    (cons-same (bit-again _ (b 1))
-    (cons-same (bit-again _ (b 2))
-    (cons-same refl
-    (cons-same refl
-    (cons-same (bit-again _ (b 5))
-    (cons-same (bit-again _ (b 6))
-    (cons-same refl
-    (cons-same refl
-    (cons-same refl
-    (cons-same refl
-    (cons-same refl
-    (cons-same refl
-    (cons-same refl
-    (cons-same refl
-    (cons-same refl
-    (cons-same (signed-again _ (b 16))
-    (cons-same (signed-again _ (b 17))
-    (cons-same (signed-again _ (b 18))
-    (cons-same (signed-again _ (b 19))
-    (cons-same (ap (λ (r : Registers). r .kind) e)
-    (cons-same (log-of-banks _ (omega (arith, b 21)))
-    (cons-same refl
-    (cons-same (ap (λ (r : Registers). r .rom) e)
-    (cons-same (ap (λ (r : Registers). r .ram) e)
-    (cons-same (ap (λ (r : Registers). r .mode) e)
-    (cons-same (ap (λ (r : Registers). r .enabled) e)
-    (cons-same (ap (λ (r : Registers). r .high) e)
-    (cons-same refl
-    (cons-same (sym (eqb-true (at fs 29) 0 (g .1)))
-    refl))))))))))))))))))))))))))))))
+    let g = both-true (mbc.sound (registersIn fs)) (eqb (at fs zerosField) 0) h in
+    simp (bit-again, signed-again, log-again, registers-of-mapper (registersIn fs) (g .0), eqb-true (at fs zerosField) 0 (g .1))
 
 values-again : (vs : List ℕ) → length vs ≡ length widths
     → fieldValues (coreFrom (fieldsIn vs)) ≡ fieldsIn vs

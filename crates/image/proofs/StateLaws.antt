@@ -29,7 +29,7 @@ use Rattle.memory.specs.declared.Core.{Core}
 use Rattle.memory.specs.declared.Memory.{Memory}
 use Rattle.memory.specs.Ranges.{banksInRange, stateInRange, inRange, vramLen, wramLen}
 use Rattle.memory.proofs.Laws.{range-parts, vram-fits, wram-fits}
-use Rattle.image.specs.Layout.{imageLen, headWidths, headValues, tailWidths, tailValues, fieldWidths, fieldValues, bit, channels, values, imageOf}
+use Rattle.image.specs.Layout.{imageLen, fieldWidths, fieldValues, flags, bit, channels, values, imageOf}
 use Rattle.image.specs.Load.{storable}
 use Rattle.image.specs.Laws.{Typed}
 use Rattle.image.specs.Patches.{arraysOf, put, Fits, banksFields, clockFields, cartridgeFields, registersFields, coreFields}
@@ -51,41 +51,20 @@ bit-lt : (b : Bool) → bit b < 2
 bit-lt true = omega arith
 bit-lt false = omega arith
 
+abbrev Bits : List Bool → Type 0
+Bits [] = 0 < 1
+Bits (b ∷ bs) = (bit b < 2) × Bits bs
+
+flags-lt : (bs : List Bool) → Bits bs
+flags-lt [] = omega arith
+flags-lt (b ∷ bs) = (bit-lt b, flags-lt bs)
+
 banks-lt : (colour : Bool) (v w : ℕ) → v * 8192 + 8192 ≤ vramLen colour → w * 4096 + 4096 ≤ wramLen colour → (v < 2) × (w < 8)
 banks-lt true v w h k = (omega arith, omega arith)
 banks-lt false v w h k = (omega arith, omega arith)
 
 wram-lt : (b : Banks) → banksInRange b ≡ true → (b .vram < 2) × (b .wram < 8)
 wram-lt b h = banks-lt (b .colour) (b .vram) (b .wram) (vram-fits b h) (wram-fits b h)
-
-head-fit : (m : Memory) → Typed m → storable m ≡ true → Fit headWidths (headValues (m .core))
-head-fit m t h =
-    let c = m .core in
-    let p = range-parts m (storable-state m h) in
-    let b = wram-lt (c .banks) (p .banks) in
-    let k = p .clock in
-    omega (
-      arith,
-      bit-lt (c .banks .colour),
-      bit-lt (c .lcd .disabled),
-      bit-lt (c .hdma .on),
-      b,
-      bit-lt (c .joypad .action),
-      bit-lt (c .joypad .direction),
-      t .state,
-      t .released,
-      t .line,
-      t .signal,
-      t .mode,
-      t .div,
-      k,
-      t .source,
-      t .destination,
-      fits-ofZ {w = w32} (t .delay) .fits,
-      fits-ofZ {w = w32} (t .counter) .fits,
-      fits-ofZ {w = w32} (t .aux) .fits,
-      fits-ofZ {w = w32} (t .window) .fits,
-    )
 
 kind-lt : (m : Mapper) → registersOf m .kind < 4
 kind-lt m = let h : registersOf m .kind ≤ mbc.kindMbc2 = leb-true (registersOf m .kind) mbc.kindMbc2 (registers-known m) in omega (arith, h)
@@ -107,31 +86,39 @@ log-lt n e h =
     ((λ k. omega arith), ((λ k. omega arith), ((λ k. omega arith), ((λ k. omega arith), ((λ k. omega arith), ((λ k. omega arith), ((λ k. omega arith), ((λ k. absurd (omega arith)), ((λ k. absurd (omega arith)), omega arith))))))))) in
     low-log mbc.powers n all e h
 
-tail-fit : (m : Memory) → storable m ≡ true → Fit tailWidths (tailValues (m .core))
-tail-fit m h =
-    let c = m .core in
-    let p = range-parts m (storable-state m h) .mapper in
-    let d = in-described (c .cartridge) (c .mapper) p in
-    let r = in-held (c .cartridge) (c .mapper) p in
-    omega (
-      arith,
-      kind-lt (c .mapper),
-      log-lt (c .cartridge .banks) (d .power) (d .most),
-      d .most,
-      d .code,
-      r .rom,
-      r .ram,
-      r .high,
-      lawful (c .mapper) .bits,
-      storable-use m h,
-    )
-
-pub fields-fit : (m : Memory) → Typed m → storable m ≡ true → Fit fieldWidths (fieldValues (m .core))
-fields-fit m t h = fit-append headWidths tailWidths (headValues (m .core)) (tailValues (m .core)) (head-fit m t h) (tail-fit m h)
-
 -- the mapper's, which no type bounds
 pub slim-registers : (m : Memory) → storable m ≡ true → Fits (registersFields (registersOf (m .core .mapper)))
-slim-registers m h = omega (arith, tail-fit m h)
+slim-registers m h =
+    let c = m .core in
+    let p = range-parts m (storable-state m h) .mapper in
+    let r = in-held (c .cartridge) (c .mapper) p in
+    omega (arith, kind-lt (c .mapper), in-described (c .cartridge) (c .mapper) p .most, r .rom, r .ram, r .high, lawful (c .mapper) .bits)
+
+described-lt : (m : Memory) → storable m ≡ true → Fits (cartridgeFields (m .core .cartridge))
+described-lt m h =
+    let c = m .core .cartridge in
+    let d = in-described c (m .core .mapper) (range-parts m (storable-state m h) .mapper) in
+    omega (arith, log-lt (c .banks) (d .power) (d .most), d .code)
+
+pub fields-fit : (m : Memory) → Typed m → storable m ≡ true → Fit fieldWidths (fieldValues (m .core))
+fields-fit m t h =
+    let c = m .core in
+    let p = range-parts m (storable-state m h) in
+    let k = p .clock in
+    omega (
+      arith,
+      flags-lt (flags c),
+      t .numbers,
+      wram-lt (c .banks) (p .banks),
+      k,
+      fits-ofZ {w = w32} (t .delay) .fits,
+      fits-ofZ {w = w32} (t .counter) .fits,
+      fits-ofZ {w = w32} (t .aux) .fits,
+      fits-ofZ {w = w32} (t .window) .fits,
+      slim-registers m h,
+      described-lt m h,
+      storable-use m h,
+    )
 
 -- what fits the layout fits it group by group
 module _ (c : Core) (f : Fit fieldWidths (fieldValues c)) where

@@ -2,14 +2,14 @@
 use mathlib.Core.Bool.{true}
 use mathlib.Core.Path.{_≡_}
 use mathlib.Core.List.{List}
-use Prim.Native.Nat.{ℕ, _<_}
+use Prim.Native.Nat.{ℕ}
 use lib.ListN.{length}
 use mir.Syntax.{w32}
 use mir.Val.{SFits}
-use Rattle.packing.specs.Packing.{Below}
+use Rattle.packing.specs.Packing.{Below, Fit}
 use Rattle.numbers.specs.Numbers.{done}
 use Rattle.memory.specs.declared.Memory.{Memory}
-use Rattle.image.specs.Layout.{imageLen, imageOf}
+use Rattle.image.specs.Layout.{imageLen, fieldWidths, fieldValues, typedFields, picked, imageOf}
 use Rattle.image.specs.Load.{storable, loaded, loadCall}
 
 -- what a `Memory` of the code has by its types: the ranges say the rest
@@ -18,18 +18,11 @@ pub record Typed (m : Memory) : Type 0 where
   pub page : (length (m .page) ≡ 256) × Below 256 (m .page)
   pub background : length (m .background) ≡ 32
   pub sprites : length (m .sprites) ≡ 32
-  pub released : m .core .joypad .released < 256
-  pub state : m .core .joypad .state < 256
-  pub line : m .core .lcd .line < 256
-  pub signal : m .core .lcd .signal < 256
-  pub mode : m .core .lcd .mode < 256
+  pub numbers : Fit (picked typedFields fieldWidths) (picked typedFields (fieldValues (m .core)))
   pub delay : SFits w32 (m .core .lcd .delay)
   pub counter : SFits w32 (m .core .lcd .counter)
   pub aux : SFits w32 (m .core .lcd .aux)
   pub window : SFits w32 (m .core .lcd .window)
-  pub div : m .core .clock .div < 256
-  pub source : m .core .hdma .source < 65536
-  pub destination : m .core .hdma .destination < 65536
 
 -- A state in range has an image, and loading that gives the state back.
 abbrev pub StateBack : Type 0

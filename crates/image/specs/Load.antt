@@ -4,27 +4,17 @@ use mathlib.Core.Bool.{Bool, cond, _&&_}
 use mathlib.Core.List.{List, [], _∷_}
 use Prim.Native.Nat.{ℕ}
 use lib.Dec.{eqb}
-use lib.IntN.{ℤ}
-use lib.ListN.{length, take, drop, getD}
-use mir.Syntax.{w32}
-use mir.Val.{toZ}
+use lib.ListN.{length, take, drop}
 use Rattle.numbers.specs.Numbers.{done, outOfRange, wrongLength}
 use Rattle.packing.specs.Packing.{repacked, eights}
-use Rattle.hdma.specs.declared.Hdma.{Hdma}
-use Rattle.joypad.specs.declared.Controller.{Controller}
-use Rattle.lcd.specs.declared.Lcd.{Lcd}
 use Rattle.palette.specs.declared.Color.{Color}
 use Rattle.mbc.specs.Mbc as mbc
-use Rattle.mbc.specs.declared.cartridge.Cartridge.{Cartridge}
-use Rattle.mbc.specs.declared.registers.Registers.{Registers}
 use Rattle.savelog.specs.Log.{logLimit}
-use Rattle.memory.specs.declared.Banks.{Banks}
-use Rattle.memory.specs.declared.Clock.{Clock}
-use Rattle.memory.specs.declared.Core.{Core}
 use Rattle.memory.specs.declared.Memory.{Memory}
 use Rattle.memory.specs.Ranges.{inRange}
 use Rattle.memory.specs.Start.{zeroed}
-use Rattle.image.specs.Layout.{imageLen, widths, imageOf}
+use Rattle.image.specs.Layout.{imageLen, zerosField, widths, imageOf}
+pub use Rattle.image.specs.Layout.{at, isOn, banksOf, lcdOf, hdmaOf, joypadOf, clockOf, cartridgeOf, registersIn, coreFrom}
 use Rattle.image.specs.declared.Loaded.{Loaded}
 use Rattle.image.specs.declared.Opened.{Opened}
 
@@ -54,62 +44,6 @@ colorsOf (r ∷ []) = []
 colorsOf (r ∷ g ∷ []) = []
 colorsOf (r ∷ g ∷ b ∷ cs) = record { red = r; green = g; blue = b } ∷ colorsOf cs
 
-abbrev pub at : List ℕ → ℕ → ℕ
-at fs k = getD fs k 0
-
-abbrev pub isOn : List ℕ → ℕ → Bool
-isOn fs k = eqb (at fs k) 1
-
-abbrev pub signed : List ℕ → ℕ → ℤ
-signed fs k = toZ w32 (at fs k)
-
--- the fields by their numbers in `fieldWidths`
-
-abbrev pub banksOf : List ℕ → Banks
-banksOf fs = record { colour = isOn fs 0; vram = at fs 3; wram = at fs 4 }
-
-abbrev pub lcdOf : List ℕ → Lcd
-lcdOf fs =
-    record {
-      disabled = isOn fs 1;
-      line = at fs 9;
-      signal = at fs 10;
-      mode = at fs 11;
-      delay = signed fs 16;
-      counter = signed fs 17;
-      aux = signed fs 18;
-      window = signed fs 19;
-    }
-
-abbrev pub hdmaOf : List ℕ → Hdma
-hdmaOf fs = record { on = isOn fs 2; source = at fs 14; destination = at fs 15 }
-
-abbrev pub joypadOf : List ℕ → Controller
-joypadOf fs = record { released = at fs 8; action = isOn fs 5; direction = isOn fs 6; state = at fs 7 }
-
-abbrev pub clockOf : List ℕ → Clock
-clockOf fs = record { div = at fs 12; tima = at fs 13 }
-
-abbrev pub cartridgeOf : List ℕ → Cartridge
-cartridgeOf fs = record { banks = mbc.banksOf (at fs 21); code = at fs 22 }
-
-abbrev pub registersIn : List ℕ → Registers
-registersIn fs = record { kind = at fs 20; rom = at fs 23; ram = at fs 24; mode = at fs 25; enabled = at fs 26; high = at fs 27 }
-
--- all but the arrays
-abbrev pub coreFrom : List ℕ → Core
-coreFrom fs =
-    record {
-      banks = banksOf fs;
-      lcd = lcdOf fs;
-      hdma = hdmaOf fs;
-      joypad = joypadOf fs;
-      clock = clockOf fs;
-      cartridge = cartridgeOf fs;
-      mapper = mbc.mapperOf (registersIn fs);
-      used = at fs 28;
-    }
-
 abbrev pub stateFrom : List ℕ → List ℕ → List ℕ → Memory
 stateFrom bytes colors fs =
     record {
@@ -122,7 +56,7 @@ stateFrom bytes colors fs =
 
 -- What is refused beside the state ranges: registers that no mapper has (mapper 3 among them), a last bit 1
 unfoldable pub sound : List ℕ → Bool
-sound fs = mbc.sound (registersIn fs) && eqb (at fs 29) 0
+sound fs = mbc.sound (registersIn fs) && eqb (at fs zerosField) 0
 
 abbrev pub loaded : ℕ → Memory → Loaded
 loaded n m = record { number = n; state = m }

@@ -17,7 +17,7 @@ ghost use mir.Val.{ofZ, toZ};
 ghost use Rattle.packing.specs.Packing.{Fit};
 ghost use Rattle.places.specs.Places.{fieldAt, putAt, Within};
 ghost use Rattle.mbc.specs.Mbc.{mapperOf};
-ghost use Rattle.image.specs.Layout.{imageLen, fieldWidths, fieldValues};
+ghost use Rattle.image.specs.Layout.{imageLen, fieldWidths, fieldValues, usedField};
 ghost use Rattle.image.specs.Load.{banksOf, lcdOf, hdmaOf, joypadOf, clockOf, cartridgeOf, registersIn, coreFrom, at};
 ghost use Rattle.image.specs.Patches.{fields, headFits, mapperFits, tailFits, put, Fits, banksFields, linesFields, lcdFields, hdmaFields, joypadFields, clockFields, cartridgeFields, numbersFields, Slim, usedPut, mappingPut, clockPut, coreFields};
 
@@ -122,7 +122,7 @@ pub fn mapper_at(image: &[u8]) -> Mapper
 
 pub fn used_at(image: &[u8]) -> u16
     requires { ⌜ length (now image) ≡ imageLen ⌝ }
-    ensures { λ r. ⌜ r ≡ at (fields (now (image .entry))) 28 ⌝ }
+    ensures { λ r. ⌜ r ≡ at (fields (now (image .entry))) usedField ⌝ }
 {
     places::u16_at(image, layout::USED_AT, layout::USED)
 }

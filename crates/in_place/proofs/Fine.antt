@@ -14,9 +14,10 @@ use Rattle.hdma.specs.declared.Ended.{Ended}
 use Rattle.hdma.specs.declared.Hdma.{Hdma}
 use Rattle.hdma.specs.declared.Start.{Start}
 use Rattle.hdma.specs.declared.Written.{Written}
-use Rattle.image.proofs.GroupPatches.{LcdTyped}
-use Rattle.image.proofs.PatchLaws.{below-set}
+use Rattle.image.proofs.GroupPatches.{LcdTyped, lcd-bounds}
+use Rattle.image.proofs.PatchLaws.{joypad-bytes, div-byte, hdma-words, below-set}
 use Rattle.image.specs.Laws.{Typed}
+use Rattle.image.specs.Layout.{fieldWidths, fieldValues, typedFields, picked}
 use Rattle.joypad.specs.Joypad as joypad
 use Rattle.joypad.specs.declared.Controller.{Controller}
 use Rattle.lcd.proofs.Laws as lcd
@@ -31,7 +32,7 @@ use Rattle.memory.specs.World.{withOam, withPage, withBackground, withSprites, 
 use Rattle.memory.specs.declared.Banks.{Banks}
 use Rattle.memory.specs.declared.Clock.{Clock}
 use Rattle.memory.specs.declared.Memory.{Memory}
-use Rattle.packing.specs.Packing.{Below}
+use Rattle.packing.specs.Packing.{Below, Fit}
 use Rattle.palette.proofs.Laws as palette
 use Rattle.palette.specs.Palette.{colorsInRange}
 use Rattle.palette.specs.declared.Color.{Color}
@@ -81,6 +82,8 @@ pub record Fine (m : Memory) : Type 0 where
   pub lcd : LcdTyped (m .core .lcd)
   pub hdma : InRange (m .core .hdma)
   pub clock : (m .core .clock .div < 256) × (m .core .clock .tima < 1024)
+  -- these and all others that their types bound
+  pub numbers : Fit (picked typedFields fieldWidths) (picked typedFields (fieldValues (m .core)))
 
 pub typed-fine : (m : Memory) → Typed m → stateInRange m ≡ true → Fine m
 typed-fine m t h =
@@ -90,18 +93,11 @@ typed-fine m t h =
       page = record { size = t .page .0; bytes = t .page .1 };
       background = (t .background, range-background m h);
       sprites = (t .sprites, range-sprites m h);
-      joypad = (t .released, t .state);
-      lcd = record {
-        line = t .line;
-        signal = t .signal;
-        mode = t .mode;
-        delay = t .delay;
-        counter = t .counter;
-        aux = t .aux;
-        window = t .window;
-      };
-      hdma = ((p .source, t .source), (p .destination, t .destination));
-      clock = (t .div, omega (arith, range-clock m h));
+      joypad = joypad-bytes t;
+      lcd = lcd-bounds m t;
+      hdma = ((p .source, hdma-words t .0), (p .destination, hdma-words t .1));
+      clock = (div-byte t, omega (arith, range-clock m h));
+      numbers = t .numbers;
     }
 
 pub fine-typed : (m : Memory) → Fine m → Typed m
@@ -111,55 +107,48 @@ fine-typed m f =
       page = (f .page .size, f .page .bytes);
       background = f .background .0;
       sprites = f .sprites .0;
-      released = f .joypad .0;
-      state = f .joypad .1;
-      line = f .lcd .line;
-      signal = f .lcd .signal;
-      mode = f .lcd .mode;
+      numbers = f .numbers;
       delay = f .lcd .delay;
       counter = f .lcd .counter;
       aux = f .lcd .aux;
       window = f .lcd .window;
-      div = f .clock .0;
-      source = f .hdma .0 .1;
-      destination = f .hdma .1 .1;
     }
 
 -- One part changed
 
 module _ {m : Memory} (f : Fine m) where
   pub oam-fine : {o : List ℕ} → Page o → Fine (withOam m o)
-  oam-fine o = record { oam = o; page = f .page; background = f .background; sprites = f .sprites; joypad = f .joypad; lcd = f .lcd; hdma = f .hdma; clock = f .clock }
+  oam-fine o = record { oam = o; page = f .page; background = f .background; sprites = f .sprites; joypad = f .joypad; lcd = f .lcd; hdma = f .hdma; clock = f .clock; numbers = f .numbers }
 
   pub page-fine : {p : List ℕ} → Page p → Fine (withPage m p)
-  page-fine p = record { oam = f .oam; page = p; background = f .background; sprites = f .sprites; joypad = f .joypad; lcd = f .lcd; hdma = f .hdma; clock = f .clock }
+  page-fine p = record { oam = f .oam; page = p; background = f .background; sprites = f .sprites; joypad = f .joypad; lcd = f .lcd; hdma = f .hdma; clock = f .clock; numbers = f .numbers }
 
   background-fine : {c : List Color} {p : List ℕ} → Colours c → Page p → Fine (withBackground m c p)
-  background-fine c p = record { oam = f .oam; page = p; background = c; sprites = f .sprites; joypad = f .joypad; lcd = f .lcd; hdma = f .hdma; clock = f .clock }
+  background-fine c p = record { oam = f .oam; page = p; background = c; sprites = f .sprites; joypad = f .joypad; lcd = f .lcd; hdma = f .hdma; clock = f .clock; numbers = f .numbers }
 
   sprites-fine : {c : List Color} {p : List ℕ} → Colours c → Page p → Fine (withSprites m c p)
-  sprites-fine c p = record { oam = f .oam; page = p; background = f .background; sprites = c; joypad = f .joypad; lcd = f .lcd; hdma = f .hdma; clock = f .clock }
+  sprites-fine c p = record { oam = f .oam; page = p; background = f .background; sprites = c; joypad = f .joypad; lcd = f .lcd; hdma = f .hdma; clock = f .clock; numbers = f .numbers }
 
   pub banks-fine : (b : Banks) {p : List ℕ} → Page p → Fine (withBanks m b p)
-  banks-fine b p = record { oam = f .oam; page = p; background = f .background; sprites = f .sprites; joypad = f .joypad; lcd = f .lcd; hdma = f .hdma; clock = f .clock }
+  banks-fine b p = record { oam = f .oam; page = p; background = f .background; sprites = f .sprites; joypad = f .joypad; lcd = f .lcd; hdma = f .hdma; clock = f .clock; numbers = f .numbers }
 
   pub lcd-fine : {l : Lcd} {p : List ℕ} → LcdTyped l → Page p → Fine (withLcd m l p)
-  lcd-fine l p = record { oam = f .oam; page = p; background = f .background; sprites = f .sprites; joypad = f .joypad; lcd = l; hdma = f .hdma; clock = f .clock }
+  lcd-fine l p = record { oam = f .oam; page = p; background = f .background; sprites = f .sprites; joypad = f .joypad; lcd = l; hdma = f .hdma; clock = f .clock; numbers = omega (arith, f .numbers, l .line, l .signal, l .mode) }
 
   hdma-fine : {h : Hdma} {p : List ℕ} → InRange h → Page p → Fine (withHdma m h p)
-  hdma-fine h p = record { oam = f .oam; page = p; background = f .background; sprites = f .sprites; joypad = f .joypad; lcd = f .lcd; hdma = h; clock = f .clock }
+  hdma-fine h p = record { oam = f .oam; page = p; background = f .background; sprites = f .sprites; joypad = f .joypad; lcd = f .lcd; hdma = h; clock = f .clock; numbers = omega (arith, f .numbers, h) }
 
   pub joypad-fine : {c : Controller} {p : List ℕ} → joypad.Bytes c → Page p → Fine (withJoypad m c p)
-  joypad-fine c p = record { oam = f .oam; page = p; background = f .background; sprites = f .sprites; joypad = c; lcd = f .lcd; hdma = f .hdma; clock = f .clock }
+  joypad-fine c p = record { oam = f .oam; page = p; background = f .background; sprites = f .sprites; joypad = c; lcd = f .lcd; hdma = f .hdma; clock = f .clock; numbers = omega (arith, f .numbers, c) }
 
   pub clock-fine : {c : Clock} {p : List ℕ} → (c .div < 256) × (c .tima < 1024) → Page p → Fine (withClock m c p)
-  clock-fine c p = record { oam = f .oam; page = p; background = f .background; sprites = f .sprites; joypad = f .joypad; lcd = f .lcd; hdma = f .hdma; clock = c }
+  clock-fine c p = record { oam = f .oam; page = p; background = f .background; sprites = f .sprites; joypad = f .joypad; lcd = f .lcd; hdma = f .hdma; clock = c; numbers = omega (arith, f .numbers, c) }
 
   pub mapper-fine : (x : Mapper) → Fine (withMapper m x)
-  mapper-fine x = record { oam = f .oam; page = f .page; background = f .background; sprites = f .sprites; joypad = f .joypad; lcd = f .lcd; hdma = f .hdma; clock = f .clock }
+  mapper-fine x = record { oam = f .oam; page = f .page; background = f .background; sprites = f .sprites; joypad = f .joypad; lcd = f .lcd; hdma = f .hdma; clock = f .clock; numbers = f .numbers }
 
   pub used-fine : (u : ℕ) → Fine (withUsed m u)
-  used-fine u = record { oam = f .oam; page = f .page; background = f .background; sprites = f .sprites; joypad = f .joypad; lcd = f .lcd; hdma = f .hdma; clock = f .clock }
+  used-fine u = record { oam = f .oam; page = f .page; background = f .background; sprites = f .sprites; joypad = f .joypad; lcd = f .lcd; hdma = f .hdma; clock = f .clock; numbers = f .numbers }
 
   pub stored-fine : (at : ℕ) {v : ℕ} → v < 256 → Fine (stored m at v)
   stored-fine at v = page-fine (page-set at (f .page) v)

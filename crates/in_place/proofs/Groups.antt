@@ -6,6 +6,7 @@ use Prim.Native.Nat.{ℕ, _<_}
 use native.Mathlib.Omega.{arith}
 use lib.ListN.{getD, set}
 use Rattle.image.specs.Layout.{imageOf}
+use Rattle.image.proofs.PatchLaws.{joypad-bytes}
 use Rattle.image.specs.Load.{lcdOf, clockOf}
 use Rattle.image.specs.Patches.{fields, put, lcdFields, joypadFields, clockPut}
 use Rattle.joypad.proofs.Bytes.{update-bytes}
@@ -63,7 +64,7 @@ module _ (i : List ℕ) (h : Held i) where
       let m = state i h in
       let p : r ≡ polled (m .core .joypad) (loaded m 0x00) (loaded m 0x0F) = rw (b, a, byte i h 0x00 (omega arith), byte i h 0x0F (omega arith)) in
       let t = held i h .typed in
-      let u = update-bytes (m .core .joypad) (loaded m 0x00) (loaded m 0x0F) (t .released, t .state) (t .page .1 0x0F) in
+      let u = update-bytes (m .core .joypad) (loaded m 0x00) (loaded m 0x0F) (joypad-bytes t) (t .page .1 0x0F) in
       rw p at c ∙ put-joypad (put-byte (held i h) 0x0F _ (omega arith) (u .1)) _ (u .0) .same
 
   -- the screen

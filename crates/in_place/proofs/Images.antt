@@ -6,10 +6,10 @@ use mathlib.Core.Path.{_≡_, refl, sym, ap, _∙_}
 use Prim.Native.Nat.{ℕ, _+_, _<_, _≤_}
 use native.Mathlib.Omega.{arith}
 use lib.ListN.{length, getD, set}
-use Rattle.image.proofs.GroupPatches.{LcdTyped, joypad-typed, joypad-storable, joypad-image, lcd-typed, lcd-storable, lcd-image, loaded-core}
+use Rattle.image.proofs.GroupPatches.{LcdTyped, hdma-typed, joypad-typed, joypad-storable, joypad-image, lcd-typed, lcd-storable, lcd-image, loaded-core}
 use Rattle.image.proofs.LoadedPatches.{loaded-typed, loaded-storable}
 use Rattle.image.proofs.OpenLaws.{load-length, load-image, load-page}
-use Rattle.image.proofs.PatchLaws.{page-image, clock-image, typed-with, typed-bytes, storable-bytes, bytes-set, image-put}
+use Rattle.image.proofs.PatchLaws.{joypad-bytes, page-image, clock-image, typed-with, typed-bytes, storable-bytes, bytes-set, image-put}
 use Rattle.image.specs.Laws.{Typed}
 use Rattle.image.specs.Layout.{imageLen, imageOf, fieldValues}
 use Rattle.image.specs.Load.{storable, coreFrom, loadCall}
@@ -46,27 +46,6 @@ pub record ImageOf (i : List ℕ) (m : Memory) : Type 0 where
   pub same : i ≡ imageOf m
   pub typed : Typed m
   pub storable : storable m ≡ true
-
-hdma-typed : (m : Memory) → Typed m → (x : Hdma) → (x .source < 65536) × (x .destination < 65536) → Typed (withHdma m x (m .page))
-hdma-typed m t x b =
-    record {
-      oam = t .oam;
-      page = t .page;
-      background = t .background;
-      sprites = t .sprites;
-      released = t .released;
-      state = t .state;
-      line = t .line;
-      signal = t .signal;
-      mode = t .mode;
-      delay = t .delay;
-      counter = t .counter;
-      aux = t .aux;
-      window = t .window;
-      div = t .div;
-      source = b .0;
-      destination = b .1;
-    }
 
 -- what a write that keeps the ranges leaves is in range
 pub kept-storable : {m n : Memory} → Kept m n → storable m ≡ true → storable n ≡ true
@@ -115,7 +94,7 @@ module _ {i : List ℕ} {m : Memory} (e : ImageOf i m) where
         same = ap (λ (l : List ℕ). clockPut l c) (e .same) ∙ clock-image m (e .typed) (e .storable) c hd k;
         typed =
             typed-with m (e .typed) (m .oam) (m .page) (m .core .joypad) c (m .core .mapper) (m .core .used) (e .typed .oam) (e .typed .page)
-            (e .typed .released) (e .typed .state) hd;
+            (joypad-bytes (e .typed) .0) (joypad-bytes (e .typed) .1) hd;
         storable = k;
       }
 
@@ -151,7 +130,7 @@ module _ {i : List ℕ} {m : Memory} (e : ImageOf i m) where
       → ImageOf (put (hdmaFields x) i) (withHdma m x (m .page))
   put-hdma x b h =
       let n = withHdma m x (m .page) in
-      let t = hdma-typed m (e .typed) x b in
+      let t = hdma-typed m (e .typed) x (m .page) (b .0) (b .1) (e .typed .page) in
       put-core (hdmaFields x) (omega (arith, fields-fit n t h)) (n .core) refl t h
 
 -- A register of a colour machine alone, by what the test found

@@ -12,6 +12,7 @@ use Rattle.mbc.specs.declared.cartridge.Cartridge.{Cartridge}
 use Rattle.mbc.specs.declared.mbc.Mapper.{Mapper}
 use Rattle.mbc.specs.declared.mbc.Mapper.the-variants.{RomOnly}
 use Rattle.palette.specs.declared.Color.{Color}
+use Rattle.memory.specs.World.{coreOf}
 use Rattle.memory.specs.declared.Memory.{Memory}
 
 unfoldable pub monochromePage : List ℕ
@@ -81,16 +82,9 @@ zeroed =
       page = replicate 256 0;
       background = replicate 32 black;
       sprites = replicate 32 black;
-      core = record {
-        banks = record { colour = false; vram = 0; wram = 0 };
-        lcd = lcdAt 0 0;
-        hdma = offHdma;
-        joypad = record { released = 0; action = false; direction = false; state = 0 };
-        clock = record { div = 0; tima = 0 };
-        cartridge = record { banks = 0; code = 0 };
-        mapper = RomOnly;
-        used = 0;
-      };
+      core =
+          coreOf (record { colour = false; vram = 0; wram = 0 }) (lcdAt 0 0) offHdma (record { released = 0; action = false; direction = false; state = 0 })
+          (record { banks = 0; code = 0 }) RomOnly;
     }
 
 -- a fresh bus: scan line 144, LCD mode 1, WRAM bank 1, log use 0
@@ -101,14 +95,5 @@ started cartridge mapper colour =
       page = startPage colour;
       background = replicate 32 black;
       sprites = replicate 32 black;
-      core = record {
-        banks = record { colour = colour; vram = 0; wram = 1 };
-        lcd = lcdAt 144 1;
-        hdma = startHdma colour (startPage colour);
-        joypad = joypad.fresh;
-        clock = record { div = 0; tima = 0 };
-        cartridge = cartridge;
-        mapper = mapper;
-        used = 0;
-      };
+      core = coreOf (record { colour = colour; vram = 0; wram = 1 }) (lcdAt 144 1) (startHdma colour (startPage colour)) joypad.fresh cartridge mapper;
     }

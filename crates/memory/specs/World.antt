@@ -5,6 +5,7 @@ use Prim.Native.Nat.{ℕ}
 use Rattle.hdma.specs.declared.Hdma.{Hdma}
 use Rattle.joypad.specs.declared.Controller.{Controller}
 use Rattle.lcd.specs.declared.Lcd.{Lcd}
+use Rattle.mbc.specs.declared.cartridge.Cartridge.{Cartridge}
 use Rattle.mbc.specs.declared.mbc.Mapper.{Mapper}
 use Rattle.palette.specs.declared.Color.{Color}
 use Rattle.memory.specs.declared.Banks.{Banks}
@@ -47,6 +48,10 @@ withSprites m x p = record { oam = m .oam; page = p; background = m .background;
 
 abbrev pub withCore : Memory → Core → Memory
 withCore m x = record { oam = m .oam; page = m .page; background = m .background; sprites = m .sprites; core = x }
+
+-- these groups, and all else 0: how a state starts
+abbrev pub coreOf : Banks → Lcd → Hdma → Controller → Cartridge → Mapper → Core
+coreOf b l h j c m = record { banks = b; lcd = l; hdma = h; joypad = j; clock = record { div = 0; tima = 0 }; cartridge = c; mapper = m; used = 0 }
 
 -- with a page beside it
 abbrev pub withBoth : Memory → Core → List ℕ → Memory

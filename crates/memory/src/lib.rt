@@ -5,7 +5,7 @@ ghost use mathlib.Core.Path.{_≡_};
 ghost use Prim.Native.Nat.{_<_};
 ghost use Rattle.memory.specs.Ranges.{banksInRange, hdmaInRange, groupsInRange, palettesInRange, inRange, coreInRange, vramLen, wramLen};
 ghost use Rattle.memory.specs.Start.{zeroed, startHdma, started};
-ghost use Rattle.memory.specs.World.{mapperIn, withMapper, withUsed};
+ghost use Rattle.memory.specs.World.{coreOf, mapperIn, withMapper, withUsed};
 
 mod region;
 mod start;
@@ -201,6 +201,29 @@ pub fn in_range(memory: Memory, limit: usize) -> bool
     palettes_in_range(memory)
 }
 
+// These groups, and all else 0.
+fn core_of(
+    banks: Banks,
+    lcd: Lcd,
+    hdma: Hdma,
+    joypad: Controller,
+    cartridge: Cartridge,
+    mapper: Mapper,
+) -> Core
+    ensures { λ r. ⌜ r ≡ coreOf banks lcd hdma joypad cartridge mapper ⌝ }
+{
+    Core {
+        banks: banks,
+        lcd: lcd,
+        hdma: hdma,
+        joypad: joypad,
+        clock: Clock { div: 0, tima: 0 },
+        cartridge: cartridge,
+        mapper: mapper,
+        used: 0,
+    }
+}
+
 // The state that a refused fresh start gives. It is out of range: it has no WRAM bank.
 pub fn zero() -> Memory
     ensures { λ r. ⌜ r ≡ zeroed ⌝ }
@@ -215,29 +238,27 @@ pub fn zero() -> Memory
         page: [0; 256],
         background: [black; 32],
         sprites: [black; 32],
-        core: Core {
-            banks: Banks {
+        core: core_of(
+            Banks {
                 colour: false,
                 vram: 0,
                 wram: 0,
             },
-            lcd: lcd::host(false, 0, 0, 0, 0, 0, 0, 0),
-            hdma: Hdma {
+            lcd::host(false, 0, 0, 0, 0, 0, 0, 0),
+            Hdma {
                 on: false,
                 source: 0,
                 destination: 0,
             },
-            joypad: Controller {
+            Controller {
                 released: 0,
                 action: false,
                 direction: false,
                 state: 0,
             },
-            clock: Clock { div: 0, tima: 0 },
-            cartridge: Cartridge { banks: 0, code: 0 },
-            mapper: Mapper::RomOnly,
-            used: 0,
-        },
+            Cartridge { banks: 0, code: 0 },
+            Mapper::RomOnly,
+        ),
     }
 }
 
@@ -271,19 +292,17 @@ pub fn new(cartridge: Cartridge, mapper: Mapper, colour: bool) -> Memory
         page: page,
         background: [black; 32],
         sprites: [black; 32],
-        core: Core {
-            banks: Banks {
+        core: core_of(
+            Banks {
                 colour: colour,
                 vram: 0,
                 wram: 1,
             },
-            lcd: lcd::host(false, 144, 0, 1, 0, 0, 0, 0),
-            hdma: hdma,
-            joypad: Controller::new(),
-            clock: Clock { div: 0, tima: 0 },
-            cartridge: cartridge,
-            mapper: mapper,
-            used: 0,
-        },
+            lcd::host(false, 144, 0, 1, 0, 0, 0, 0),
+            hdma,
+            Controller::new(),
+            cartridge,
+            mapper,
+        ),
     }
 }

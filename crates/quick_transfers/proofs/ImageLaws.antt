@@ -11,9 +11,10 @@ use Rattle.hdma.specs.Hdma.{risen, stepped, blockEnded, generalEnded}
 use Rattle.hdma.specs.declared.Ended.{Ended}
 use Rattle.hdma.specs.declared.Hdma.{Hdma}
 use Rattle.hdma.specs.declared.Written.{Written}
-use Rattle.image.proofs.PatchLaws.{Bytes, image-put, oam-image, page-image, typed-bytes, storable-bytes, bytes-set}
+use Rattle.image.proofs.GroupPatches.{hdma-typed}
+use Rattle.image.proofs.PatchLaws.{image-put, oam-image, page-image, typed-bytes, storable-bytes, bytes-set}
 use Rattle.image.specs.Laws.{Typed}
-use Rattle.image.specs.Layout.{bit, imageOf}
+use Rattle.image.specs.Layout.{imageLen, bit, imageOf}
 use Rattle.image.specs.Load.{storable}
 use Rattle.image.specs.Patches.{put, Fits, hdmaFields}
 use Rattle.memory.specs.World.{withOam, withHdma, withCore, hdmaIn}
@@ -29,7 +30,7 @@ pub record OamPasted (m : Memory) (s : List ℕ) (n : ℕ) : Type 0 where
   pub typed : Typed (withOam m (paste (m .oam) 0 s n))
   pub image : imageOf (withOam m (paste (m .oam) 0 s n)) ≡ paste (imageOf m) 0 s n
 
-module _ (m : Memory) (t : Typed m) (h : storable m ≡ true) (z : length (imageOf m) ≡ 665) (s : List ℕ) (b : (k : ℕ) → k < length s → getD s k 0 < 256) where
+module _ (m : Memory) (t : Typed m) (h : storable m ≡ true) (z : length (imageOf m) ≡ imageLen) (s : List ℕ) (b : (k : ℕ) → k < length s → getD s k 0 < 256) where
   pub oam-pasted : (n : ℕ) → n ≤ 256 → n ≤ length s → OamPasted m s n
   oam-pasted zero a l =
       record {
@@ -144,27 +145,6 @@ ended-image m t h e f =
     ∙ hdma-image m₅ t₅ h₅ (e .hdma) (f .source) (f .destination)
 
 -- FF55 as its write leaves it
-
-pub hdma-typed : (m : Memory) → Typed m → (x : Hdma) (p : List ℕ) → x .source < 65536 → x .destination < 65536 → Bytes p → Typed (withHdma m x p)
-hdma-typed m t x p a b h =
-    record {
-      oam = t .oam;
-      page = h;
-      background = t .background;
-      sprites = t .sprites;
-      released = t .released;
-      state = t .state;
-      line = t .line;
-      signal = t .signal;
-      mode = t .mode;
-      delay = t .delay;
-      counter = t .counter;
-      aux = t .aux;
-      window = t .window;
-      div = t .div;
-      source = a;
-      destination = b;
-    }
 
 module _ (m : Memory) (t : Typed m) (h : storable m ≡ true) (a : Written) (f : a .hdma .source < 65536) (g : a .hdma .destination < 65536) (b : a .byte < 256) where
   pub written-image : writtenPut (imageOf m) a ≡ imageOf (transferPut m 0x55 a)

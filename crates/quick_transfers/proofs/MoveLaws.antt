@@ -16,7 +16,7 @@ use Rattle.hdma.specs.declared.Hdma.{Hdma}
 use Rattle.image.proofs.LoadedPatches.{loaded-typed, loaded-storable}
 use Rattle.image.proofs.OpenLaws.{load-length, load-image, load-page}
 use Rattle.image.specs.Laws.{Typed}
-use Rattle.image.specs.Layout.{imageOf}
+use Rattle.image.specs.Layout.{imageLen, imageOf}
 use Rattle.image.specs.Load.{storable, loadCall}
 use Rattle.memory.specs.World.{World, world, Fixed}
 use Rattle.memory.specs.declared.Core.{Core}
@@ -105,7 +105,7 @@ module _ {x : Fixed} {i : List ℕ} {c : Core} {v w s : List ℕ} (t : Lent x i 
       let r : Read x i v w s (page * 256) out = subst (λ (p : ℕ). Read x i v w s p out) z f in
       let d = copy-oam x (worldOf i v w s l) (page * 256) out 1 160 (omega arith) (lent-typed .oam .0) (omega arith) (omega arith)
       (from-read (page * 256) out 160 a (omega arith) r l) in
-      let y : length (imageOf state) ≡ 665 = ap length lent-image ∙ load-length i (t .number) in
+      let y : length (imageOf state) ≡ imageLen = ap length lent-image ∙ load-length i (t .number) in
       let p = oam-pasted state lent-typed lent-storable y out (pasted-below i out g b) 160 (omega arith) (omega arith) in
       let u : j ≡ paste (imageOf state) 0 out 160 =
       g ∙ ap (λ (n : ℕ). paste i 0 out n) a ∙ ap (λ (n : List ℕ). paste n 0 out 160) (sym lent-image) in

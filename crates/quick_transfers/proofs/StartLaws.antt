@@ -11,6 +11,7 @@ use Rattle.hdma.specs.declared.Hdma.{Hdma}
 use Rattle.hdma.specs.declared.Start.{Start}
 use Rattle.hdma.specs.declared.Start.the-variants as start
 use Rattle.hdma.specs.declared.Written.{Written}
+use Rattle.image.proofs.PatchLaws.{hdma-words}
 use Rattle.image.proofs.Round.{state-back}
 use Rattle.image.specs.Laws.{Typed}
 use Rattle.image.specs.Layout.{imageOf}
@@ -140,10 +141,10 @@ module _ {x : Fixed} {i : List ℕ} {c : Core} {v w s : List ℕ} (t : Lent x i 
     k' = subst (λ (d : Core). Kept (d .banks .colour) (d .hdma) a) (t .core) k
 
     below-source : a .hdma .source < 65536
-    below-source = rw (k' .source) (lent-typed t .source)
+    below-source = rw (k' .source) (hdma-words (lent-typed t) .0)
 
     below-destination : a .hdma .destination < 65536
-    below-destination = rw (k' .destination) (lent-typed t .destination)
+    below-destination = rw (k' .destination) (hdma-words (lent-typed t) .1)
 
     written-next : {j : List ℕ} → j ≡ writtenPut i a → Next x (transferPut m₀ 0x55 a) v w s j
     written-next e =

@@ -18,18 +18,11 @@ returns c =
       page = (search needs, λ i. p i .fits);
       background = simp length-map at (c .good .0 .1 .1 .1 .1 .0 .1 .0 .1);
       sprites = simp length-map at (c .good .0 .1 .1 .1 .1 .1 .0 .1 .0 .1);
-      released = omega arith;
-      state = omega arith;
-      line = omega arith;
-      signal = omega arith;
-      mode = omega arith;
+      numbers = omega arith;
       delay = search needs;
       counter = search needs;
       aux = search needs;
       window = record { sfits = omega (arith, c .good .0 .1 .1 .1 .1 .1 .1 .0 .1 .1 .1 .0 .1 .1 .1 .1 .1 .1 .1 .1 .1 .0 .1) };
-      div = omega arith;
-      source = omega arith;
-      destination = omega arith;
     }
 
 pub typed-spec : {M : Type 1} → statement M

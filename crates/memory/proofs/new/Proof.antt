@@ -16,10 +16,20 @@ host-requires c κs = search needs
 new-requires : tie.Need-new-requires
 new-requires c κs = search needs
 
+core-of-requires : tie.Need-core-of-requires
+core-of-requires c κs = search needs
+
 returns : tie.Need-returns
 unfolding started
-returns c = rw (c .new .ensures, c .before .host .ensures, c .before .before .start-hdma .ensures, c .before .before .before .start-page .ensures)
+returns c = rw (c .core-of .ensures, c .before .new .ensures, c .before .before .host .ensures, c .before .before .before .start-hdma .ensures, c .before .before .before .before .start-page .ensures)
 
 pub new-spec : {M : Type 1} → statement M
 new-spec =
-    tie.close (tie.spec start-page-requires start-hdma-requires host-requires new-requires returns)
+    tie.close
+    (tie.spec
+    start-page-requires
+    start-hdma-requires
+    host-requires
+    new-requires
+    core-of-requires
+    returns)

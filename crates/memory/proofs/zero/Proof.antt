@@ -7,9 +7,12 @@ use Rattle.memory.proofs.zero.Tie as tie
 host-requires : tie.Need-host-requires
 host-requires c κs = search needs
 
+core-of-requires : tie.Need-core-of-requires
+core-of-requires c κs = search needs
+
 returns : tie.Need-returns
 unfolding zeroed
-returns c = rw (c .host .ensures)
+returns c = rw (c .core-of .ensures, c .before .host .ensures)
 
 pub zero-spec : {M : Type 1} → statement M
-zero-spec = tie.close (tie.spec host-requires returns)
+zero-spec = tie.close (tie.spec host-requires core-of-requires returns)

@@ -1,5 +1,4 @@
 -- The groups, one by one.
-use Rattle.image.proofs.FieldLaws.{core-same}
 use borrow.Author.Needs.{needs}
 use Rattle.image.proofs.fields.core_at.Statement.{statement}
 use Rattle.image.proofs.fields.core_at.Tie as tie
@@ -29,7 +28,7 @@ used-at-requires : tie.Need-used-at-requires
 used-at-requires c κs = search needs
 
 returns : tie.Need-returns
-returns c = core-same (c .before .before .before .before .before .before .before .banks-at .ensures) (c .before .before .before .before .before .before .lcd-at .ensures) (c .before .before .before .before .before .hdma-at .ensures) (c .before .before .before .before .joypad-at .ensures) (c .before .before .before .clock-at .ensures) (c .before .before .cartridge-at .ensures) (c .before .mapper-at .ensures) (c .used-at .ensures)
+returns c = cc
 
 pub core-at-spec : {M : Type 1} → statement M
 core-at-spec =

@@ -1,4 +1,5 @@
 -- The groups, one after the other.
+use Rattle.image.specs.Layout.{zerosField}
 use Rattle.image.specs.Patches.{put, banksFields, lcdFields, hdmaFields, joypadFields, clockFields, cartridgeFields, mappingFields, mappingPut, clockPut}
 use Prim.Native.Nat.{ℕ}
 use mathlib.Core.List.{List, [], _∷_}
@@ -40,7 +41,7 @@ unfolding mappingPut clockPut
 returns c =
     let k = c .before .before .before .before .before .before .before .before .before .before .before .before .before .before .before .before .before .before .before .before .before .before .before .before .before .before .before .before .before .before .before .before .before .before .before .before .before .before .before .args .core in
     c .before .before .put-u8 .ensures
-    ∙ ap (put ((29, 0) ∷ []))
+    ∙ ap (put ((zerosField, 0) ∷ []))
     (c .before .before .before .before .before .before .put-mapping .ensures
     ∙ ap (put (mappingFields (k .mapper) (k .used)))
     (c .before .before .before .before .before .before .before .before .before .before .put-cartridge .ensures
