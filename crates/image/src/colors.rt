@@ -1,4 +1,5 @@
-// The colours: 32 of them as 96 channels, red, green, blue.
+// The colours: 32 of them as 96 channels, red, green, blue; and one of the 64 at its place.
+use crate::layout;
 use palette::Color;
 ghost use mathlib.Core.Path.{_≡_};
 ghost use mathlib.Core.Bool.{true};
@@ -60,4 +61,27 @@ pub fn colors_at(bytes: &[u8]) -> [Color; 32]
     ensures { λ r. ⌜ r ≡ colorsOf (repacked (eights 60) (fives 96) (now (bytes .entry))) ⌝ }
 {
     colors_of(packing::unpack_channels(bytes))
+}
+
+// Background colours from 0 on, sprite colours from 32 on.
+pub fn color_at(image: &[u8], k: usize) -> Color
+    requires { ⌜ (length (now image) ≡ imageLen) × (k < 64) ⌝ }
+    ensures { λ r. ⌜ r ≡ colorIn (now (image .entry)) k ⌝ }
+{
+    let bit = layout::COLORS_AT + k * 15;
+    Color {
+        red: places::u8_at(image, bit, 5),
+        green: places::u8_at(image, bit + 5, 5),
+        blue: places::u8_at(image, bit + 10, 5),
+    }
+}
+
+pub fn put_color(image: &mut [u8], k: usize, c: Color)
+    requires { ⌜ (length (now image) ≡ imageLen) × (k < 64) ⌝ }
+    ensures { λ _. ⌜ now (image .exit) ≡ colorPut (now (image .entry)) k c ⌝ }
+{
+    let bit = layout::COLORS_AT + k * 15;
+    places::put_u8(image, bit, 5, c.red);
+    places::put_u8(image, bit + 5, 5, c.green);
+    places::put_u8(image, bit + 10, 5, c.blue);
 }

@@ -4,6 +4,12 @@
 // The bytes of an image.
 pub const LENGTH: usize = 665;
 
+// The first colour, and the bits of one: red, green, blue. 32 for the background, then 32 for the sprites.
+
+pub const COLORS_AT: usize = 4096;
+
+pub const CHANNEL: usize = 5;
+
 // Before the mapper.
 
 pub const COLOUR_AT: usize = 5056;
