@@ -4,11 +4,13 @@
 // The bytes of an image.
 pub const LENGTH: usize = 665;
 
-// The first colour, and the bits of one: red, green, blue. 32 for the background, then 32 for the sprites.
+// Red, green and blue of 32 background colours, then of 32 sprite colours.
 
 pub const COLORS_AT: usize = 4096;
 
 pub const CHANNEL: usize = 5;
+
+pub const COLOR: usize = 3 * CHANNEL;
 
 // Before the mapper.
 
