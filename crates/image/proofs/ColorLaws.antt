@@ -70,7 +70,7 @@ channels-colors (suc k) (a ∷ b ∷ []) h = absurd (omega arith)
 channels-colors (suc k) (a ∷ b ∷ c ∷ l) h = ap (λ (r : List ℕ). a ∷ b ∷ c ∷ r) (channels-colors k l (omega arith))
 
 -- channels in range
-three : (c : Color) → inRange c ≡ true → (c .red < 32) × ((c .green < 32) × (c .blue < 32))
+pub three : (c : Color) → inRange c ≡ true → (c .red < 32) × ((c .green < 32) × (c .blue < 32))
 unfolding inRange
 three c h =
     let s = both-true (ltb (c .red) 32 && ltb (c .green) 32) (ltb (c .blue) 32) h in

@@ -8,3 +8,4 @@ pub mod OpenLaws
 pub mod PatchLaws
 pub mod LoadedPatches
 pub mod GroupPatches
+pub mod ColorPatches

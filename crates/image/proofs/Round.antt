@@ -86,11 +86,11 @@ module _ (m : Memory) (t : Typed m) (h : storable m ≡ true) where
       let b : length (channels (m .sprites)) ≡ 96 = channels-length (m .sprites) ∙ rw a in
       length-append (channels (m .background)) (channels (m .sprites)) ∙ rw (background-long, b)
 
-  bytes-of-values : bytesIn (values m) ≡ m .oam ++ m .page
+  pub bytes-of-values : bytesIn (values m) ≡ m .oam ++ m .page
   unfolding values
   bytes-of-values = take-at (m .oam ++ m .page) _ 512 bytes-long
 
-  rest-of-values : drop 512 (values m) ≡ (channels (m .background) ++ channels (m .sprites)) ++ fieldValues (m .core)
+  pub rest-of-values : drop 512 (values m) ≡ (channels (m .background) ++ channels (m .sprites)) ++ fieldValues (m .core)
   unfolding values
   rest-of-values = drop-at (m .oam ++ m .page) _ 512 bytes-long
 

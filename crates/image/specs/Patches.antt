@@ -2,10 +2,11 @@
 -- read are those of specs/Load.antt, proofs/PatchLaws.antt that an image with fields put is `imageOf` of the changed state.
 use mathlib.Core.Bool.{Bool, _&&_}
 use mathlib.Core.List.{List, _++_}
-use Prim.Native.Nat.{ℕ}
+use Prim.Native.Nat.{ℕ, _+_, _*_}
 use lib.Dec.{eqb}
 use Rattle.packing.specs.Packing.{repacked, eights, fives}
-use Rattle.places.specs.Places.{fieldsFrom, putFields, FitAll}
+use Rattle.places.specs.Places.{fieldAt, putAt, fieldsFrom, putFields, FitAll}
+use Rattle.palette.specs.declared.Color.{Color}
 use Rattle.mbc.specs.Mbc as mbc
 use Rattle.mbc.specs.Mbc.{registersOf}
 use Rattle.mbc.specs.declared.mbc.Mapper.{Mapper}
@@ -29,6 +30,19 @@ front = 5056
 
 abbrev pub fields : List ℕ → List ℕ
 fields l = fieldsFrom l front fieldWidths
+
+-- A colour at its place: 32 of the background, then 32 of the sprites
+
+abbrev pub colorPlace : ℕ → ℕ
+colorPlace k = 4096 + k * 15
+
+abbrev pub colorIn : List ℕ → ℕ → Color
+colorIn l k =
+    record { red = fieldAt l (colorPlace k) 5; green = fieldAt l (colorPlace k + 5) 5; blue = fieldAt l (colorPlace k + 10) 5 }
+
+unfoldable pub colorPut : List ℕ → ℕ → Color → List ℕ
+colorPut l k c =
+    putAt (putAt (putAt l (colorPlace k) 5 (c .red)) (colorPlace k + 5) 5 (c .green)) (colorPlace k + 10) 5 (c .blue)
 
 -- What a load asks of them, in the code's order (proofs/LoadLaws.antt, `load-fits`): those before the mapper, and those from it on
 

@@ -1,12 +1,15 @@
-// The colours: 32 of them as 96 channels, red, green, blue.
+// The colours: 32 of them as 96 channels, red, green, blue; and one of the 64 at its place.
+use crate::layout;
 use palette::Color;
 ghost use mathlib.Core.Path.{_≡_};
 ghost use mathlib.Core.Bool.{true};
+ghost use Prim.Native.Nat.{_<_};
 ghost use lib.ListN.{length};
 ghost use Rattle.packing.specs.Packing.{repacked, eights, fives};
-ghost use Rattle.palette.specs.Palette.{colorsInRange};
-ghost use Rattle.image.specs.Layout.{channels};
+ghost use Rattle.palette.specs.Palette.{inRange, colorsInRange};
+ghost use Rattle.image.specs.Layout.{imageLen, channels};
 ghost use Rattle.image.specs.Load.{colorsOf};
+ghost use Rattle.image.specs.Patches.{colorIn, colorPut};
 
 pub fn channels_of(colors: [Color; 32]) -> [u8; 96]
     ensures { λ r. ⌜ r ≡ channels colors ⌝ }
@@ -60,4 +63,32 @@ pub fn colors_at(bytes: &[u8]) -> [Color; 32]
     ensures { λ r. ⌜ r ≡ colorsOf (repacked (eights 60) (fives 96) (now (bytes .entry))) ⌝ }
 {
     colors_of(packing::unpack_channels(bytes))
+}
+
+// Background colours from 0 on, sprite colours from 32 on.
+pub fn color_at(image: &[u8], k: usize) -> Color
+    requires { ⌜ (length (now image) ≡ imageLen) × (k < 64) ⌝ }
+    ensures { λ r. ⌜ r ≡ colorIn (now (image .entry)) k ⌝ }
+{
+    let bit = layout::COLORS_AT + k * layout::COLOR;
+    Color {
+        red: places::u8_at(image, bit, layout::CHANNEL),
+        green: places::u8_at(image, bit + layout::CHANNEL, layout::CHANNEL),
+        blue: places::u8_at(image, bit + 2 * layout::CHANNEL, layout::CHANNEL),
+    }
+}
+
+pub fn put_color(image: &mut [u8], k: usize, c: Color)
+    requires { ⌜ (length (now image) ≡ imageLen) × ((k < 64) × (inRange c ≡ true)) ⌝ }
+    ensures { λ _. ⌜ now (image .exit) ≡ colorPut (now (image .entry)) k c ⌝ }
+{
+    let bit = layout::COLORS_AT + k * layout::COLOR;
+    places::put_u8(image, bit, layout::CHANNEL, c.red);
+    places::put_u8(image, bit + layout::CHANNEL, layout::CHANNEL, c.green);
+    places::put_u8(
+        image,
+        bit + 2 * layout::CHANNEL,
+        layout::CHANNEL,
+        c.blue,
+    );
 }

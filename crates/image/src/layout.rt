@@ -4,6 +4,14 @@
 // The bytes of an image.
 pub const LENGTH: usize = 665;
 
+// Red, green and blue of 32 background colours, then of 32 sprite colours.
+
+pub const COLORS_AT: usize = 4096;
+
+pub const CHANNEL: usize = 5;
+
+pub const COLOR: usize = 3 * CHANNEL;
+
 // Before the mapper.
 
 pub const COLOUR_AT: usize = 5056;

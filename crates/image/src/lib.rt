@@ -15,6 +15,8 @@ mod fields;
 mod layout;
 
 pub use colors::channels_of;
+pub use colors::color_at;
+pub use colors::put_color;
 pub use fields::banks_at;
 pub use fields::cartridge_at;
 pub use fields::clock_at;

@@ -10,6 +10,7 @@ ghost use Rattle.in_place.specs.Held.{Held};
 pub mod colour;
 pub mod interrupts;
 pub mod page;
+pub mod palettes;
 pub mod screen;
 pub mod transfers;
 

@@ -1,5 +1,6 @@
 // The page dispatch on the image: what a byte write stores, by the same map of the registers.
 use crate::colour;
+use crate::palettes;
 use crate::screen;
 use crate::store;
 use crate::transfers;
@@ -41,10 +42,10 @@ pub fn write(image: &mut [u8], at: u8, value: u8)
         Register::DestinationHigh => transfers::write_destination_high(image, value),
         Register::DestinationLow => transfers::write_destination_low(image, value),
         Register::Start => write_whole(image, at, value),
-        Register::BackgroundIndex => write_whole(image, at, value),
-        Register::BackgroundData => write_whole(image, at, value),
-        Register::SpriteIndex => write_whole(image, at, value),
-        Register::SpriteData => write_whole(image, at, value),
+        Register::BackgroundIndex => palettes::write_background_index(image, value),
+        Register::BackgroundData => palettes::write_background_data(image, value),
+        Register::SpriteIndex => palettes::write_sprite_index(image, value),
+        Register::SpriteData => palettes::write_sprite_data(image, value),
         Register::WramBank => colour::write_wram_bank(image, value),
         Register::Byte => store(image, at, byte_as(at, value)),
     }

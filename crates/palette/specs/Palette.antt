@@ -5,9 +5,10 @@ use mathlib.Core.Bool.{Bool, true, cond, _&&_}
 use mathlib.Core.List.{List, [], _∷_}
 use Prim.Native.Nat.{ℕ, _+_}
 use lib.Dec.{ltb}
-use Rattle.palette.specs.PanDocs.{addressOf, moves, nextAddress, byteAt, putAt}
+use Rattle.palette.specs.PanDocs.{addressOf, moves, nextAddress, byteIn, putIn, byteAt, putAt}
 use Rattle.palette.specs.declared.Color.{Color}
 use Rattle.palette.specs.declared.Palette.{Palette}
+use Rattle.palette.specs.declared.Written.{Written}
 
 abbrev pub withIndex : Palette → ℕ → Palette
 withIndex p value = record { index = value; «data» = p .«data»; colors = p .colors }
@@ -41,6 +42,18 @@ setColorPalette p value = colored (moved p) (p .index) value
 -- FF69, FF6B
 abbrev pub writeData : Palette → ℕ → Palette
 writeData p value = setColorPalette (withData p value) value
+
+-- How the code goes: `writeData` by the two colours that it needs, those at the address and at the address after (proofs/Bytes.antt, `data-parts`)
+
+unfoldable pub nextIndex : ℕ → ℕ
+nextIndex index = cond (moves index) (128 + nextAddress index) index
+
+unfoldable pub shownAfter : ℕ → Color → ℕ → ℕ
+shownAfter index next value = cond (moves index) (byteIn next (addressOf (nextIndex index))) value
+
+abbrev pub dataWritten : ℕ → Color → Color → ℕ → Written
+dataWritten index c next value =
+    record { index = nextIndex index; «data» = shownAfter index next value; color = putIn c (addressOf index) value }
 
 -- document 01, "State ranges": colours 0..31
 unfoldable pub inRange : Color → Bool

@@ -43,17 +43,21 @@ withLow n byte = n / 256 * 256 + byte
 abbrev pub withHigh : ℕ → ℕ → ℕ
 withHigh n byte = byte % 128 * 256 + n % 256
 
+-- the byte at an address in a colour, and the colour once one is written there
+abbrev pub byteIn : Color → ℕ → ℕ
+byteIn c address = cond (isHigh address) (highByte (numberOf c)) (lowByte (numberOf c))
+
+abbrev pub putIn : Color → ℕ → ℕ → Color
+putIn c address byte = channels (cond (isHigh address) (withHigh (numberOf c) byte) (withLow (numberOf c) byte))
+
 -- the colour that an address is in
 abbrev pub colorAt : List Color → ℕ → Color
 colorAt colors address = getD colors (colorOf address) (channels 0)
 
 -- the byte at an address
 unfoldable pub byteAt : List Color → ℕ → ℕ
-byteAt colors address =
-    cond (isHigh address) (highByte (numberOf (colorAt colors address))) (lowByte (numberOf (colorAt colors address)))
+byteAt colors address = byteIn (colorAt colors address) address
 
 -- the colours once a byte is written at an address
 unfoldable pub putAt : List Color → ℕ → ℕ → List Color
-putAt colors address byte =
-    set colors (colorOf address)
-    (channels (cond (isHigh address) (withHigh (numberOf (colorAt colors address)) byte) (withLow (numberOf (colorAt colors address)) byte)))
+putAt colors address byte = set colors (colorOf address) (putIn (colorAt colors address) address byte)

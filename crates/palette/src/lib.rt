@@ -2,14 +2,13 @@
 // the background's (FF68, FF69) and the sprites' (FF6A, FF6B) work alike. Leans on bit_utils.
 ghost use mathlib.Core.Path.{_≡_};
 ghost use Prim.Native.Nat.{_<_};
-ghost use Rattle.palette.specs.PanDocs.{addressOf, colorOf, numberOf, lowByte, highByte, withLow, withHigh, channels};
+ghost use Rattle.palette.specs.PanDocs.{addressOf, colorOf, numberOf, lowByte, highByte, withLow, withHigh, channels, byteIn, putIn, moves};
 ghost use Rattle.palette.specs.Palette.{
-  updateColorPalette,
-  moved,
-  colored,
-  setColorPalette,
   writeIndex,
   writeData,
+  nextIndex,
+  shownAfter,
+  dataWritten,
   inRange,
   colorsInRange,
 };
@@ -28,8 +27,15 @@ pub struct Palette {
     pub colors: [Color; 32],
 }
 
+// What a write of data leaves of the registers, and of the colour at the address.
+pub struct Written {
+    pub index: u8,
+    pub data: u8,
+    pub color: Color,
+}
+
 // The colour that the index register's address is in.
-fn color_of(value: u8) -> usize
+pub fn color_of(value: u8) -> usize
     ensures { λ r. ⌜ (r ≡ colorOf (addressOf value)) × (r < 32) ⌝ }
 {
     let index = value / 2 % 4;
@@ -72,78 +78,94 @@ fn with_high(c: Color, value: u8) -> Color
     }
 }
 
-// The data register shows the byte at the address in `value`.
-pub fn update_color_palette(p: Palette, value: u8) -> Palette
-    ensures { λ r. ⌜ r ≡ updateColorPalette p value ⌝ }
+// The byte of a colour at the address in `value`.
+pub fn byte_of(c: Color, value: u8) -> u8
+    ensures { λ r. ⌜ r ≡ byteIn c (addressOf value) ⌝ }
+{
+    if bit_utils::within::is_set(value, 0) {
+        return high_byte(c);
+    }
+    low_byte(c)
+}
+
+// A colour once the byte at the address in `index` is written.
+fn with_byte(c: Color, index: u8, value: u8) -> Color
+    ensures { λ r. ⌜ r ≡ putIn c (addressOf index) value ⌝ }
+{
+    if bit_utils::within::is_set(index, 0) {
+        return with_high(c, value);
+    }
+    with_low(c, value)
+}
+
+// Whether a write of data moves the address up.
+fn moves(index: u8) -> bool
+    ensures { λ r. ⌜ r ≡ moves index ⌝ }
+{
+    bit_utils::within::is_set(index, 7)
+}
+
+// The index register after a write of data; where the address moves, bit 6 becomes 0.
+pub fn next_index(index: u8) -> u8
+    ensures { λ r. ⌜ r ≡ nextIndex index ⌝ }
+{
+    if moves(index) {
+        let address = (index % 64 + 1) % 64;
+        return index / 128 * 128 + address;
+    }
+    index
+}
+
+// What the data register shows after a write of data: where the address moved, the byte there.
+fn shown(index: u8, next: Color, value: u8) -> u8
+    ensures { λ r. ⌜ r ≡ shownAfter index next value ⌝ }
+{
+    if moves(index) {
+        return byte_of(next, next_index(index));
+    }
+    value
+}
+
+// A write of data on what it needs: the index register, the colour at its address, and the colour at the address after. That one is as it was: the address
+// moves before the colour is set.
+pub fn set_color_palette(index: u8, c: Color, next: Color, value: u8) -> Written
+    ensures { λ r. ⌜ r ≡ dataWritten index c next value ⌝ }
+{
+    let color = with_byte(c, index, value);
+    Written {
+        index: next_index(index),
+        data: shown(index, next, value),
+        color: color,
+    }
+}
+
+// FF68 and FF6A on a colour machine: the data register shows the byte at the address.
+pub fn write_index(p: Palette, value: u8) -> Palette
+    ensures { λ r. ⌜ r ≡ writeIndex p value ⌝ }
 {
     let at = color_of(value);
     let c = p.colors[at];
     let mut n = p;
-    if bit_utils::within::is_set(value, 0) {
-        n.data = high_byte(c);
-        return n;
-    }
-    n.data = low_byte(c);
-    n
-}
-
-// What a write of data does to the registers: with bit 7 of the index register the address moves up, and its byte is shown.
-fn move_up(p: Palette) -> Palette
-    ensures { λ r. ⌜ r ≡ moved p ⌝ }
-{
-    let ps = p.index;
-    if bit_utils::within::is_set(ps, 7) {
-        let address = (ps % 64 + 1) % 64;
-        let next = ps / 128 * 128 + address;
-        let mut n = p;
-        n.index = next;
-        return update_color_palette(n, next);
-    }
-    p
-}
-
-// The colour at the address in `ps` takes the byte `value`.
-fn put_color(p: Palette, ps: u8, value: u8) -> Palette
-    ensures { λ r. ⌜ r ≡ colored p ps value ⌝ }
-{
-    let at = color_of(ps);
-    let c = p.colors[at];
-    let mut n = p;
-    if bit_utils::within::is_set(ps, 0) {
-        let d = with_high(c, value);
-        n.colors[at] = d;
-        return n;
-    }
-    let d = with_low(c, value);
-    n.colors[at] = d;
-    n
-}
-
-// The address moves before the colour is set, so the byte shown is made from the colours as they were.
-pub fn set_color_palette(p: Palette, value: u8) -> Palette
-    ensures { λ r. ⌜ r ≡ setColorPalette p value ⌝ }
-{
-    let ps = p.index;
-    let n = move_up(p);
-    put_color(n, ps, value)
-}
-
-// FF68 and FF6A on a colour machine.
-pub fn write_index(p: Palette, value: u8) -> Palette
-    ensures { λ r. ⌜ r ≡ writeIndex p value ⌝ }
-{
-    let mut n = p;
     n.index = value;
-    update_color_palette(n, value)
+    n.data = byte_of(c, value);
+    n
 }
 
 // FF69 and FF6B on a colour machine.
 pub fn write_data(p: Palette, value: u8) -> Palette
     ensures { λ r. ⌜ r ≡ writeData p value ⌝ }
 {
+    let at = color_of(p.index);
+    let to = color_of(next_index(p.index));
+    let c = p.colors[at];
+    let next = p.colors[to];
+    let w = set_color_palette(p.index, c, next, value);
+    let color = w.color;
     let mut n = p;
-    n.data = value;
-    set_color_palette(n, value)
+    n.index = w.index;
+    n.data = w.data;
+    n.colors[at] = color;
+    n
 }
 
 // Whether every channel is below 32.
