@@ -4,7 +4,7 @@ use Prim.Native.Nat.{ℕ, _+_, _%_, _<_, _≤_}
 use Rattle.interrupt.specs.Flags.{requested}
 use Rattle.interrupt.specs.declared.Interrupt.the-variants as Interrupt
 use Rattle.timer.specs.PanDocs.{steps}
-use Rattle.timer.specs.Overflow.{cyclesLeft}
+use Rattle.timer.specs.Overflow.{leftOf}
 use Rattle.timer.specs.Timer.{clock, updated, updateCall}
 use Rattle.timer.specs.declared.Timer.{Timer}
 
@@ -33,10 +33,6 @@ pub record Ready (t : Timer) : Type 0 where
 -- a call keeps that
 abbrev pub StaysInRange : Type 0
 StaysInRange = (t : Timer) (c : ℕ) → Ready t → Ready (updateCall t c .timer)
-
--- the cycles left of a timer
-abbrev pub leftOf : Timer → ℕ
-leftOf t = cyclesLeft (t .tac) (t .tima) (t .«tima_cycles»)
 
 -- by fewer cycles TIMA rises and does not pass FF: the flags stay
 abbrev pub CalmBefore : Type 0
