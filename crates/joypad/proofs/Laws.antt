@@ -7,7 +7,8 @@ use lib.Dec.{eqb, leb, ltb}
 use Rattle.bit_utils.specs.Bits.{isSet}
 use Rattle.rules.proofs.Tests.{untrue}
 use Rattle.joypad.specs.PanDocs.{lineOf, isAction, selectsActions, selectsDirections, lowFour}
-use Rattle.joypad.specs.Joypad.{bitOf, actionsAnswer, directionsAnswer, padRead}
+use Rattle.joypad.specs.Joypad.{bitOf, actionsAnswer, directionsAnswer, withState, marked, polled, padRead}
+use Rattle.joypad.specs.declared.Controller.{Controller}
 use Rattle.joypad.specs.declared.buttons.Button.{Button}
 use Rattle.joypad.specs.declared.buttons.Button.the-variants.{Up, Down, Left, Right, A, B, Start, Select}
 
@@ -38,6 +39,20 @@ low-half Select = refl
 pub second-false : (a b : Bool) → b ≡ false → (a && b) ≡ false
 second-false true b e = e
 second-false false b e = refl
+
+-- an update where no mark waits brings the state up to date, and leaves the flags
+unmarked-by : (c : Controller) (control flags : ℕ) (a d : Bool) → c .action ≡ a → c .direction ≡ d → cond a true d ≡ false
+    → polled c control flags ≡ record { controller = withState c (c .released); flags = flags }
+unfolding polled
+unmarked-by c control flags true d e f g = untrue (sym g)
+unmarked-by c control flags false true e f g = untrue (sym g)
+unmarked-by c control flags false false e f g =
+    rw (second-false (actionsAnswer control) (c .action) e, second-false (directionsAnswer control) (c .direction) f)
+
+pub unmarked-polled : (c : Controller) (control flags : ℕ) → marked c ≡ false
+    → polled c control flags ≡ record { controller = withState c (c .released); flags = flags }
+unfolding marked
+unmarked-polled c control flags e = unmarked-by c control flags (c .action) (c .direction) refl refl e
 
 -- FF00's bits 5..4 are q, bit 4 is a and bit 5 is b: where one of the two is 0, q is 01 or 10
 module _ (q : ℕ) where

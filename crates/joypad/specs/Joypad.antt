@@ -1,5 +1,5 @@
 -- The buttons (document 01, "Timer and buttons", Joypad), each call whole. A call with a button over 7 is refused by 7 (number 7).
-use mathlib.Core.Bool.{Bool, false, cond, not, _&&_}
+use mathlib.Core.Bool.{Bool, true, false, cond, not, _&&_}
 use Prim.Native.Nat.{ℕ, _+_, _*_, _/_, _%_, _<_}
 use lib.Dec.{eqb}
 use Rattle.numbers.specs.Numbers.{done, outside}
@@ -79,6 +79,10 @@ polled c control flags =
     (cond (directionsAnswer control && c .direction)
     (requesting (record { released = c .released; action = c .action; direction = false; state = c .released }) flags)
     (record { controller = withState c (c .released); flags = flags }))
+
+-- a mark waits for an update
+unfoldable pub marked : Controller → Bool
+marked c = cond (c .action) true (c .direction)
 
 -- FF00: the upper four bits as stored, below them the directions where they answer, else the actions.
 -- Pan Docs differ where bits 5..4 are 11 (F) or 00 (both kinds), and in bits 7..6 (1)

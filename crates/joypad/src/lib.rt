@@ -5,7 +5,7 @@ ghost use mathlib.Core.Bool.{not};
 ghost use Prim.Native.Nat.{_%_};
 ghost use Rattle.bit_utils.specs.Bits.{isSet};
 ghost use Rattle.joypad.specs.PanDocs.{lowFour};
-ghost use Rattle.joypad.specs.Joypad.{fresh, pressCall, releaseCall, withState, polled, padRead, actionsAnswer, directionsAnswer};
+ghost use Rattle.joypad.specs.Joypad.{fresh, pressCall, releaseCall, withState, marked, polled, padRead, actionsAnswer, directionsAnswer};
 use interrupt::Interrupt;
 
 pub mod buttons;
@@ -107,6 +107,16 @@ impl Controller {
             direction: self.direction,
             state: state,
         }
+    }
+
+    // Whether a mark waits for an update.
+    pub fn is_marked(self) -> bool
+        ensures { λ r. ⌜ r ≡ marked self ⌝ }
+    {
+        if self.action {
+            return true;
+        }
+        self.direction
     }
 
     // One mark at most is taken, the action mark first.

@@ -1,3 +1,4 @@
 pub mod PanDocs
 pub mod Timer
+pub mod Overflow
 pub mod Promises

@@ -1,7 +1,10 @@
 -- What follows from the definitions: laws that callers lean on, and document 01's corners 2 and 3. `promises_hold` ties them to the check.
 use mathlib.Core.Path.{_≡_}
-use Prim.Native.Nat.{ℕ, _+_, _%_, _<_}
+use Prim.Native.Nat.{ℕ, _+_, _%_, _<_, _≤_}
+use Rattle.interrupt.specs.Flags.{requested}
+use Rattle.interrupt.specs.declared.Interrupt.the-variants as Interrupt
 use Rattle.timer.specs.PanDocs.{steps}
+use Rattle.timer.specs.Overflow.{leftOf}
 use Rattle.timer.specs.Timer.{clock, updated, updateCall}
 use Rattle.timer.specs.declared.Timer.{Timer}
 
@@ -30,6 +33,14 @@ pub record Ready (t : Timer) : Type 0 where
 -- a call keeps that
 abbrev pub StaysInRange : Type 0
 StaysInRange = (t : Timer) (c : ℕ) → Ready t → Ready (updateCall t c .timer)
+
+-- by fewer cycles TIMA rises and does not pass FF: the flags stay
+abbrev pub CalmBefore : Type 0
+CalmBefore = (t : Timer) (c : ℕ) → Ready t → c < leftOf t → (updated t c .flags ≡ t .flags) × (t .tima ≤ updated t c .tima)
+
+-- by that many or more, as a call takes, it requests Timer
+abbrev pub AskedFrom : Type 0
+AskedFrom = (t : Timer) (c : ℕ) → Ready t → leftOf t ≤ c → c ≤ 65536 → updated t c .flags ≡ requested (t .flags) Interrupt.Timer
 
 -- document 01, corner 2: a fresh monochrome bus; its page holds DIV D3, TAC F8 and E1 at FF0F
 abbrev pub fresh : Timer
@@ -64,6 +75,8 @@ pub record Promises : Type 0 where
   pub tma-tac-stay : TmaTacStay
   pub steps-compose : StepsCompose
   pub stays-in-range : StaysInRange
+  pub calm-before : CalmBefore
+  pub asked-from : AskedFrom
   pub corner-2 : Corner2
   pub corner-3 : Corner3
   pub steps-at-no-cycles : StepsAtNoCycles

@@ -1,9 +1,10 @@
 // The timer: DIV and TIMA after a number of cycles, as the Rust's timer.rs, on a record by value. Leans on interrupt for FF0F.
 // Each register goes step by step: one step of DIV in 256 cycles, one of TIMA in a period of TAC.
 ghost use mathlib.Core.Path.{_≡_};
-ghost use Prim.Native.Nat.{_+_, _%_, _<_, _≤_};
+ghost use Prim.Native.Nat.{_+_, _*_, _%_, _<_, _≤_};
 ghost use Rattle.timer.specs.PanDocs.{period, stepTima, steps};
-ghost use Rattle.timer.specs.Timer.{divided, counted, updateCall};
+ghost use Rattle.timer.specs.Timer.{dividedOf, divided, restAfter, counted, updateCall};
+ghost use Rattle.timer.specs.Overflow.{cyclesLeft};
 ghost use Rattle.timer.specs.Promises.{Promises};
 use interrupt::Interrupt;
 
@@ -25,6 +26,21 @@ pub struct Updated {
     pub number: u8,
     pub timer: Timer,
 }
+
+// DIV, and the cycles since its last step.
+pub struct Divided {
+    pub div: u8,
+    pub cycles: u8,
+}
+
+// What an update leaves of `tima_cycles` where no step of TIMA is due.
+pub enum Rest {
+    Still(u16),
+    Due,
+}
+
+// What `cycles_to_overflow` gives where TIMA does not count.
+pub const NEVER: u32 = 0xFFFF_FFFF;
 
 // Cycles for one step of TIMA, by TAC's bits 1..0.
 const PERIODS: [u16; 4] = [1024, 16, 64, 256];
@@ -78,16 +94,42 @@ fn step_tima_by(timer: Timer, count: u32) -> Timer
     next
 }
 
+pub fn count_div(div: u8, rest: u8, cycles: u32) -> Divided
+    requires { ⌜ cycles ≤ 65536 ⌝ }
+    ensures { λ r. ⌜ r ≡ dividedOf ((256 * div + rest + cycles) % 65536) ⌝ }
+{
+    let total = rest as u32 + cycles;
+    let next = step_div(div, total / 256);
+    Divided {
+        div: next,
+        cycles: (total % 256) as u8,
+    }
+}
+
 fn update_div(timer: Timer, cycles: u32) -> Timer
     requires { ⌜ cycles ≤ 65536 ⌝ }
     ensures { λ r. ⌜ r ≡ divided timer cycles ⌝ }
 {
-    let total = timer.div_cycles as u32 + cycles;
-    let div = step_div(timer.div, total / 256);
+    let after = count_div(timer.div, timer.div_cycles, cycles);
     let mut next = timer;
-    next.div = div;
-    next.div_cycles = (total % 256) as u8;
+    next.div = after.div;
+    next.div_cycles = after.cycles;
     next
+}
+
+// For a caller who has the registers and not the record: most updates step nothing but DIV.
+pub fn rest_after(tac: u8, rest: u16, cycles: u32) -> Rest
+    requires { ⌜ cycles ≤ 65536 ⌝ }
+    ensures { λ r. ⌜ r ≡ restAfter tac rest cycles ⌝ }
+{
+    if bit_utils::within::is_set(tac, 2) {
+        let total = rest as u32 + cycles;
+        if total < period_of(tac) as u32 {
+            return Rest::Still((total % 1024) as u16);
+        }
+        return Rest::Due;
+    }
+    Rest::Still(rest)
 }
 
 fn update_tima(timer: Timer, cycles: u32) -> Timer
@@ -126,6 +168,21 @@ pub fn update(timer: Timer, cycles: u32) -> Updated
         number: numbers::DONE,
         timer: next,
     }
+}
+
+// How many cycles are left until TIMA overflows and requests Timer; 0 where an update by 0 makes it.
+pub fn cycles_to_overflow(tac: u8, tima: u8, rest: u16) -> u32
+    ensures { λ r. ⌜ r ≡ cyclesLeft tac tima rest ⌝ }
+{
+    if bit_utils::within::is_set(tac, 2) {
+        let due = (256 - tima as u32) * period_of(tac) as u32;
+        let gone = rest as u32;
+        if gone < due {
+            return due - gone;
+        }
+        return 0;
+    }
+    NEVER
 }
 
 // The laws of specs/Promises.antt, as a contract: its proof hands them over.
