@@ -10,7 +10,7 @@ u16-at-requires : tie.Need-u16-at-requires
 u16-at-requires c κs = search needs
 
 returns : tie.Need-returns
-returns c = cc
+returns c = rw (c .before .u8-at .ensures .0, c .u16-at .ensures .0)
 
 pub clock-at-spec : {M : Type 1} → statement M
 clock-at-spec = tie.close (tie.spec u8-at-requires u16-at-requires returns)

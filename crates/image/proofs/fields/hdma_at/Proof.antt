@@ -13,7 +13,7 @@ u16-at-requires-2 : tie.Need-u16-at-requires-2
 u16-at-requires-2 c κs = search needs
 
 returns : tie.Need-returns
-returns c = cc
+returns c = rw (c .before .before .flag-at .ensures, c .before .u16-at .ensures .0, c .u16-at2 .ensures .0)
 
 pub hdma-at-spec : {M : Type 1} → statement M
 hdma-at-spec = tie.close (tie.spec flag-at-requires u16-at-requires u16-at-requires-2 returns)

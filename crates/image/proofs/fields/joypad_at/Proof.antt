@@ -16,7 +16,7 @@ u8-at-requires-2 : tie.Need-u8-at-requires-2
 u8-at-requires-2 c κs = search needs
 
 returns : tie.Need-returns
-returns c = cc
+returns c = rw (c .before .before .before .u8-at .ensures .0, c .before .before .flag-at .ensures, c .before .flag-at2 .ensures, c .u8-at2 .ensures .0)
 
 pub joypad-at-spec : {M : Type 1} → statement M
 joypad-at-spec =

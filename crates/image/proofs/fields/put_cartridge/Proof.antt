@@ -16,7 +16,7 @@ same-length : tie.Need-same-length
 same-length c = search needs
 
 returns : tie.Need-returns
-returns c = cc
+returns c = rw (c .before .before .before .before .before .before .put-u8 .ensures, c .before .before .before .before .before .before .before .log .ensures) at (c .before .before .put-u82 .ensures)
 
 pub put-cartridge-spec : {M : Type 1} → statement M
 put-cartridge-spec =

@@ -15,7 +15,7 @@ same-length c = search needs
 
 returns : tie.Need-returns
 unfolding clockPut
-returns c = cc
+returns c = rw (c .before .before .before .before .before .before .put-u8 .ensures) at (c .before .before .put-u16 .ensures)
 
 pub put-clock-spec : {M : Type 1} → statement M
 put-clock-spec = tie.close (tie.spec put-u8-requires put-u16-requires same-length returns)

@@ -16,7 +16,7 @@ same-length : tie.Need-same-length
 same-length c = search needs
 
 returns : tie.Need-returns
-returns c = cc
+returns c = rw (c .before .before .before .before .before .before .put-u16 .ensures, c .before .before .before .before .before .before .before .before .before .before .put-flag .ensures) at (c .before .before .put-u162 .ensures)
 
 pub put-hdma-spec : {M : Type 1} → statement M
 put-hdma-spec =

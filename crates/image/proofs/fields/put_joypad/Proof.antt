@@ -19,7 +19,7 @@ same-length : tie.Need-same-length
 same-length c = search needs
 
 returns : tie.Need-returns
-returns c = cc
+returns c = rw (c .before .before .before .before .before .before .put-u8 .ensures, c .before .before .before .before .before .before .before .before .before .before .put-flag2 .ensures, c .before .before .before .before .before .before .before .before .before .before .before .before .before .before .put-flag .ensures) at (c .before .before .put-u82 .ensures)
 
 pub put-joypad-spec : {M : Type 1} → statement M
 put-joypad-spec =

@@ -25,7 +25,7 @@ same-length c = search needs
 
 returns : tie.Need-returns
 unfolding usedPut mappingPut
-returns c = cc
+returns c = rw (c .before .before .before .before .before .before .put-u82 .ensures, c .before .before .before .before .before .before .before .before .before .before .put-u8 .ensures, c .before .before .before .before .before .before .before .before .before .before .before .before .before .before .put-numbers .ensures, c .before .before .before .before .before .before .before .before .before .before .before .before .before .before .before .before .registers .ensures) at (c .before .before .put-used .ensures)
 
 pub put-mapping-spec : {M : Type 1} → statement M
 put-mapping-spec =

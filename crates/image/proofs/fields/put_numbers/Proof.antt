@@ -19,7 +19,7 @@ same-length : tie.Need-same-length
 same-length c = search needs
 
 returns : tie.Need-returns
-returns c = cc
+returns c = rw (c .before .before .before .before .before .before .put-u82 .ensures, c .before .before .before .before .before .before .before .before .before .before .put-u16 .ensures, c .before .before .before .before .before .before .before .before .before .before .before .before .before .before .put-u8 .ensures) at (c .before .before .put-u83 .ensures)
 
 pub put-numbers-spec : {M : Type 1} → statement M
 put-numbers-spec =

@@ -12,7 +12,7 @@ same-length c = search needs
 
 returns : tie.Need-returns
 unfolding usedPut
-returns c = cc
+returns c = c .before .before .put-u16 .ensures
 
 pub put-used-spec : {M : Type 1} → statement M
 put-used-spec = tie.close (tie.spec put-u16-requires same-length returns)

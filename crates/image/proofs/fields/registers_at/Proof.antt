@@ -22,7 +22,7 @@ u8-at-requires-5 : tie.Need-u8-at-requires-5
 u8-at-requires-5 c κs = search needs
 
 returns : tie.Need-returns
-returns c = cc
+returns c = rw (c .before .before .before .before .before .u8-at .ensures .0, c .before .before .before .before .u16-at .ensures .0, c .before .before .before .u8-at2 .ensures .0, c .before .before .u8-at3 .ensures .0, c .before .u8-at4 .ensures .0, c .u8-at5 .ensures .0)
 
 pub registers-at-spec : {M : Type 1} → statement M
 registers-at-spec =
