@@ -182,13 +182,15 @@ usedFields u = (usedField, u) ∷ []
 abbrev pub mappingFields : Mapper → ℕ → List (ℕ × ℕ)
 mappingFields p u = registersFields (registersOf p) ++ usedFields u
 
-abbrev pub coreFields : Core → List (ℕ × ℕ)
-coreFields c =
+abbrev pub groupsFields : Core → List (ℕ × ℕ)
+groupsFields c =
     banksFields (c .banks)
     ++ (lcdFields (c .lcd)
     ++ (hdmaFields (c .hdma)
-    ++ (joypadFields (c .joypad)
-    ++ (clockFields (c .clock) ++ (cartridgeFields (c .cartridge) ++ (mappingFields (c .mapper) (c .used) ++ ((zerosField, 0) ∷ [])))))))
+    ++ (joypadFields (c .joypad) ++ (clockFields (c .clock) ++ (cartridgeFields (c .cartridge) ++ mappingFields (c .mapper) (c .used))))))
+
+abbrev pub coreFields : Core → List (ℕ × ℕ)
+coreFields c = groupsFields c ++ ((zerosField, 0) ∷ [])
 
 -- OAM and high page; red, green, blue of 32 background and 32 sprite colours; the fields
 unfoldable pub widths : List ℕ

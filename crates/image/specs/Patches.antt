@@ -14,7 +14,7 @@ use Rattle.memory.specs.declared.Clock.{Clock}
 use Rattle.memory.specs.declared.Memory.{Memory}
 use Rattle.memory.specs.Ranges.{banksInRange, hdmaInRange}
 use Rattle.image.specs.Layout.{fieldWidths, usedField, zerosField, channels}
-pub use Rattle.image.specs.Layout.{banksFields, linesFields, lcdFields, hdmaFields, joypadFields, clockFields, cartridgeFields, numbersFields, registersFields, usedFields, mappingFields, coreFields}
+pub use Rattle.image.specs.Layout.{banksFields, linesFields, lcdFields, hdmaFields, joypadFields, clockFields, cartridgeFields, numbersFields, registersFields, usedFields, mappingFields, groupsFields, coreFields}
 use Rattle.image.specs.Load.{at, isOn, banksOf, hdmaOf, cartridgeOf, registersIn}
 
 -- the bytes before the fields
