@@ -1,5 +1,5 @@
 -- The fields of an image at their places, read and put there: how the code goes. Nothing here need be believed: proofs/FieldLaws.antt has that the fields
--- read are those of specs/Load.antt, proofs/PatchLaws.antt that an image with fields put is `imageOf` of the changed state.
+-- read are those of specs/Load.antt (`valuesOf`), proofs/PatchLaws.antt that an image with fields put is `imageOf` of the changed state.
 use mathlib.Core.Bool.{Bool, _&&_}
 use mathlib.Core.List.{List, _++_}
 use Prim.Native.Nat.{ℕ}

@@ -1,5 +1,5 @@
 // The fields behind the colours, group by group, read and put where src/layout.rt says; a caller who needs one group takes that alone.
-// specs/Load.antt has the groups of the fields that are read, specs/Patches.antt the fields that are put.
+// specs/Layout.antt has each group's fields, as they are read and as they are put.
 use crate::layout;
 use hdma::Hdma;
 use joypad::Controller;
