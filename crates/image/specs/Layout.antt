@@ -1,5 +1,5 @@
 -- The state image (document 01, "Save log and state image"): 665 bytes, most significant bit first. `widths` is the one place that has the layout,
--- `values` what stands there; the image is the number that they make, in bytes.
+-- `values` what stands there; the image is the number that they make, in bytes. All that is said field by field is said here.
 use mathlib.Core.Bool.{Bool, cond}
 use mathlib.Core.List.{List, [], _∷_, _++_}
 use Prim.Native.Nat.{ℕ}
@@ -75,10 +75,6 @@ usedField = 28
 abbrev pub zerosField : ℕ
 zerosField = 29
 
--- those that are true or false
-abbrev pub flags : Core → List Bool
-flags c = c .banks .colour ∷ c .lcd .disabled ∷ c .hdma .on ∷ c .joypad .action ∷ c .joypad .direction ∷ []
-
 -- And back: the state that fields have
 
 abbrev pub at : List ℕ → ℕ → ℕ
@@ -89,14 +85,6 @@ isOn fs k = eqb (at fs k) 1
 
 abbrev pub signed : List ℕ → ℕ → ℤ
 signed fs k = toZ w32 (at fs k)
-
--- the fields that are as wide as their types, without a sign: joypad, scan line, `irq48_signal`, LCD mode, `div_cycles`, HDMA source, destination
-abbrev pub typedFields : List ℕ
-typedFields = 7 ∷ 8 ∷ 9 ∷ 10 ∷ 11 ∷ 12 ∷ 14 ∷ 15 ∷ []
-
-abbrev pub picked : List ℕ → List ℕ → List ℕ
-picked [] fs = []
-picked (k ∷ ks) fs = at fs k ∷ picked ks fs
 
 -- the groups, by their fields' numbers in `fieldWidths`
 
@@ -182,13 +170,29 @@ usedFields u = (usedField, u) ∷ []
 abbrev pub mappingFields : Mapper → ℕ → List (ℕ × ℕ)
 mappingFields p u = registersFields (registersOf p) ++ usedFields u
 
-abbrev pub coreFields : Core → List (ℕ × ℕ)
-coreFields c =
+abbrev pub groupsFields : Core → List (ℕ × ℕ)
+groupsFields c =
     banksFields (c .banks)
     ++ (lcdFields (c .lcd)
     ++ (hdmaFields (c .hdma)
-    ++ (joypadFields (c .joypad)
-    ++ (clockFields (c .clock) ++ (cartridgeFields (c .cartridge) ++ (mappingFields (c .mapper) (c .used) ++ ((zerosField, 0) ∷ [])))))))
+    ++ (joypadFields (c .joypad) ++ (clockFields (c .clock) ++ (cartridgeFields (c .cartridge) ++ mappingFields (c .mapper) (c .used))))))
+
+abbrev pub coreFields : Core → List (ℕ × ℕ)
+coreFields c = groupsFields c ++ ((zerosField, 0) ∷ [])
+
+-- What bounds the fields that have no range
+
+-- true or false
+abbrev pub flags : Core → List Bool
+flags c = c .banks .colour ∷ c .lcd .disabled ∷ c .hdma .on ∷ c .joypad .action ∷ c .joypad .direction ∷ []
+
+-- as wide as their types, without a sign, by their numbers: joypad, scan line, `irq48_signal`, LCD mode, `div_cycles`, HDMA source, destination
+abbrev pub typedFields : List ℕ
+typedFields = 7 ∷ 8 ∷ 9 ∷ 10 ∷ 11 ∷ 12 ∷ 14 ∷ 15 ∷ []
+
+abbrev pub picked : List ℕ → List ℕ → List ℕ
+picked [] fs = []
+picked (k ∷ ks) fs = at fs k ∷ picked ks fs
 
 -- OAM and high page; red, green, blue of 32 background and 32 sprite colours; the fields
 unfoldable pub widths : List ℕ

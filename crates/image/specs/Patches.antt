@@ -1,5 +1,5 @@
 -- The fields of an image at their places, read and put there: how the code goes. Nothing here need be believed: proofs/FieldLaws.antt has that the fields
--- read are those of specs/Load.antt, proofs/PatchLaws.antt that an image with fields put is `imageOf` of the changed state.
+-- read are those of specs/Load.antt (`valuesOf`), proofs/PatchLaws.antt that an image with fields put is `imageOf` of the changed state.
 use mathlib.Core.Bool.{Bool, _&&_}
 use mathlib.Core.List.{List, _++_}
 use Prim.Native.Nat.{ℕ, _+_, _*_}
@@ -15,7 +15,7 @@ use Rattle.memory.specs.declared.Clock.{Clock}
 use Rattle.memory.specs.declared.Memory.{Memory}
 use Rattle.memory.specs.Ranges.{banksInRange, hdmaInRange}
 use Rattle.image.specs.Layout.{fieldWidths, usedField, zerosField, channels}
-pub use Rattle.image.specs.Layout.{banksFields, linesFields, lcdFields, hdmaFields, joypadFields, clockFields, cartridgeFields, numbersFields, registersFields, usedFields, mappingFields, coreFields}
+pub use Rattle.image.specs.Layout.{banksFields, linesFields, lcdFields, hdmaFields, joypadFields, clockFields, cartridgeFields, numbersFields, registersFields, usedFields, mappingFields, groupsFields, coreFields}
 use Rattle.image.specs.Load.{at, isOn, banksOf, hdmaOf, cartridgeOf, registersIn}
 
 -- the bytes before the fields

@@ -1,5 +1,5 @@
 // The fields behind the colours, group by group, read and put where src/layout.rt says; a caller who needs one group takes that alone.
-// specs/Load.antt has the groups of the fields that are read, specs/Patches.antt the fields that are put.
+// specs/Layout.antt has each group's fields, as they are read and as they are put.
 use crate::layout;
 use hdma::Hdma;
 use joypad::Controller;
@@ -19,7 +19,7 @@ ghost use Rattle.places.specs.Places.{fieldAt, putAt, Within};
 ghost use Rattle.mbc.specs.Mbc.{mapperOf};
 ghost use Rattle.image.specs.Layout.{imageLen, fieldWidths, fieldValues, usedField};
 ghost use Rattle.image.specs.Load.{banksOf, lcdOf, hdmaOf, joypadOf, clockOf, cartridgeOf, registersIn, coreFrom, at};
-ghost use Rattle.image.specs.Patches.{fields, headFits, mapperFits, tailFits, put, Fits, banksFields, linesFields, lcdFields, hdmaFields, joypadFields, clockFields, cartridgeFields, numbersFields, Slim, usedPut, mappingPut, clockPut, coreFields};
+ghost use Rattle.image.specs.Patches.{fields, headFits, mapperFits, tailFits, put, Fits, banksFields, linesFields, lcdFields, hdmaFields, joypadFields, clockFields, cartridgeFields, numbersFields, Slim, usedPut, mappingPut, clockPut, groupsFields, coreFields};
 
 pub fn banks_at(image: &[u8]) -> Banks
     requires { ⌜ length (now image) ≡ imageLen ⌝ }
@@ -293,10 +293,10 @@ pub fn put_mapping(image: &mut [u8], mapper: Mapper, used: u16)
     put_used(image, used);
 }
 
-// All of the state but its arrays, and 0 in the bits behind.
-pub fn put_core(image: &mut [u8], core: Core)
+// The groups, and the log use.
+fn put_groups(image: &mut [u8], core: Core)
     requires { ⌜ (length (now image) ≡ imageLen) × Fit fieldWidths (fieldValues core) ⌝ }
-    ensures { λ _. ⌜ now (image .exit) ≡ put (coreFields core) (now (image .entry)) ⌝ }
+    ensures { λ _. ⌜ now (image .exit) ≡ put (groupsFields core) (now (image .entry)) ⌝ }
 {
     let banks = core.banks;
     put_banks(image, banks);
@@ -312,5 +312,13 @@ pub fn put_core(image: &mut [u8], core: Core)
     put_cartridge(image, cartridge);
     let mapper = core.mapper;
     put_mapping(image, mapper, core.used);
+}
+
+// All of the state but its arrays, and 0 in the bits behind.
+pub fn put_core(image: &mut [u8], core: Core)
+    requires { ⌜ (length (now image) ≡ imageLen) × Fit fieldWidths (fieldValues core) ⌝ }
+    ensures { λ _. ⌜ now (image .exit) ≡ put (coreFields core) (now (image .entry)) ⌝ }
+{
+    put_groups(image, core);
     places::put_u8(image, layout::ZEROS_AT, layout::ZEROS, 0);
 }

@@ -13,16 +13,19 @@ returns : tie.Need-returns
 returns c =
     let o : (i : ℕ) → Fits w8 (getD (c .args .memory .oam) i 0) = λ i. search needs in
     let p : (i : ℕ) → Fits w8 (getD (c .args .memory .page) i 0) = λ i. search needs in
+    -- what the types say of the core, and in it of the screen
+    let k = c .good .0 .1 .1 .1 .1 .1 .1 .0 in
+    let l = k .1 .1 .1 .0 in
     record {
       oam = (search needs, λ i. o i .fits);
       page = (search needs, λ i. p i .fits);
       background = simp length-map at (c .good .0 .1 .1 .1 .1 .0 .1 .0 .1);
       sprites = simp length-map at (c .good .0 .1 .1 .1 .1 .1 .0 .1 .0 .1);
-      numbers = omega arith;
-      delay = search needs;
-      counter = search needs;
-      aux = search needs;
-      window = record { sfits = omega (arith, c .good .0 .1 .1 .1 .1 .1 .1 .0 .1 .1 .1 .0 .1 .1 .1 .1 .1 .1 .1 .1 .1 .0 .1) };
+      numbers = omega (arith, k);
+      delay = record { sfits = omega (arith, l) };
+      counter = record { sfits = omega (arith, l) };
+      aux = record { sfits = omega (arith, l) };
+      window = record { sfits = omega (arith, l) };
     }
 
 pub typed-spec : {M : Type 1} → statement M
