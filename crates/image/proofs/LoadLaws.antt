@@ -24,7 +24,7 @@ use Rattle.savelog.specs.Log.{logLimit, useInRange}
 use Rattle.image.specs.Layout.{imageLen, fieldWidths, usedField, zerosField, widths}
 use Rattle.image.specs.Load.{bytesIn, colorsIn, fieldsIn, valuesOf, stateFrom, stateOf, colorsOf, at, isOn, banksOf, hdmaOf, cartridgeOf, registersIn, coreFrom, sound, storable, loaded, loadCall}
 use Rattle.image.specs.declared.Loaded.{Loaded}
-use Rattle.image.specs.Patches.{fields, headFits, tailFits}
+use Rattle.image.specs.Patches.{fields, headFits, tailFits, MapperFits, RestFits}
 use Rattle.image.proofs.ColorLaws.{below-colors}
 use Rattle.image.proofs.FieldLaws.{fields-number, fields-in}
 use Rattle.image.proofs.Parts.{fieldLen, values-parts, repacked-length, repacked-fit}
@@ -170,3 +170,8 @@ module _ (l : List ℕ) (size : length l ≡ imageLen) (below : Below 256 l) whe
       ∙ ap (λ (b : Bool). cond b done outOfRange)
       (regrouped (banksInRange (banksOf fs)) (hdmaInRange (hdmaOf fs) (isOn fs 0)) (leb (at fs 13) 1023) (mbc.sound (registersIn fs))
       (mbc.inRange (cartridgeOf fs) (mbc.mapperOf (registersIn fs))) (eqb (at fs zerosField) 0) (useInRange (at fs usedField) logLimit) remainder-fits))
+
+-- and the tests that are enough
+pub surely-loads : (l : List ℕ) → Below 256 l → {a b c d : ℕ} → MapperFits l a b → RestFits l c d → loadCall l .number ≡ done
+surely-loads l below p q =
+    rw (load-fits l (p .size) below, q .machine .banks, q .machine .hdma, p .mapper, q .zeros, q .used)

@@ -1,20 +1,24 @@
 -- The fields of an image at their places, read and put there: how the code goes. Nothing here need be believed: proofs/FieldLaws.antt has that the fields
 -- read are those of specs/Load.antt (`valuesOf`), proofs/PatchLaws.antt that an image with fields put is `imageOf` of the changed state.
-use mathlib.Core.Bool.{Bool, _&&_}
+use mathlib.Core.Bool.{Bool, true, _&&_}
 use mathlib.Core.List.{List, _++_}
+use mathlib.Core.Path.{_≡_}
 use Prim.Native.Nat.{ℕ, _+_, _*_}
 use lib.Dec.{eqb}
+use lib.ListN.{length}
 use Rattle.packing.specs.Packing.{repacked, eights, fives}
 use Rattle.places.specs.Places.{fieldAt, putAt, fieldsFrom, putFields, FitAll}
 use Rattle.palette.specs.declared.Color.{Color}
+use Rattle.hdma.specs.declared.Hdma.{Hdma}
 use Rattle.mbc.specs.Mbc as mbc
 use Rattle.mbc.specs.Mbc.{registersOf}
 use Rattle.mbc.specs.declared.mbc.Mapper.{Mapper}
 use Rattle.savelog.specs.Log.{logLimit, useInRange}
+use Rattle.memory.specs.declared.Banks.{Banks}
 use Rattle.memory.specs.declared.Clock.{Clock}
 use Rattle.memory.specs.declared.Memory.{Memory}
-use Rattle.memory.specs.Ranges.{banksInRange, hdmaInRange}
-use Rattle.image.specs.Layout.{fieldWidths, usedField, zerosField, channels}
+use Rattle.memory.specs.Ranges.{banksInRange, hdmaInRange, vramLen, wramLen}
+use Rattle.image.specs.Layout.{imageLen, fieldWidths, usedField, zerosField, channels}
 pub use Rattle.image.specs.Layout.{banksFields, linesFields, lcdFields, hdmaFields, joypadFields, clockFields, cartridgeFields, numbersFields, registersFields, usedFields, mappingFields, groupsFields, coreFields}
 use Rattle.image.specs.Load.{at, isOn, banksOf, hdmaOf, cartridgeOf, registersIn}
 
@@ -54,6 +58,25 @@ mapperFits fs = mbc.sound (registersIn fs) && mbc.inRange (cartridgeOf fs) (mbc.
 
 abbrev pub tailFits : List ℕ → Bool
 tailFits fs = mapperFits fs && (eqb (at fs zerosField) 0 && useInRange (at fs usedField) logLimit)
+
+-- What the tests that are enough for a load say, with the lengths of what is lent beside the image
+
+pub record MapperFits (l : List ℕ) (m n : ℕ) : Type 0 where
+  pub size : length l ≡ imageLen
+  pub mapper : mapperFits (fields l) ≡ true
+  pub rom : m ≡ mbc.romLen (cartridgeOf (fields l))
+  pub save : n ≡ mbc.ramLen (cartridgeOf (fields l)) (mbc.mapperOf (registersIn (fields l)))
+
+pub record MachineFits (b : Banks) (h : Hdma) (m n : ℕ) : Type 0 where
+  pub banks : banksInRange b ≡ true
+  pub hdma : hdmaInRange h (b .colour) ≡ true
+  pub vram : m ≡ vramLen (b .colour)
+  pub wram : n ≡ wramLen (b .colour)
+
+pub record RestFits (l : List ℕ) (m n : ℕ) : Type 0 where
+  pub machine : MachineFits (banksOf (fields l)) (hdmaOf (fields l)) m n
+  pub zeros : eqb (at (fields l) zerosField) 0 ≡ true
+  pub used : useInRange (at (fields l) usedField) logLimit ≡ true
 
 -- fields of an image put, and that each is within its width
 abbrev pub put : List (ℕ × ℕ) → List ℕ → List ℕ

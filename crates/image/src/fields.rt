@@ -6,10 +6,12 @@ use joypad::Controller;
 use lcd::Lcd;
 use mbc::Cartridge;
 use mbc::Mapper;
+use mbc::Mbc1;
 use mbc::Registers;
 use memory::Banks;
 use memory::Clock;
 use memory::Core;
+ghost use mathlib.Core.Bool.{true};
 ghost use mathlib.Core.Path.{_≡_};
 ghost use lib.ListN.{length};
 ghost use mir.Syntax.{w32};
@@ -19,7 +21,7 @@ ghost use Rattle.places.specs.Places.{fieldAt, putAt, Within};
 ghost use Rattle.mbc.specs.Mbc.{mapperOf};
 ghost use Rattle.image.specs.Layout.{imageLen, fieldWidths, fieldValues, usedField};
 ghost use Rattle.image.specs.Load.{banksOf, lcdOf, hdmaOf, joypadOf, clockOf, cartridgeOf, registersIn, coreFrom, at};
-ghost use Rattle.image.specs.Patches.{fields, headFits, mapperFits, tailFits, put, Fits, banksFields, linesFields, lcdFields, hdmaFields, joypadFields, clockFields, cartridgeFields, numbersFields, Slim, usedPut, mappingPut, clockPut, groupsFields, coreFields};
+ghost use Rattle.image.specs.Patches.{fields, headFits, mapperFits, tailFits, MapperFits, MachineFits, RestFits, put, Fits, banksFields, linesFields, lcdFields, hdmaFields, joypadFields, clockFields, cartridgeFields, numbersFields, Slim, usedPut, mappingPut, clockPut, groupsFields, coreFields};
 
 pub fn banks_at(image: &[u8]) -> Banks
     requires { ⌜ length (now image) ≡ imageLen ⌝ }
@@ -176,6 +178,75 @@ fn mapper_fits(image: &[u8]) -> bool
     let mapper = mapper_at(image);
     let cartridge = cartridge_at(image);
     mapper.in_range(cartridge)
+}
+
+// Tests that are enough for a load, and for the lengths of what is lent beside the image: small, so that the compiler puts them in place where they are
+// called. Who fails one is no worse off than before it. The mapper is the commonest; the lengths are compared in the branch that has shown what they follow.
+
+pub fn mapper_surely_fits(image: &[u8], rom: usize, save: usize) -> bool
+    ensures { λ r. ⌜ (r ≡ true → MapperFits (now (image .entry)) rom save) ⌝ }
+{
+    if image.len() != layout::LENGTH {
+        return false;
+    }
+    let registers = registers_at(image);
+    if !Mbc1::has(registers) {
+        return false;
+    }
+    let cartridge = cartridge_at(image);
+    let mapper = Mbc1::from_registers(registers);
+    if !mapper.in_range(cartridge) {
+        return false;
+    }
+    if rom != cartridge.rom_len() {
+        return false;
+    }
+    if cartridge.code == 3 {
+        return save == 0x8000;
+    }
+    save == cartridge.ram_len()
+}
+
+fn machine_surely_fits(banks: Banks, hdma: Hdma, vram: usize, wram: usize) -> bool
+    ensures { λ r. ⌜ (r ≡ true → MachineFits banks hdma vram wram) ⌝ }
+{
+    if banks.colour {
+        if vram != memory::vram_len(true) {
+            return false;
+        }
+        if wram != memory::wram_len(true) {
+            return false;
+        }
+        if !memory::hdma_in_range(hdma, true) {
+            return false;
+        }
+        return memory::banks_in_range(banks);
+    }
+    if vram != memory::vram_len(false) {
+        return false;
+    }
+    if wram != memory::wram_len(false) {
+        return false;
+    }
+    if !memory::hdma_in_range(hdma, false) {
+        return false;
+    }
+    memory::banks_in_range(banks)
+}
+
+pub fn rest_surely_fits(image: &[u8], vram: usize, wram: usize) -> bool
+    requires { ⌜ length (now image) ≡ imageLen ⌝ }
+    ensures { λ r. ⌜ (r ≡ true → RestFits (now (image .entry)) vram wram) ⌝ }
+{
+    if places::u8_at(image, layout::ZEROS_AT, layout::ZEROS) != 0 {
+        return false;
+    }
+    if !savelog::use_in_range(used_at(image), savelog::LOG_LIMIT) {
+        return false;
+    }
+    let banks = banks_at(image);
+    let hdma = hdma_at(image);
+    machine_surely_fits(banks, hdma, vram, wram)
 }
 
 // Whether the fields from the mapper on are in range, and the bits behind them 0.
