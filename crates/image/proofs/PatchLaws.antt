@@ -105,12 +105,13 @@ image-rest : (m : Memory) → Typed m → storable m ≡ true → imageOf m ≡ 
 unfolding rest
 image-rest m t h = image-bytes m t h
 
-set-append-right : (xs ys : List ℕ) (i v : ℕ) → set (xs ++ ys) (length xs + i) v ≡ xs ++ set ys i v
-set-append-right [] ys i v = rw (zero-add i)
-set-append-right (x ∷ xs) ys i v = rw (suc-add (length xs) i, set-append-right xs ys i v)
+module _ {A : Type 0} where
+  set-append-right : (xs ys : List A) (i : ℕ) (v : A) → set (xs ++ ys) (length xs + i) v ≡ xs ++ set ys i v
+  set-append-right [] ys i v = rw (zero-add i)
+  set-append-right (x ∷ xs) ys i v = rw (suc-add (length xs) i, set-append-right xs ys i v)
 
-set-behind : (p l : List ℕ) (o : ℕ) → length p ≡ o → (k v : ℕ) → set (p ++ l) (o + k) v ≡ p ++ set l k v
-set-behind p l o e k v = rw (← e) (set-append-right p l k v)
+  pub set-behind : (p l : List A) (o : ℕ) → length p ≡ o → (k : ℕ) (v : A) → set (p ++ l) (o + k) v ≡ p ++ set l k v
+  set-behind p l o e k v = rw (← e) (set-append-right p l k v)
 
 pub below-set : (k : ℕ) (l : List ℕ) (i v : ℕ) → Below k l → v < k → Below k (set l i v)
 below-set k [] i v h b j = h j

@@ -85,10 +85,5 @@ pub fn put_color(image: &mut [u8], k: usize, c: Color)
     let bit = layout::COLORS_AT + k * layout::COLOR;
     places::put_u8(image, bit, layout::CHANNEL, c.red);
     places::put_u8(image, bit + layout::CHANNEL, layout::CHANNEL, c.green);
-    places::put_u8(
-        image,
-        bit + 2 * layout::CHANNEL,
-        layout::CHANNEL,
-        c.blue,
-    );
+    places::put_u8(image, bit + 2 * layout::CHANNEL, layout::CHANNEL, c.blue);
 }

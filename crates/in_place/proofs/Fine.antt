@@ -198,11 +198,11 @@ module _ {m : Memory} (f : Fine m) where
   coloured : (at : ℕ) {v : ℕ} {n : Memory} → v < 256 → Fine n → Fine (inColour m at v n)
   coloured at b n = cond-both Fine (m .core .banks .colour) n (stored-fine at b)
 
-  background-ready : palette.Ready (backgroundOf m)
+  pub background-ready : palette.Ready (backgroundOf m)
   background-ready =
       record { index = loaded-byte 0x68; shown = loaded-byte 0x69; size = f .background .0; range = f .background .1 }
 
-  sprites-ready : palette.Ready (spritesOf m)
+  pub sprites-ready : palette.Ready (spritesOf m)
   sprites-ready = record { index = loaded-byte 0x6A; shown = loaded-byte 0x6B; size = f .sprites .0; range = f .sprites .1 }
 
   with-background : {p : Palette} → palette.Ready p → Fine (withBackgroundPalette m p)

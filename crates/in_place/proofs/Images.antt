@@ -15,10 +15,11 @@ use Rattle.image.specs.Layout.{imageLen, imageOf, fieldValues}
 use Rattle.image.specs.Load.{storable, coreFrom, loadCall}
 use Rattle.image.specs.Patches.{fields, put, lcdFields, joypadFields, clockPut, Fits, banksFields, hdmaFields}
 use Rattle.joypad.specs.Joypad.{Bytes}
+use Rattle.hdma.specs.Hdma.{starts}
 use Rattle.hdma.specs.declared.Hdma.{Hdma}
+use Rattle.hdma.specs.declared.Start.{Start}
 use Rattle.hdma.specs.declared.Written.{Written}
 use Rattle.image.proofs.StateLaws.{storable-state, fields-fit, banks-fit}
-use Rattle.image.specs.declared.Loaded.{Loaded}
 use Rattle.memory.proofs.Laws.{clock-range}
 use Rattle.memory.specs.Ranges.{stateInRange, inRange}
 use Rattle.memory.specs.World.{withClock, withBanks, withCore, withHdma}
@@ -29,13 +30,15 @@ use Rattle.rules.proofs.Tests.{both-true, cond-true, cond-false}
 use Rattle.memory.specs.declared.Banks.{Banks}
 use Rattle.memory.specs.declared.Core.{Core}
 use Rattle.places.specs.Places.{setAll}
-use Rattle.registers.proofs.Kept.{Kept, write-kept}
+use Rattle.registers.proofs.Kept.{Kept, in-kept}
 use Rattle.registers.specs.Colour.{inColour}
 use Rattle.registers.specs.PanDocs.{speedOf}
 use Rattle.registers.specs.Page.{writeIn, writeRegister}
 use Rattle.registers.specs.Register.{registerOf, byteAs}
-use Rattle.registers.specs.Transfers.{transferPut}
+use Rattle.registers.specs.Transfers.{transferPut, startedBy, started, startPut}
 use Rattle.registers.specs.declared.register.Register.{Register}
+use Rattle.registers.specs.declared.register.Register.the-variants as is
+use Rattle.registers.specs.declared.transfers.Started.{Started}
 use Rattle.joypad.specs.declared.Controller.{Controller}
 use Rattle.lcd.specs.declared.Lcd.{Lcd}
 use Rattle.savelog.specs.Log.{logLimit, useInRange}
@@ -136,10 +139,10 @@ module _ {i : List ℕ} {m : Memory} (e : ImageOf i m) where
 -- A register of a colour machine alone, by what the test found
 
 module _ (m : Memory) (at v : ℕ) (n : Memory) {t : Bool} (a : t ≡ m .core .banks .colour) where
-  in-colour : t ≡ true → {j : List ℕ} → j ≡ imageOf n → j ≡ imageOf (inColour m at v n)
+  pub in-colour : t ≡ true → {j : List ℕ} → j ≡ imageOf n → j ≡ imageOf (inColour m at v n)
   in-colour b c = c ∙ ap imageOf (sym (cond-true _ n (stored m at v) (sym a ∙ b)))
 
-  in-monochrome : t ≡ false → {j : List ℕ} → j ≡ imageOf (stored m at v) → j ≡ imageOf (inColour m at v n)
+  pub in-monochrome : t ≡ false → {j : List ℕ} → j ≡ imageOf (stored m at v) → j ≡ imageOf (inColour m at v n)
   in-monochrome b c = c ∙ ap imageOf (sym (cond-false _ n (stored m at v) (sym a ∙ b)))
 
   -- what the write leaves is in range
@@ -229,10 +232,26 @@ module _ (i : List ℕ) (h : Held i) where
     pub speed-stored : {j : List ℕ} → t ≡ false → j ≡ imageOf (stored (state i h) 0x4D v) → j ≡ imageOf (inColour (state i h) 0x4D v armed)
     speed-stored b e = in-monochrome (state i h) 0x4D v armed a b e
 
-  -- a register written by value
-  pub whole-storable : (at v : ℕ) {r : Loaded} {n : Memory} → r ≡ loadCall i → n ≡ writeRegister (r .state) at v → storable n ≡ true
-  whole-storable at v a b =
-      ap storable (b ∙ ap (λ (r : Loaded). writeRegister (r .state) at v) a) ∙ kept-storable (write-kept (state i h) at v) (held i h .storable)
+  -- FF55, by what was decided
+  module _ (v : ℕ) {t : Bool} (a : t ≡ state i h .core .banks .colour) where
+    module _ {x : Hdma} {mode : ℕ} {s : Start} (k : Start) (b : t ≡ true) (p : x ≡ state i h .core .hdma) (q : mode ≡ state i h .core .lcd .mode)
+        (r : s ≡ starts x mode v) (g : s ≡ k) where
+      decided : startedBy (state i h) v k ≡ started (state i h) v
+      unfolding started
+      decided =
+          ap (startedBy (state i h) v) (sym g ∙ r ∙ ap (λ (y : Hdma). starts y mode v) p ∙ ap (λ (y : ℕ). starts (state i h .core .hdma) y v) q)
+          ∙ sym (cond-true _ _ _ (sym a ∙ b))
+
+      pub start-storable : storable (startedBy (state i h) v k .memory) ≡ true
+      start-storable =
+          ap (λ (z : Started). storable (z .memory)) decided ∙ kept-storable (in-kept is.Start (state i h) 0x55 v) (held i h .storable)
+
+      pub start-written : {j : List ℕ} → j ≡ imageOf (startedBy (state i h) v k .memory) → j ≡ imageOf (startPut (state i h) v)
+      start-written e = e ∙ ap (λ (z : Started). imageOf (z .memory)) decided
+
+    pub start-stored : t ≡ false → {j : List ℕ} → j ≡ imageOf (stored (state i h) 0x55 v) → j ≡ imageOf (startPut (state i h) v)
+    unfolding started
+    start-stored b e = e ∙ ap (λ (z : Started). imageOf (z .memory)) (sym (cond-false _ _ _ (sym a ∙ b)))
 
   -- a register by the arm that its name takes
   pub by-arm : (at v : ℕ) {r k : Register} {j : List ℕ} → r ≡ registerOf at → r ≡ k → j ≡ imageOf (writeIn k (state i h) at v)

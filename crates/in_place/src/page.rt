@@ -13,18 +13,7 @@ ghost use Rattle.image.specs.Load.{loadCall};
 ghost use Rattle.registers.specs.Page.{writeRegister};
 ghost use Rattle.in_place.specs.Held.{Held};
 
-// By value: the whole state is decoded and encoded.
-fn write_whole(image: &mut [u8], at: u8, value: u8)
-    requires { ⌜ Held (now image) ⌝ }
-    ensures { λ _. ⌜ now (image .exit) ≡ imageOf (writeRegister (loadCall (now (image .entry)) .state) at value) ⌝ }
-{
-    let loaded = image::decode(image);
-    let state = loaded.state;
-    let next = registers::page::write(state, at, value);
-    image::store(next, image);
-}
-
-// Palettes and FF55 go by value.
+// Without the copying that FF46 and FF55 start.
 pub fn write(image: &mut [u8], at: u8, value: u8)
     requires { ⌜ Held (now image) ⌝ }
     ensures { λ _. ⌜ now (image .exit) ≡ imageOf (writeRegister (loadCall (now (image .entry)) .state) at value) ⌝ }
@@ -41,7 +30,7 @@ pub fn write(image: &mut [u8], at: u8, value: u8)
         Register::SourceLow => transfers::write_source_low(image, value),
         Register::DestinationHigh => transfers::write_destination_high(image, value),
         Register::DestinationLow => transfers::write_destination_low(image, value),
-        Register::Start => write_whole(image, at, value),
+        Register::Start => transfers::write_start(image, value),
         Register::BackgroundIndex => palettes::write_background_index(image, value),
         Register::BackgroundData => palettes::write_background_data(image, value),
         Register::SpriteIndex => palettes::write_sprite_index(image, value),

@@ -2,12 +2,13 @@
 use crate::colour::is_colour;
 use crate::store;
 use hdma::Hdma;
+use hdma::Start;
 use hdma::Written;
 ghost use mathlib.Core.Bool.{true};
 ghost use mathlib.Core.Path.{_≡_};
 ghost use Rattle.image.specs.Layout.{imageOf};
 ghost use Rattle.image.specs.Load.{loadCall, storable};
-ghost use Rattle.registers.specs.Transfers.{transferPut, sourceHighPut, sourceLowPut, destinationHighPut, destinationLowPut};
+ghost use Rattle.registers.specs.Transfers.{transferPut, sourceHighPut, sourceLowPut, destinationHighPut, destinationLowPut, startPut};
 ghost use Rattle.in_place.specs.Held.{Held};
 
 fn hdma_at(image: &[u8]) -> Hdma
@@ -77,4 +78,29 @@ pub fn write_destination_low(image: &mut [u8], value: u8)
         return;
     }
     store(image, 0x54, value);
+}
+
+fn mode_at(image: &[u8]) -> u8
+    requires { ⌜ Held (now image) ⌝ }
+    ensures { λ r. ⌜ r ≡ loadCall (now (image .entry)) .state .core .lcd .mode ⌝ }
+{
+    let lcd = image::lcd_at(image);
+    lcd.mode
+}
+
+// FF55, before any byte is copied; a general transfer sets the registers at its end.
+pub fn write_start(image: &mut [u8], value: u8)
+    requires { ⌜ Held (now image) ⌝ }
+    ensures { λ _. ⌜ now (image .exit) ≡ imageOf (startPut (loadCall (now (image .entry)) .state) value) ⌝ }
+{
+    if is_colour(image) {
+        let hdma = hdma_at(image);
+        match hdma::do_cgb_dma(hdma, mode_at(image), value) {
+            Start::Set(written) => put_written(image, 0x55, written),
+            Start::Block(written) => put_written(image, 0x55, written),
+            Start::General => {}
+        }
+        return;
+    }
+    store(image, 0x55, value);
 }

@@ -73,32 +73,32 @@ write-destination-low-requires c κs = search needs
 enum-told-12 : tie.Need-enum-told-12
 enum-told-12 c = search needs
 
-write-whole-requires : tie.Need-write-whole-requires
-write-whole-requires c κs = search needs
+write-start-requires : tie.Need-write-start-requires
+write-start-requires c κs = search needs
 
 enum-told-13 : tie.Need-enum-told-13
 enum-told-13 c = search needs
 
-write-whole-requires-2 : tie.Need-write-whole-requires-2
-write-whole-requires-2 c κs = search needs
+write-background-index-requires : tie.Need-write-background-index-requires
+write-background-index-requires c κs = search needs
 
 enum-told-14 : tie.Need-enum-told-14
 enum-told-14 c = search needs
 
-write-whole-requires-3 : tie.Need-write-whole-requires-3
-write-whole-requires-3 c κs = search needs
+write-background-data-requires : tie.Need-write-background-data-requires
+write-background-data-requires c κs = search needs
 
 enum-told-15 : tie.Need-enum-told-15
 enum-told-15 c = search needs
 
-write-whole-requires-4 : tie.Need-write-whole-requires-4
-write-whole-requires-4 c κs = search needs
+write-sprite-index-requires : tie.Need-write-sprite-index-requires
+write-sprite-index-requires c κs = search needs
 
 enum-told-16 : tie.Need-enum-told-16
 enum-told-16 c = search needs
 
-write-whole-requires-5 : tie.Need-write-whole-requires-5
-write-whole-requires-5 c κs = search needs
+write-sprite-data-requires : tie.Need-write-sprite-data-requires
+write-sprite-data-requires c κs = search needs
 
 enum-told-17 : tie.Need-enum-told-17
 enum-told-17 c = search needs
@@ -182,31 +182,31 @@ same-length-11 : tie.Need-same-length-11
 same-length-11 c = search needs
 
 returns-12 : tie.Need-returns-12
-returns-12 c = c .before .before .write-whole .ensures
+returns-12 c = by-arm _ (c .before .before .before .before .before .before .before .before .pre) _ _ (c .before .before .before .before .before .before .register-of .ensures) (c .before .before .before .before .enum-told12 .given .1) (c .before .before .write-start .ensures)
 
 same-length-12 : tie.Need-same-length-12
 same-length-12 c = search needs
 
 returns-13 : tie.Need-returns-13
-returns-13 c = c .before .before .write-whole2 .ensures
+returns-13 c = by-arm _ (c .before .before .before .before .before .before .before .before .pre) _ _ (c .before .before .before .before .before .before .register-of .ensures) (c .before .before .before .before .enum-told13 .given .1) (c .before .before .write-background-index .ensures)
 
 same-length-13 : tie.Need-same-length-13
 same-length-13 c = search needs
 
 returns-14 : tie.Need-returns-14
-returns-14 c = c .before .before .write-whole3 .ensures
+returns-14 c = by-arm _ (c .before .before .before .before .before .before .before .before .pre) _ _ (c .before .before .before .before .before .before .register-of .ensures) (c .before .before .before .before .enum-told14 .given .1) (c .before .before .write-background-data .ensures)
 
 same-length-14 : tie.Need-same-length-14
 same-length-14 c = search needs
 
 returns-15 : tie.Need-returns-15
-returns-15 c = c .before .before .write-whole4 .ensures
+returns-15 c = by-arm _ (c .before .before .before .before .before .before .before .before .pre) _ _ (c .before .before .before .before .before .before .register-of .ensures) (c .before .before .before .before .enum-told15 .given .1) (c .before .before .write-sprite-index .ensures)
 
 same-length-15 : tie.Need-same-length-15
 same-length-15 c = search needs
 
 returns-16 : tie.Need-returns-16
-returns-16 c = c .before .before .write-whole5 .ensures
+returns-16 c = by-arm _ (c .before .before .before .before .before .before .before .before .pre) _ _ (c .before .before .before .before .before .before .register-of .ensures) (c .before .before .before .before .enum-told16 .given .1) (c .before .before .write-sprite-data .ensures)
 
 same-length-16 : tie.Need-same-length-16
 same-length-16 c = search needs
@@ -247,15 +247,15 @@ write-spec =
     enum-told-11
     write-destination-low-requires
     enum-told-12
-    write-whole-requires
+    write-start-requires
     enum-told-13
-    write-whole-requires-2
+    write-background-index-requires
     enum-told-14
-    write-whole-requires-3
+    write-background-data-requires
     enum-told-15
-    write-whole-requires-4
+    write-sprite-index-requires
     enum-told-16
-    write-whole-requires-5
+    write-sprite-data-requires
     enum-told-17
     write-wram-bank-requires
     enum-told-18
