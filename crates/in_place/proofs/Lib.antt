@@ -1,3 +1,4 @@
 pub mod Fine
 pub mod Images
 pub mod Groups
+pub mod Still
