@@ -104,6 +104,7 @@ enum pouch_kind {
 #define POUCH_SOUND_LEN 48
 #define POUCH_LOG_LEN_MAX 65535
 #define POUCH_COLORS_LEN 192 /* red, green and blue of 64 colours */
+#define POUCH_BLOCK_LEN_MAX 65536
 
 /* A log is records of 3 bytes, most significant bit first: a 1 bit, 15 bits of address in the save, 8 bits of value. */
 #define POUCH_RECORD_LEN 3
@@ -149,6 +150,13 @@ uint8_t pouch_read_byte(
 uint8_t pouch_read_word(
     const uint8_t *image, size_t image_len, const uint8_t *rom, size_t rom_len, const uint8_t *vram, size_t vram_len, const uint8_t *wram,
     size_t wram_len, const uint8_t *save, size_t save_len, const uint8_t *sound, size_t sound_len, uint16_t index, uint16_t *value);
+
+/* The bytes at `index` and behind it, as many as out_len says, each as pouch_read_byte gives it; FFFF is followed by 0000. For a host that looks through
+ * tile maps, names or a whole bank: image and lengths are checked once for all of them.
+ * 0; 4, 3 image; 4 another length, or out_len is over POUCH_BLOCK_LEN_MAX. */
+uint8_t pouch_read_block(
+    const uint8_t *image, size_t image_len, const uint8_t *rom, size_t rom_len, const uint8_t *vram, size_t vram_len, const uint8_t *wram,
+    size_t wram_len, const uint8_t *save, size_t save_len, const uint8_t *sound, size_t sound_len, uint16_t index, uint8_t *out, size_t out_len);
 
 /* A byte of video memory by its bank, whichever bank the game has selected: `index` in 8000..9FFF, `bank` 0, in colour 0 or 1.
  * 0; 4, 3 image; 4 vram's length; 7 index or bank outside. */
@@ -205,6 +213,13 @@ uint8_t pouch_store(uint8_t *image, size_t image_len, uint16_t index, uint8_t by
 /* `cycles` have passed: DIV and TIMA step, and TIMA's overflow requests its interrupt.
  * 0; 4, 3 image; 5 cycles over 65,536. */
 uint8_t pouch_update_timer(uint8_t *image, size_t image_len, uint32_t cycles);
+
+/* How many cycles are left until TIMA overflows and requests its interrupt: the fewest by which pouch_update_timer makes it, 0 where an update by 0 does.
+ * POUCH_NEVER while TIMA does not count (bit 2 of FF07 is clear). An update by fewer cycles does not request the interrupt, so a host may update the
+ * timer when it is due, and before the game reads or writes FF04..FF07, and not at every instruction. It changes with each of these writes and updates.
+ * 0; 4, 3 image. */
+#define POUCH_NEVER 0xFFFFFFFFu
+uint8_t pouch_cycles_to_overflow(const uint8_t *image, size_t image_len, uint32_t *value);
 
 /* The requested and enabled interrupt that is served first, or POUCH_NO_INTERRUPT. Refused, `value` is 0, which the number tells from POUCH_VBLANK.
  * 0; 4, 3 image. */

@@ -4,13 +4,13 @@
 #include <string.h>
 
 static uint8_t image[POUCH_IMAGE_LEN], first[POUCH_IMAGE_LEN], rom[2 * POUCH_ROM_BANK_LEN], vram[POUCH_VRAM_LEN_COLOUR], wram[POUCH_WRAM_LEN_COLOUR];
-static uint8_t save[POUCH_SAVE_LEN_CODE_2], log_[POUCH_LOG_LEN_MAX], sound[POUCH_SOUND_LEN], colors[POUCH_COLORS_LEN];
+static uint8_t save[POUCH_SAVE_LEN_CODE_2], log_[POUCH_LOG_LEN_MAX], sound[POUCH_SOUND_LEN], colors[POUCH_COLORS_LEN], block[1024];
 static size_t vram_len, wram_len, save_len;
 
 /* what calls set */
 static uint8_t byte, disabled, line, signal, mode;
 static uint16_t value;
-static uint32_t record;
+static uint32_t record, cycles;
 static int32_t delay, counter, aux, window;
 
 #define IMAGE image, sizeof image
@@ -25,6 +25,7 @@ static int32_t delay, counter, aux, window;
 #define NOTHING (void)0
 #define READ(index) pouch_read_byte(IMAGE, ROM, VRAM, WRAM, SAVE, SOUND, index, &byte)
 #define READ_WORD(index) pouch_read_word(IMAGE, ROM, VRAM, WRAM, SAVE, SOUND, index, &value)
+#define READ_BLOCK(index, count) pouch_read_block(IMAGE, ROM, VRAM, WRAM, SAVE, SOUND, index, block, count)
 #define WRITE(index, byte) pouch_write_byte(BUS, index, byte)
 #define WRITE_WORD(index, word) pouch_write_word(BUS, index, word)
 #define TIMER(cycles) pouch_update_timer(IMAGE, cycles)

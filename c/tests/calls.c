@@ -47,6 +47,30 @@ static void check_memories(void)
     IS(vram.at[0x2001], 0x77);
 }
 
+/* Each byte of a block is what a read gives, at the index and behind it; what stands behind the block stays. */
+static void check_read_block(void)
+{
+    static uint8_t out[POUCH_BLOCK_LEN_MAX + 1];
+    const struct {
+        uint16_t index;
+        size_t count;
+    } blocks[] = {{0x3FF0, 32}, {0x7FF0, 32}, {0x9FF0, 32}, {0xBFF0, 32}, {0xFDF0, 32}, {0xFE80, 300}, {0xC000, 0}, {0xFFFF, POUCH_BLOCK_LEN_MAX}};
+    start_mbc1(true);
+    IS(wr(0x0000, 0x0A), POUCH_DONE);
+    IS(wr(0xFF70, 2), POUCH_DONE);
+    for (uint16_t at = 0x8000; at < 0xFE00; at = (uint16_t)(at + 0x17))
+        IS(wr(at, (uint8_t)(at ^ at >> 8)), POUCH_DONE);
+    for (unsigned i = 0; i < sizeof blocks / sizeof *blocks; i++) {
+        memset(out, FILL + 1, sizeof out);
+        IS(pouch_read_block(READS, blocks[i].index, out, blocks[i].count), POUCH_DONE);
+        unsigned wrong = 0;
+        for (size_t k = 0; k < blocks[i].count; k++)
+            wrong += out[k] != rd((uint16_t)(blocks[i].index + k));
+        IS(wrong, 0);
+        IS(out[blocks[i].count], FILL + 1);
+    }
+}
+
 /* The lowest bit first. */
 static void check_interrupts(void)
 {
@@ -226,6 +250,42 @@ static void check_timer_corners(void)
     }
 }
 
+static uint32_t cycles_left(void)
+{
+    uint32_t cycles = 0xEEEEEEEE;
+    IS(pouch_cycles_to_overflow(LEND(image), &cycles), POUCH_DONE);
+    return cycles;
+}
+
+/* One cycle fewer requests nothing; from there on Timer is requested. */
+static void check_cycles_to_overflow(void)
+{
+    const struct {
+        uint8_t control, tima;
+        uint32_t gone, left;
+    } timers[] = {{0x05, 0xFF, 0, 16}, {0x05, 0xF0, 4, 252}, {0x06, 0x80, 63, 128 * 64 - 63}, {0x07, 0x01, 1, 65279}, {0x04, 0xFF, 1000, 24}};
+    for (unsigned i = 0; i < sizeof timers / sizeof *timers; i++)
+        for (unsigned more = 0; more < 3; more++) {
+            start_mbc1(false);
+            IS(cycles_left(), POUCH_NEVER);
+            IS(wr(0xFF07, timers[i].control), POUCH_DONE);
+            IS(wr(0xFF05, timers[i].tima), POUCH_DONE);
+            IS(pouch_update_timer(LEND(image), timers[i].gone), POUCH_DONE);
+            IS(cycles_left(), timers[i].left);
+            IS(pouch_update_timer(LEND(image), timers[i].left - 1 + more), POUCH_DONE);
+            IS(rd(0xFF0F), more == 0 ? 0xE1 : 0xE5);
+        }
+    start_mbc1(false);
+    IS(wr(0xFF07, 0x04), POUCH_DONE);
+    IS(cycles_left(), 256 * 1024);
+    IS(wr(0xFF05, 0xFF), POUCH_DONE);
+    IS(pouch_update_timer(LEND(image), 1000), POUCH_DONE);
+    IS(wr(0xFF07, 0x05), POUCH_DONE); /* 1,000 cycles are more than a period now */
+    IS(cycles_left(), 0);
+    IS(pouch_update_timer(LEND(image), 0), POUCH_DONE);
+    IS(rd(0xFF0F), 0xE5);
+}
+
 static void check_transfer_corners(void)
 {
     const struct {
@@ -347,6 +407,7 @@ static void check_mapper(void)
 int main(void)
 {
     check_memories();
+    check_read_block();
     check_mapper();
     check_interrupts();
     check_buttons();
@@ -355,6 +416,7 @@ int main(void)
     check_blocks();
     check_log();
     check_timer_corners();
+    check_cycles_to_overflow();
     check_transfer_corners();
     check_other_corners();
     return report("calls");

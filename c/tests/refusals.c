@@ -71,6 +71,23 @@ static uint8_t try_colors(void)
     return number;
 }
 
+static uint8_t try_read_block(void)
+{
+    uint8_t out[16];
+    memset(out, FILL, sizeof out);
+    uint8_t number = pouch_read_block(READS, 0xC000, out, sizeof out);
+    value = !all_are(out, sizeof out, FILL);
+    return number;
+}
+
+static uint8_t try_cycles_to_overflow(void)
+{
+    uint32_t cycles = 0xEEEEEEEE;
+    uint8_t number = pouch_cycles_to_overflow(LEND(image), &cycles);
+    value = cycles != 0;
+    return number;
+}
+
 #define ASKS(name, ...) static uint8_t try_##name(void) { value = 0xEEEE; return pouch_##name(__VA_ARGS__, &value); }
 #define DOES(name, ...) static uint8_t try_##name(void) { value = 0; return pouch_##name(__VA_ARGS__); }
 ASKS(read_word, READS, 0x0000)
@@ -110,12 +127,12 @@ static const struct entry {
     int lends;
 } entries[] = {
 #define ENTRY(name, lends) {#name ": ", try_##name, lends}
-    ENTRY(read_byte, READ), ENTRY(read_word, READ), ENTRY(read_cgb_lcd_ram, VRAM), ENTRY(write_byte, WRITE), ENTRY(write_word, WRITE),
+    ENTRY(read_byte, READ), ENTRY(read_word, READ), ENTRY(read_block, READ), ENTRY(read_cgb_lcd_ram, VRAM), ENTRY(write_byte, WRITE), ENTRY(write_word, WRITE),
     ENTRY(do_dma_transfer, WRITE), ENTRY(do_hdma, WRITE), ENTRY(load, 0), ENTRY(store, 0), ENTRY(set_joypad_state, 0),
     ENTRY(are_action_keys_enabled, 0), ENTRY(are_direction_keys_enabled, 0), ENTRY(do_lcd_control_write, 0), ENTRY(do_lcd_status_write, 0),
     ENTRY(do_scanline_write, 0), ENTRY(do_lyc_write, 0), ENTRY(compare_ly_to_lyc, 0), ENTRY(enable_screen, 0), ENTRY(disable_screen, 0),
     ENTRY(reset_window_line, 0), ENTRY(get_interrupts, 0), ENTRY(request_interrupt, 0), ENTRY(remove_interrupt, 0), ENTRY(is_hdma_enabled, 0),
-    ENTRY(update_timer, 0), ENTRY(press, 0), ENTRY(release, 0), ENTRY(update_joypad, 0), ENTRY(clear_log, 0), ENTRY(log_used, 0), ENTRY(host, 0),
+    ENTRY(update_timer, 0), ENTRY(cycles_to_overflow, 0), ENTRY(press, 0), ENTRY(release, 0), ENTRY(update_joypad, 0), ENTRY(clear_log, 0), ENTRY(log_used, 0), ENTRY(host, 0),
     ENTRY(mapper_read, ROM | SAVE), ENTRY(mapper_write, 0), ENTRY(host_numbers, 0), ENTRY(colors, 0), ENTRY(set_log_used, 0),
 };
 
@@ -282,6 +299,15 @@ static void check_numbers(void)
     REFUSED(pouch_colors(LEND(image), wram.at, 0), POUCH_WRONG_LENGTH);
     memset(image.at, 0, image.len);
     REFUSED(pouch_colors(LEND(image), wram.at, 0), POUCH_OUT_OF_RANGE);
+
+    /* 4: a block longer than all there is to read; 3 before it */
+    static uint8_t out[POUCH_BLOCK_LEN_MAX + 1];
+    memset(out, FILL, sizeof out);
+    start_mbc1(false);
+    REFUSED(pouch_read_block(READS, 0x0000, out, sizeof out), POUCH_WRONG_LENGTH);
+    memset(image.at, 0, image.len);
+    REFUSED(pouch_read_block(READS, 0x0000, out, sizeof out), POUCH_OUT_OF_RANGE);
+    IS(all_are(out, sizeof out, FILL), true);
 
     /* 5; 3 before it */
     start_mbc1(false);

@@ -54,6 +54,7 @@ entries! {
         rom: &[u8], vram: &mut [u8], wram: &mut [u8], save: &[u8], log: &[u8], sound: &[u8]);
     fn pouch_read_byte(image: &[u8], rom: &[u8], vram: &[u8], wram: &[u8], save: &[u8], sound: &[u8]; index: u16, value: &mut u8);
     fn pouch_read_word(image: &[u8], rom: &[u8], vram: &[u8], wram: &[u8], save: &[u8], sound: &[u8]; index: u16, value: &mut u16);
+    fn pouch_read_block(image: &[u8], rom: &[u8], vram: &[u8], wram: &[u8], save: &[u8], sound: &[u8]; index: u16; out: &mut [u8]);
     fn pouch_read_cgb_lcd_ram(image: &[u8], vram: &[u8]; index: u16, bank: u8, value: &mut u8);
     fn pouch_write_byte(image: &mut [u8], rom: &[u8], vram: &mut [u8], wram: &mut [u8], save: &mut [u8], log: &mut [u8], sound: &[u8];
         index: u16, byte: u8);
@@ -91,6 +92,7 @@ entries! {
     fn pouch_remove_interrupt(image: &mut [u8]; interrupt: u8);
     fn pouch_is_hdma_enabled(image: &[u8]; value: &mut u16);
     fn pouch_update_timer(image: &mut [u8]; cycles: u32);
+    fn pouch_cycles_to_overflow(image: &[u8]; value: &mut u32);
     fn pouch_press(image: &mut [u8]; button: u8);
     fn pouch_release(image: &mut [u8]; button: u8);
     fn pouch_update_joypad(image: &mut [u8];);

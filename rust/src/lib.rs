@@ -43,7 +43,7 @@ pub use cartridge::{Cartridge, MbcType};
 pub use image::{CGBColor, HostNumbers, Image, IMAGE_LEN};
 pub use interrupt::Interrupt;
 pub use joypad::{Button, Controller};
-pub use memory::{Memory, LONGEST_LOG, RECORD_LEN};
+pub use memory::{Memory, LONGEST_BLOCK, LONGEST_LOG, RECORD_LEN};
 pub use refusal::{Refusal, Written};
 pub use savelog::recover;
 pub use timer::Timer;

@@ -9,6 +9,9 @@ use std::array;
 /// The longest log, in bytes: room for 21,845 records.
 pub const LONGEST_LOG: usize = 65535;
 
+/// The longest block of bytes that is read at once: all there is to read.
+pub const LONGEST_BLOCK: usize = 65536;
+
 /// The bytes of one record in the log.
 pub const RECORD_LEN: usize = 3;
 
@@ -208,6 +211,13 @@ impl Memory {
         value
     }
 
+    /// The bytes from `index` on, as many as `out` has, each as `read_byte` gives it; FFFF is followed by 0000. Refused by `WrongLength` where
+    /// `out` is longer than `LONGEST_BLOCK`.
+    #[inline]
+    pub fn read_block(&self, index: u16, out: &mut [u8]) -> Result<(), Refusal> {
+        outcome(pouch_read_block(&self.image, &self.rom, &self.vram, &self.wram, &self.save, &self.sound, index, out)).map(|_| ())
+    }
+
     /// Refused by `NoRoom` alone: take the log off, keep it, and write again.
     #[inline]
     pub fn write_byte(&mut self, index: u16, value: u8) -> Result<Written, Refusal> {
@@ -346,6 +356,15 @@ impl Memory {
     #[inline]
     pub fn update_timer(&mut self, cycles: u32) -> Result<(), Refusal> {
         outcome(pouch_update_timer(&mut self.image, cycles)).map(|_| ())
+    }
+
+    /// How many cycles are left until TIMA overflows and requests its interrupt: an update by fewer does not, one by as many does. `None` while
+    /// TIMA does not count.
+    #[inline]
+    pub fn cycles_to_overflow(&self) -> Option<u32> {
+        let mut cycles = 0;
+        done(pouch_cycles_to_overflow(&self.image, &mut cycles));
+        (cycles != u32::MAX).then_some(cycles)
     }
 
     #[inline]

@@ -3,7 +3,7 @@
 mod common;
 
 use common::{bus, colour, monochrome, rom_byte, with_save, write};
-use pouchrattle::{Button, CGBColor, Controller, HostNumbers, Interrupt, MbcType, Memory, Timer, Written};
+use pouchrattle::{Button, CGBColor, Controller, HostNumbers, Interrupt, MbcType, Memory, Refusal, Timer, Written, LONGEST_BLOCK};
 
 fn after(mut memory: Memory, cycles: i32) -> Memory {
     Timer::new().update(cycles, &mut memory).unwrap();
@@ -181,6 +181,32 @@ fn interrupts_by_their_order() {
         assert_eq!(memory.get_interrupts(), Some(interrupt));
     }
     assert_eq!(memory.load(0xFF0F), Ok(0x1F));
+}
+
+#[test]
+fn blocks() {
+    let mut memory = colour();
+    write(&mut memory, &[(0x9FFF, 0x12), (0xC000, 0x34), (0xDFFF, 0x56), (0xFE00, 0x78)]);
+    for (index, count) in [(0x3FF0, 32), (0x9FF0, 32), (0xBFF8, 16), (0xFDF0, 32), (0xFFFF, LONGEST_BLOCK)] {
+        let mut block = vec![0xEE; count];
+        memory.read_block(index, &mut block).unwrap();
+        let reads: Vec<u8> = (0..count).map(|k| memory.read_byte(index.wrapping_add(k as u16))).collect();
+        assert!(block == reads, "{index:04X}");
+    }
+    let mut long = vec![0xEE; LONGEST_BLOCK + 1];
+    assert_eq!(memory.read_block(0, &mut long), Err(Refusal::WrongLength));
+    assert!(long.iter().all(|byte| *byte == 0xEE));
+}
+
+#[test]
+fn overflow() {
+    let mut memory = monochrome();
+    assert_eq!(memory.cycles_to_overflow(), None);
+    write(&mut memory, &[(0xFF07, 0x05), (0xFF05, 0xF0)]);
+    let memory = after(memory, 4);
+    assert_eq!(memory.cycles_to_overflow(), Some(252));
+    assert_eq!(after(memory.clone(), 251).read_byte(0xFF0F), 0xE1);
+    assert_eq!(after(memory, 252).read_byte(0xFF0F), 0xE5);
 }
 
 #[test]

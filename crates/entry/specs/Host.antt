@@ -1,18 +1,21 @@
 -- What a host asks of an image and sets in it beside the calls of the bus: the parts of the state that its drawing and its log need (document 01, "Added
 -- by us besides: .. C boundary"). A refusal changes no lent byte and gives 0.
 use mathlib.Core.Bool.{cond}
-use mathlib.Core.List.{List, _++_}
-use Prim.Native.Nat.{ℕ}
-use lib.Dec.{eqb}
+use mathlib.Core.List.{List, [], _∷_, _++_}
+use Prim.Native.Nat.{ℕ, zero, suc, _+_, _%_}
+use lib.Dec.{eqb, leb}
 use lib.IntN.{ℤ}
 use lib.ListN.{length}
+use Rattle.dispatch.specs.declared.Call.the-variants.{ReadByte}
 use Rattle.image.specs.Layout.{bit, channels, imageOf}
 use Rattle.image.specs.Load.{Stored, stored, loadCall}
 use Rattle.lcd.specs.declared.Lcd.{Lcd}
-use Rattle.memory.specs.World.{withUsed}
+use Rattle.memory.specs.World.{Fixed, withUsed}
 use Rattle.numbers.specs.Numbers.{done, outOfRange, wrongLength}
+use Rattle.registers.specs.State.{timerOf}
 use Rattle.savelog.specs.Log.{logLimit, useInRange}
-use Rattle.entry.specs.Entry.{Changed, changed}
+use Rattle.timer.specs.Overflow.{leftOf}
+use Rattle.entry.specs.Entry.{Changed, changed, Given, given, readEntry}
 
 -- The eight numbers that the host sets, screen disabled as 1 or 0; a refused image gives those of the all-zero state
 
@@ -48,6 +51,31 @@ colorsEntry i l =
     (cond (eqb (length l) colorsLen) (stored done (channels (loadCall i .state .background) ++ channels (loadCall i .state .sprites)))
     (stored wrongLength l))
     (stored (loadCall i .number) l)
+
+-- The cycles left until TIMA overflows (crates/timer/specs/Overflow.antt); a refused image gives 0
+
+unfoldable pub overflowEntry : List ℕ → Given
+overflowEntry i =
+    cond (eqb (loadCall i .number) done) (given done (leftOf (timerOf (loadCall i .state)))) (given (loadCall i .number) 0)
+
+-- A block of bytes, into what is lent for it: each is what a read gives, at the index and those behind it, and FFFF is followed by 0000. Refused as the
+-- first of them is, then by 4 if it is longer than all there is to read
+
+abbrev pub blockLimit : ℕ
+blockLimit = 65536
+
+-- f 0, f 1, .. : n numbers
+unfoldable pub listOf : (ℕ → ℕ) → ℕ → List ℕ
+listOf f zero = []
+listOf f (suc n) = listOf f n ++ (f n ∷ [])
+
+unfoldable pub blockEntry : Fixed → List ℕ → List ℕ → List ℕ → List ℕ → List ℕ → ℕ → Stored
+blockEntry x i v w s out index =
+    cond (eqb (readEntry x i v w s (ReadByte index) .number) done)
+    (cond (leb (length out) blockLimit)
+    (stored done (listOf (λ (k : ℕ). readEntry x i v w s (ReadByte ((index + k) % 65536)) .value) (length out)))
+    (stored wrongLength out))
+    (stored (readEntry x i v w s (ReadByte index) .number) out)
 
 -- The log's use, set to whole records within the longest log
 

@@ -7,7 +7,8 @@ ghost use Rattle.savelog.specs.Log.{outcome, recovery};
 ghost use lib.ListN.{length};
 ghost use Rattle.bus.specs.Fresh.{freshCall};
 ghost use Rattle.entry.specs.Entry.{changed, given, readEntry, left, worldEntry, fresh, freshEntry, usedEntry};
-ghost use Rattle.entry.specs.Host.{useEntry};
+ghost use Rattle.entry.specs.Host.{blockEntry, useEntry};
+ghost use Rattle.image.specs.Load.{stored};
 
 #[no_mangle]
 pub extern "C" fn pouch_read_byte(
@@ -44,6 +45,23 @@ pub extern "C" fn pouch_read_word(
     let read = quick_reads::read_word(image, rom, vram, wram, save, sound, index);
     *value = read.value;
     read.number
+}
+
+// From `index` on, as many bytes as `out` has.
+#[no_mangle]
+pub extern "C" fn pouch_read_block(
+    image: &[u8],
+    rom: &[u8],
+    vram: &[u8],
+    wram: &[u8],
+    save: &[u8],
+    sound: &[u8],
+    index: u16,
+    out: &mut [u8],
+) -> u8
+    ensures { λ r. ⌜ stored r (now (out .exit)) ≡ blockEntry (fixed (now (rom .entry)) (now (sound .entry))) (now (image .entry)) (now (vram .entry)) (now (wram .entry)) (now (save .entry)) (now (out .entry)) index ⌝ }
+{
+    quick_reads::block::read_block(image, rom, vram, wram, save, sound, index, out)
 }
 
 // Video memory by its bank.

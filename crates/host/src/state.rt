@@ -3,6 +3,7 @@ ghost use mathlib.Core.Path.{_≡_};
 ghost use Rattle.dispatch.specs.declared.StateCall.the-variants.{Load, Store, SetJoypadState, AreActionKeysEnabled, AreDirectionKeysEnabled, DoLcdControlWrite, DoLcdStatusWrite, DoScanlineWrite, DoLycWrite, CompareLyToLyc, EnableScreen, DisableScreen, ResetWindowLine, GetInterrupts, RequestInterrupt, RemoveInterrupt, IsHdmaEnabled, UpdateTimer, Press, Release, UpdateJoypad, ClearLog, Host};
 ghost use Rattle.lcd.specs.Lcd.{numbersOf};
 ghost use Rattle.entry.specs.Entry.{changed, stateEntry, given, askEntry};
+ghost use Rattle.entry.specs.Host.{overflowEntry};
 use lcd::Lcd;
 use quick_state::clock;
 use quick_state::fields;
@@ -148,6 +149,16 @@ pub extern "C" fn pouch_update_timer(image: &mut [u8], cycles: u32) -> u8
     ensures { λ r. ⌜ changed r (now (image .exit)) ≡ stateEntry (now (image .entry)) (UpdateTimer cycles) ⌝ }
 {
     clock::update_timer(image, cycles)
+}
+
+// The cycles left until TIMA overflows.
+#[no_mangle]
+pub extern "C" fn pouch_cycles_to_overflow(image: &[u8], value: &mut u32) -> u8
+    ensures { λ r. ⌜ given r (now (value .exit)) ≡ overflowEntry (now (image .entry)) ⌝ }
+{
+    let left = clock::cycles_to_overflow(image);
+    *value = left.cycles;
+    left.number
 }
 
 #[no_mangle]

@@ -5,14 +5,17 @@ use interrupt::Interrupt;
 use interrupt::Pending;
 use joypad::Controller;
 use memory::Clock;
+use timer::Rest;
 use timer::Timer;
 ghost use mathlib.Core.Path.{_≡_};
-ghost use Prim.Native.Nat.{_<_};
+ghost use Prim.Native.Nat.{_<_, _≤_};
 ghost use Rattle.image.specs.Layout.{imageOf};
 ghost use Rattle.image.specs.Load.{loadCall};
 ghost use Rattle.interrupt.specs.PanDocs.{firstOf};
 ghost use Rattle.joypad.specs.Joypad.{withState, actionsAnswer, directionsAnswer};
 ghost use Rattle.registers.specs.State.{loaded, timerOf, withTimer, requestedIn, removedIn, withController, polledIn};
+ghost use Rattle.timer.specs.Overflow.{leftOf};
+ghost use Rattle.timer.specs.Timer.{updated};
 ghost use Rattle.in_place.specs.Held.{Held};
 
 pub fn request_interrupt(image: &mut [u8], interrupt: Interrupt)
@@ -69,6 +72,45 @@ pub fn put_timer(image: &mut [u8], timer: Timer)
     image::put_clock(image, clock);
 }
 
+// The Rust's Timer::update. Where no step of TIMA is due, DIV and the remainders are all that changes.
+pub fn update_timer(image: &mut [u8], cycles: u32)
+    requires { ⌜ Held (now image) × (cycles ≤ 65536) ⌝ }
+    ensures { λ _. ⌜ now (image .exit) ≡ imageOf (withTimer (loadCall (now (image .entry)) .state) (updated (timerOf (loadCall (now (image .entry)) .state)) cycles)) ⌝ }
+{
+    let clock = image::clock_at(image);
+    let rest = timer::rest_after(image[0x107], clock.tima, cycles);
+    let Rest::Still(tima) = rest else {
+        update_all(image, cycles);
+        return;
+    };
+    let next = timer::count_div(image[0x104], clock.div, cycles);
+    image[0x104] = next.div;
+    let after = Clock {
+        div: next.cycles,
+        tima: tima,
+    };
+    image::put_clock(image, after);
+}
+
+fn update_all(image: &mut [u8], cycles: u32)
+    requires { ⌜ Held (now image) × (cycles ≤ 65536) ⌝ }
+    ensures { λ _. ⌜ now (image .exit) ≡ imageOf (withTimer (loadCall (now (image .entry)) .state) (updated (timerOf (loadCall (now (image .entry)) .state)) cycles)) ⌝ }
+{
+    let timer = timer_at(image);
+    let updated = timer::update(timer, cycles);
+    let after = updated.timer;
+    put_timer(image, after);
+}
+
+// How many cycles are left until TIMA overflows.
+pub fn cycles_to_overflow(image: &[u8]) -> u32
+    requires { ⌜ Held (now image) ⌝ }
+    ensures { λ r. ⌜ r ≡ leftOf (timerOf (loadCall (now (image .entry)) .state)) ⌝ }
+{
+    let clock = image::clock_at(image);
+    timer::cycles_to_overflow(image[0x107], image[0x105], clock.tima)
+}
+
 pub fn controller_at(image: &[u8]) -> Controller
     requires { ⌜ Held (now image) ⌝ }
     ensures { λ r. ⌜ r ≡ loadCall (now (image .entry)) .state .core .joypad ⌝ }
@@ -99,10 +141,17 @@ pub fn update_joypad(image: &mut [u8])
     ensures { λ _. ⌜ now (image .exit) ≡ imageOf (polledIn (loadCall (now (image .entry)) .state)) ⌝ }
 {
     let controller = controller_at(image);
-    let polled = controller.update(image[0x100], image[0x10F]);
-    image[0x10F] = polled.flags;
-    let after = polled.controller;
-    image::put_joypad(image, after);
+    if controller.is_marked() {
+        let polled = controller.update(image[0x100], image[0x10F]);
+        image[0x10F] = polled.flags;
+        let after = polled.controller;
+        image::put_joypad(image, after);
+        return;
+    }
+    if controller.state != controller.released {
+        let next = controller.set_joypad_state(controller.released);
+        image::put_joypad(image, next);
+    }
 }
 
 pub fn are_action_keys_enabled(image: &[u8]) -> bool

@@ -11,6 +11,9 @@ ghost use Rattle.mmu.specs.Access.{Ready, readByte};
 ghost use Rattle.refusals.specs.Refusal.{orElse, lengthsRefused, readRefused};
 ghost use Rattle.entry.specs.Entry.{given, readEntry};
 ghost use Rattle.quick_reads.specs.Reads.{Lent, Others};
+
+pub mod block;
+
 use mbc::Mapper;
 use memory::Region;
 use refusals::Byte;

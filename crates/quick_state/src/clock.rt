@@ -1,7 +1,14 @@
-// The timer's call.
+// The timer's calls.
 ghost use mathlib.Core.Path.{_≡_};
 ghost use Rattle.dispatch.specs.declared.StateCall.the-variants.{UpdateTimer};
-ghost use Rattle.entry.specs.Entry.{changed, stateEntry};
+ghost use Rattle.entry.specs.Entry.{changed, stateEntry, given};
+ghost use Rattle.entry.specs.Host.{overflowEntry};
+
+// An image's number, and the cycles left until TIMA overflows.
+pub struct Left {
+    pub number: u8,
+    pub cycles: u32,
+}
 
 // The Rust's Timer::update. Cycles over 65,536 are refused by 5, after the image.
 pub fn update_timer(image: &mut [u8], cycles: u32) -> u8
@@ -15,9 +22,23 @@ pub fn update_timer(image: &mut [u8], cycles: u32) -> u8
     if own != numbers::DONE {
         return own;
     }
-    let timer = in_place::interrupts::timer_at(image);
-    let updated = timer::update(timer, cycles);
-    let after = updated.timer;
-    in_place::interrupts::put_timer(image, after);
+    in_place::interrupts::update_timer(image, cycles);
     numbers::DONE
+}
+
+// `timer::NEVER` where TIMA does not count; 0 for a refused image.
+pub fn cycles_to_overflow(image: &[u8]) -> Left
+    ensures { λ r. ⌜ given (r .number) (r .cycles) ≡ overflowEntry (now (image .entry)) ⌝ }
+{
+    let number = image::number(image);
+    if number != numbers::DONE {
+        return Left {
+            number: number,
+            cycles: 0,
+        };
+    }
+    Left {
+        number: numbers::DONE,
+        cycles: in_place::interrupts::cycles_to_overflow(image),
+    }
 }
