@@ -1,8 +1,9 @@
 // Byte and word reads of an image and what is lent. Of the state only what says where the byte is, is decoded; a byte of OAM or of the page is taken from the
 // image itself.
+ghost use mathlib.Core.Bool.{true};
 ghost use mathlib.Core.List.{List, []};
 ghost use mathlib.Core.Path.{_≡_};
-ghost use Prim.Native.Nat.{ℕ};
+ghost use Prim.Native.Nat.{ℕ, _+_, _*_};
 ghost use Rattle.dispatch.specs.declared.Call.the-variants.{ReadByte, ReadWord, ReadCgbLcdRam};
 ghost use Rattle.image.specs.Load.{loadCall};
 ghost use Rattle.memory.specs.Region.{regionOf};
@@ -10,7 +11,7 @@ ghost use Rattle.memory.specs.World.{world, fixed};
 ghost use Rattle.mmu.specs.Access.{Ready, readByte};
 ghost use Rattle.refusals.specs.Refusal.{orElse, lengthsRefused, readRefused};
 ghost use Rattle.entry.specs.Entry.{given, readEntry};
-ghost use Rattle.quick_reads.specs.Reads.{Lent, Others};
+ghost use Rattle.quick_reads.specs.Reads.{Lent, Others, Reached, Near, Own};
 
 pub mod block;
 
@@ -53,7 +54,7 @@ fn number(image: &[u8], rom: usize, vram: usize, wram: usize, save: usize, sound
     lengths(image, rom, vram, wram, save, sound)
 }
 
-// A byte of the save, through the mapper, or of OAM or page: these are the first 512 bytes of an image, so FE00 is its first. Apart from `byte_at`, which
+// A byte of the save, through the mapper, or of OAM or page: these are the first 512 bytes of an image, so FE00 is its first. Apart from `lent_at`, which
 // stays small enough to be put in place where it is called.
 pub fn other_at(image: &[u8], save: &[u8], sound: &[u8], index: u16) -> u8
     requires { ⌜ Lent (now image) (now save) (now sound) × (Others (regionOf index)) ⌝ }
@@ -67,6 +68,9 @@ pub fn other_at(image: &[u8], save: &[u8], sound: &[u8], index: u16) -> u8
         Region::Page => {
             let i = (index - 0xFE00) as usize;
             let byte = image[i];
+            if 0xFF80 <= index {
+                return byte;
+            }
             let banks = image::banks_at(image);
             let line = registers::page::read_line(image::lcd_at(image));
             let joypad = image::joypad_at(image);
@@ -87,6 +91,48 @@ pub fn other_at(image: &[u8], save: &[u8], sound: &[u8], index: u16) -> u8
     }
 }
 
+// Called from one place, so that what `other_at` is given is stored there, and not by every read.
+fn apart_at(image: &[u8], save: &[u8], sound: &[u8], index: u16) -> u8
+    requires { ⌜ Lent (now image) (now save) (now sound) × (Others (regionOf index)) ⌝ }
+    ensures { λ r. ⌜ ((rom v w : List ℕ) → r ≡ readByte (fixed rom (now (sound .entry))) (loadCall (now (image .entry)) .state) v w (now (save .entry)) index) ⌝ }
+{
+    other_at(image, save, sound, index)
+}
+
+// Whether a byte is the image's, as it is stored: OAM, and high memory.
+fn is_own(index: u16) -> bool
+    ensures { λ r. ⌜ (r ≡ true → Own index) ⌝ }
+{
+    if 0xFF80 <= index {
+        return true;
+    }
+    if index < 0xFE00 {
+        return false;
+    }
+    index < 0xFF00
+}
+
+// A byte of ROM, video or work memory.
+fn lent_at(image: &[u8], rom: &[u8], vram: &[u8], wram: &[u8], index: u16) -> u8
+    requires { ⌜ Reached (now image) (now rom) (now vram) (now wram) × (Near (regionOf index)) ⌝ }
+    ensures { λ r. ⌜ ((s sound : List ℕ) → r ≡ readByte (fixed (now (rom .entry)) sound) (loadCall (now (image .entry)) .state) (now (vram .entry)) (now (wram .entry)) s index) ⌝ }
+{
+    match memory::region_of(index) {
+        Region::Rom => {
+            let registers = image::registers_at(image);
+            rom[mbc::rom_place(registers.rom, index)]
+        }
+        Region::Vram => {
+            let banks = image::banks_at(image);
+            mmu::regions::read_cgb_lcd_ram(vram, banks.vram, index)
+        }
+        _ => {
+            let banks = image::banks_at(image);
+            mmu::regions::read_cgb_wram(wram, banks.wram, index)
+        }
+    }
+}
+
 pub fn byte_at(
     image: &[u8],
     rom: &[u8],
@@ -100,23 +146,20 @@ pub fn byte_at(
     ensures { λ r. ⌜ r ≡ readByte (fixed (now (rom .entry)) (now (sound .entry))) (loadCall (now (image .entry)) .state) (now (vram .entry)) (now (wram .entry)) (now (save .entry)) index ⌝ }
 {
     match memory::region_of(index) {
-        Region::Rom => {
-            let registers = image::registers_at(image);
-            rom[mbc::rom_place(registers.rom, index)]
-        }
-        Region::Vram => {
-            let banks = image::banks_at(image);
-            mmu::regions::read_cgb_lcd_ram(vram, banks.vram, index)
-        }
-        Region::Wram => {
-            let banks = image::banks_at(image);
-            mmu::regions::read_cgb_wram(wram, banks.wram, index)
-        }
+        Region::Rom | Region::Vram | Region::Wram => lent_at(image, rom, vram, wram, index),
         _ => other_at(image, save, sound, index),
     }
 }
 
-pub fn read_byte(
+// Low byte first.
+fn joined(low: u8, high: u8) -> u16
+    ensures { λ r. ⌜ r ≡ low + high * 256 ⌝ }
+{
+    low as u16 + high as u16 * 256
+}
+
+// Every image, and every refusal.
+fn plain_byte(
     image: &[u8],
     rom: &[u8],
     vram: &[u8],
@@ -148,8 +191,7 @@ pub fn read_byte(
     }
 }
 
-// Low byte first; FFFF is followed by 0000.
-pub fn read_word(
+fn plain_word(
     image: &[u8],
     rom: &[u8],
     vram: &[u8],
@@ -177,11 +219,85 @@ pub fn read_word(
     let low = byte_at(image, rom, vram, wram, save, sound, index);
     let above = std::num::wrapping_add_u16(index, 1);
     let high = byte_at(image, rom, vram, wram, save, sound, above);
-    let word = low as u16 + high as u16 * 256;
+    let word = joined(low, high);
     Word {
         number: numbers::DONE,
         value: word,
     }
+}
+
+// Where the tests that are enough pass, nothing refuses; what fails one is read plainly.
+pub fn read_byte(
+    image: &[u8],
+    rom: &[u8],
+    vram: &[u8],
+    wram: &[u8],
+    save: &[u8],
+    sound: &[u8],
+    index: u16,
+) -> Byte
+    ensures { λ r. ⌜ given (r .number) (r .value) ≡ readEntry (fixed (now (rom .entry)) (now (sound .entry))) (now (image .entry)) (now (vram .entry)) (now (wram .entry)) (now (save .entry)) (ReadByte index) ⌝ }
+{
+    if image::mapper_surely_fits(image, rom.len(), save.len()) {
+        if image::rest_surely_fits(image, vram.len(), wram.len()) {
+            if sound.len() == 48 {
+                match memory::region_of(index) {
+                    Region::Rom | Region::Vram | Region::Wram => {
+                        let byte = lent_at(image, rom, vram, wram, index);
+                        return Byte {
+                            number: numbers::DONE,
+                            value: byte,
+                        };
+                    }
+                    _ => {
+                        if is_own(index) {
+                            let i = (index - 0xFE00) as usize;
+                            let byte = image[i];
+                            return Byte {
+                                number: numbers::DONE,
+                                value: byte,
+                            };
+                        }
+                        let byte = apart_at(image, save, sound, index);
+                        return Byte {
+                            number: numbers::DONE,
+                            value: byte,
+                        };
+                    }
+                }
+            }
+        }
+    }
+    plain_byte(image, rom, vram, wram, save, sound, index)
+}
+
+// Low byte first; FFFF is followed by 0000.
+pub fn read_word(
+    image: &[u8],
+    rom: &[u8],
+    vram: &[u8],
+    wram: &[u8],
+    save: &[u8],
+    sound: &[u8],
+    index: u16,
+) -> Word
+    ensures { λ r. ⌜ given (r .number) (r .value) ≡ readEntry (fixed (now (rom .entry)) (now (sound .entry))) (now (image .entry)) (now (vram .entry)) (now (wram .entry)) (now (save .entry)) (ReadWord index) ⌝ }
+{
+    if image::mapper_surely_fits(image, rom.len(), save.len()) {
+        if image::rest_surely_fits(image, vram.len(), wram.len()) {
+            if sound.len() == 48 {
+                let low = byte_at(image, rom, vram, wram, save, sound, index);
+                let above = std::num::wrapping_add_u16(index, 1);
+                let high = byte_at(image, rom, vram, wram, save, sound, above);
+                let word = joined(low, high);
+                return Word {
+                    number: numbers::DONE,
+                    value: word,
+                };
+            }
+        }
+    }
+    plain_word(image, rom, vram, wram, save, sound, index)
 }
 
 // Video memory by its bank.

@@ -1,9 +1,5 @@
--- By the region: one law for each.
-use mathlib.Core.Path.{sym, _∙_}
-use native.Mathlib.Omega.{arith}
-use Rattle.image.proofs.OpenLaws.{load-length}
-use Rattle.memory.proofs.Regions.{within}
-use Rattle.quick_reads.proofs.ReadLaws.{byte-rom, rom-place-below, byte-vram, vram-reaches, byte-wram, wram-reaches, ready-lent, others-left}
+-- By the region: lent, or another.
+use Rattle.quick_reads.proofs.ReadLaws.{ready-reached, near-left, ready-lent, others-left}
 use borrow.Author.Needs.{needs}
 use Rattle.quick_reads.proofs.byte_at.Statement.{statement}
 use Rattle.quick_reads.proofs.byte_at.Tie as tie
@@ -11,51 +7,17 @@ use Rattle.quick_reads.proofs.byte_at.Tie as tie
 region-of-requires : tie.Need-region-of-requires
 region-of-requires c κs = search needs
 
-enum-told : tie.Need-enum-told
-enum-told c = search needs
-
-registers-at-requires : tie.Need-registers-at-requires
-registers-at-requires c κs = load-length _ (c .before .before .before .before .before .before .before .before .before .pre .0)
-
-rom-place-requires : tie.Need-rom-place-requires
-rom-place-requires c κs = search needs
-
-shared-slice-read-result : tie.Need-shared-slice-read-result
-shared-slice-read-result c = let p = c .before .rom-place .ensures in
-    omega (arith, rw (c .before .before .registers-at .ensures) at p, rom-place-below _ (c .before .before .before .before .before .before .before .before .before .before .before .before .pre .0) (λ k. c .before .before .before .before .before .before .before .before .before .before .before .shared-slice-known .given k .fits) _ (sym (c .before .before .before .before .before .region-of .ensures) ∙ c .before .before .before .enum-told .given .1), c .before .before .before .before .before .before .before .before .before .before .before .before .pre .1 .rom)
-
-enum-told-2 : tie.Need-enum-told-2
-enum-told-2 c = search needs
-
-banks-at-requires : tie.Need-banks-at-requires
-banks-at-requires c κs = load-length _ (c .before .before .before .before .before .before .before .before .before .pre .0)
-
-read-cgb-lcd-ram-requires : tie.Need-read-cgb-lcd-ram-requires
-read-cgb-lcd-ram-requires c κs = (within _ (sym (c .before .before .before .region-of .ensures) ∙ c .before .enum-told2 .given .1), rw (c .banks-at .ensures) (vram-reaches _ (c .before .before .before .before .before .before .before .before .before .before .pre .0) (λ k. c .before .before .before .before .before .before .before .before .before .shared-slice-known .given k .fits) (c .before .before .before .before .before .before .before .before .before .before .pre .1)))
-
-enum-told-3 : tie.Need-enum-told-3
-enum-told-3 c = search needs
-
-banks-at-requires-2 : tie.Need-banks-at-requires-2
-banks-at-requires-2 c κs = load-length _ (c .before .before .before .before .before .before .before .before .before .pre .0)
-
-read-cgb-wram-requires : tie.Need-read-cgb-wram-requires
-read-cgb-wram-requires c κs = (within _ (sym (c .before .before .before .region-of .ensures) ∙ c .before .enum-told3 .given .1), rw (c .banks-at2 .ensures) (wram-reaches _ (c .before .before .before .before .before .before .before .before .before .before .pre .0) (λ k. c .before .before .before .before .before .before .before .before .before .shared-slice-known .given k .fits) (c .before .before .before .before .before .before .before .before .before .before .pre .1)))
+lent-at-requires : tie.Need-lent-at-requires
+lent-at-requires c κs = (ready-reached _ (c .before .before .before .before .before .before .before .before .pre .0) (λ k. c .before .before .before .before .before .before .before .shared-slice-known .given k .fits) (c .before .before .before .before .before .before .before .before .pre .1), near-left (c .before .region-of .ensures) (c .match .keys1))
 
 other-at-requires : tie.Need-other-at-requires
-other-at-requires c κs = (ready-lent _ (c .before .before .before .before .before .before .before .before .pre .0) (λ k. c .before .before .before .before .before .before .before .shared-slice-known .given k .fits) (c .before .before .before .before .before .before .before .before .pre .1), others-left (c .before .region-of .ensures) (c .match .keys4))
+other-at-requires c κs = (ready-lent _ (c .before .before .before .before .before .before .before .before .pre .0) (λ k. c .before .before .before .before .before .before .before .shared-slice-known .given k .fits) (c .before .before .before .before .before .before .before .before .pre .1), others-left (c .before .region-of .ensures) (c .match .keys2))
 
 returns : tie.Need-returns
-returns c = rw (c .before .rom-place .ensures, c .before .before .registers-at .ensures) (byte-rom _ (c .before .before .before .before .before .before .before .before .before .before .before .before .pre .0) (λ k. c .before .before .before .before .before .before .before .before .before .before .before .shared-slice-known .given k .fits) _ _ _ _ _ (sym (c .before .before .before .before .before .region-of .ensures) ∙ c .before .before .before .enum-told .given .1))
+returns c = c .lent-at .ensures _ _
 
 returns-2 : tie.Need-returns-2
-returns-2 c = (c .read-cgb-lcd-ram .ensures ∙ rw (c .before .banks-at .ensures)) ∙ byte-vram _ (c .before .before .before .before .before .before .before .before .before .before .before .pre .0) (λ k. c .before .before .before .before .before .before .before .before .before .before .shared-slice-known .given k .fits) _ _ _ _ _ (sym (c .before .before .before .before .region-of .ensures) ∙ c .before .before .enum-told2 .given .1)
-
-returns-3 : tie.Need-returns-3
-returns-3 c = (c .read-cgb-wram .ensures ∙ rw (c .before .banks-at2 .ensures)) ∙ byte-wram _ (c .before .before .before .before .before .before .before .before .before .before .before .pre .0) (λ k. c .before .before .before .before .before .before .before .before .before .before .shared-slice-known .given k .fits) _ _ _ _ _ (sym (c .before .before .before .before .region-of .ensures) ∙ c .before .before .enum-told3 .given .1)
-
-returns-4 : tie.Need-returns-4
-returns-4 c = c .other-at .ensures _ _ _
+returns-2 c = c .other-at .ensures _ _ _
 
 pub byte-at-spec : {M : Type 1} → statement M
-byte-at-spec = tie.close (tie.spec region-of-requires enum-told registers-at-requires rom-place-requires shared-slice-read-result enum-told-2 banks-at-requires read-cgb-lcd-ram-requires enum-told-3 banks-at-requires-2 read-cgb-wram-requires other-at-requires returns returns-2 returns-3 returns-4)
+byte-at-spec = tie.close (tie.spec region-of-requires lent-at-requires other-at-requires returns returns-2)
