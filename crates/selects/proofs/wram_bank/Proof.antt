@@ -1,8 +1,8 @@
 -- By the three bits.
-use Rattle.registers.specs.PanDocs.{wramBankOf}
+use Rattle.selects.specs.PanDocs.{wramBankOf}
 use Rattle.rules.proofs.Tests.{tests}
-use Rattle.registers.proofs.colour.wram_bank.Statement.{statement}
-use Rattle.registers.proofs.colour.wram_bank.Tie as tie
+use Rattle.selects.proofs.wram_bank.Statement.{statement}
+use Rattle.selects.proofs.wram_bank.Tie as tie
 
 returns : tie.Need-returns
 unfolding wramBankOf
