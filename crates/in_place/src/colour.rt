@@ -1,8 +1,9 @@
 // The registers that only a colour machine has, on the image: monochrome just stores them.
 use crate::store;
 use memory::Banks;
-use registers::colour::speed;
-use registers::colour::wram_bank;
+use selects::speed;
+use selects::vram_bank;
+use selects::wram_bank;
 ghost use mathlib.Core.Bool.{true};
 ghost use mathlib.Core.Path.{_≡_};
 ghost use lib.ListN.{set};
@@ -56,7 +57,7 @@ pub fn write_vram_bank(image: &mut [u8], value: u8)
 {
     let mut banks = banks_at(image);
     if banks.colour {
-        banks.vram = value % 2;
+        banks.vram = vram_bank(value);
         put_banks(image, 0x4F, value % 2, banks);
         return;
     }

@@ -1,19 +1,7 @@
--- From Pan Docs: what FF4D, FF4F and FF70 keep and select ("CGB Registers"), which bits read 1, and the ends of OAM DMA and of video memory.
-use mathlib.Core.Bool.{cond}
-use Prim.Native.Nat.{ℕ, _+_, _*_, _/_, _%_}
-use lib.Dec.{eqb}
-
--- FF4D: bit 7 the speed, read-only; bit 0 armed. That the other bits are stored as 1 (7E) is the Rust's
-abbrev pub speedOf : ℕ → ℕ → ℕ
-speedOf current value = current / 128 * 128 + value % 2 + 126
-
--- FF4F: bit 0 selects the bank of video memory
-abbrev pub vramBankOf : ℕ → ℕ
-vramBankOf value = value % 2
-
--- FF70: bits 2..0 select the bank of work memory at D000; 0 selects 1
-unfoldable pub wramBankOf : ℕ → ℕ
-wramBankOf value = cond (eqb (value % 8) 0) 1 (value % 8)
+-- From Pan Docs: which bits read 1, and the ends of OAM DMA and of video memory; with what FF4D, FF4F and FF70 keep and select (crate selects).
+use Prim.Native.Nat.{ℕ}
+pub use Rattle.selects.specs.PanDocs.{speedOf, vramBankOf}
+unfoldable pub use Rattle.selects.specs.PanDocs.{wramBankOf}
 
 -- Bits that read 1: FF0F's upper three ("Interrupts"), FF41's bit 7 ("LCD Status Registers"), FF4F's bits 7..1 ("CGB Registers")
 

@@ -1,17 +1,12 @@
 // The registers that only a colour machine has: monochrome just stores them.
 ghost use mathlib.Core.Path.{_≡_};
-ghost use Rattle.registers.specs.PanDocs.{speedOf, wramBankOf};
 ghost use Rattle.registers.specs.Colour.{speedPut, vramBankPut, wramBankPut, backgroundOf, withBackgroundPalette, spritesOf, withSpritePalette, backgroundIndexPut, backgroundDataPut, spriteIndexPut, spriteDataPut};
 use crate::store;
 use memory::Memory;
 use palette::Palette;
-
-// Bit 7 stays, bit 0 is armed, the others read 1.
-pub fn speed(current: u8, value: u8) -> u8
-    ensures { λ r. ⌜ r ≡ speedOf current value ⌝ }
-{
-    current / 128 * 128 + value % 2 + 126
-}
+use selects::speed;
+use selects::vram_bank;
+use selects::wram_bank;
 
 // FF4D.
 pub fn write_speed(memory: Memory, value: u8) -> Memory
@@ -31,7 +26,7 @@ pub fn write_vram_bank(memory: Memory, value: u8) -> Memory
 {
     let mut banks = memory.core.banks;
     if banks.colour {
-        banks.vram = value % 2;
+        banks.vram = vram_bank(value);
         let mut core = memory.core;
         core.banks = banks;
         let mut next = memory;
@@ -40,17 +35,6 @@ pub fn write_vram_bank(memory: Memory, value: u8) -> Memory
         return next;
     }
     store(memory, 0x4F, value)
-}
-
-// The bank that FF70 selects: 0 selects 1.
-pub fn wram_bank(value: u8) -> u8
-    ensures { λ r. ⌜ r ≡ wramBankOf value ⌝ }
-{
-    let bank = value % 8;
-    if bank == 0 {
-        return 1;
-    }
-    bank
 }
 
 // FF70.

@@ -15,16 +15,19 @@ use Rattle.in_place.proofs.colour.write_vram_bank.Tie as tie
 banks-at-requires : tie.Need-banks-at-requires
 banks-at-requires c κs = search needs
 
+vram-bank-requires : tie.Need-vram-bank-requires
+vram-bank-requires c κs = search needs
+
 put-banks-requires : tie.Need-put-banks-requires
 unfolding vramBankPut
-put-banks-requires c κs = (c .before .before .before .before .before .pre, bank-storable _ (c .before .before .before .before .before .pre) 0x4F (omega arith) (c .before .before .before .before .before .args .value) _ (λ (b : Banks). record { colour = b .colour; vram = vramBankOf (c .before .before .before .before .before .args .value); wram = b .wram }) (c .before .before .banks-at .ensures) (c .before .if1 .taken) refl (in-kept is.VramBank _ 0x4F _))
+put-banks-requires c κs = (c .before .before .before .before .before .before .pre, bank-storable _ (c .before .before .before .before .before .before .pre) 0x4F (omega arith) (c .before .before .before .before .before .before .args .value) _ (λ (b : Banks). record { colour = b .colour; vram = vramBankOf (c .before .before .before .before .before .before .args .value); wram = b .wram }) (c .before .before .before .banks-at .ensures) (c .before .before .if1 .taken) (rw (c .before .vram-bank .ensures)) (in-kept is.VramBank _ 0x4F _))
 
 same-length : tie.Need-same-length
 same-length c = search needs
 
 returns : tie.Need-returns
 unfolding vramBankPut
-returns c = bank-written _ (c .before .before .before .before .before .before .before .before .pre) 0x4F (omega arith) (c .before .before .before .before .before .before .before .before .args .value) _ (λ (b : Banks). record { colour = b .colour; vram = vramBankOf (c .before .before .before .before .before .before .before .before .args .value); wram = b .wram }) (c .before .before .before .before .before .banks-at .ensures) (c .before .before .before .before .if1 .taken) refl (c .before .before .put-banks .ensures)
+returns c = bank-written _ (c .before .before .before .before .before .before .before .before .before .pre) 0x4F (omega arith) (c .before .before .before .before .before .before .before .before .before .args .value) _ (λ (b : Banks). record { colour = b .colour; vram = vramBankOf (c .before .before .before .before .before .before .before .before .before .args .value); wram = b .wram }) (c .before .before .before .before .before .before .banks-at .ensures) (c .before .before .before .before .before .if1 .taken) (rw (c .before .before .before .before .vram-bank .ensures)) (c .before .before .put-banks .ensures)
 
 store-requires : tie.Need-store-requires
 store-requires c κs = search needs
@@ -41,6 +44,7 @@ write-vram-bank-spec =
     tie.close
     (tie.spec
     banks-at-requires
+    vram-bank-requires
     put-banks-requires
     same-length
     returns

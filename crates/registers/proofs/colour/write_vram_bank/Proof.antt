@@ -6,12 +6,15 @@ use borrow.Author.Needs.{needs}
 use Rattle.registers.proofs.colour.write_vram_bank.Statement.{statement}
 use Rattle.registers.proofs.colour.write_vram_bank.Tie as tie
 
+vram-bank-requires : tie.Need-vram-bank-requires
+vram-bank-requires c κs = search needs
+
 element-write-next : tie.Need-element-write-next
 element-write-next c = search needs
 
 returns : tie.Need-returns
 unfolding vramBankPut
-returns c = rw (c .before .if1 .taken)
+returns c = rw (c .before .before .if1 .taken, c .before .vram-bank .ensures)
 
 store-requires : tie.Need-store-requires
 store-requires c κs = search needs
@@ -21,4 +24,5 @@ unfolding vramBankPut
 returns-2 c = c .store .ensures ∙ sym (cond-false _ _ _ (c .before .if1 .left))
 
 pub write-vram-bank-spec : {M : Type 1} → statement M
-write-vram-bank-spec = tie.close (tie.spec element-write-next returns store-requires returns-2)
+write-vram-bank-spec =
+    tie.close (tie.spec vram-bank-requires element-write-next returns store-requires returns-2)
