@@ -67,7 +67,7 @@ wram-lt : (b : Banks) → banksInRange b ≡ true → (b .vram < 2) × (b .wram 
 wram-lt b h = banks-lt (b .colour) (b .vram) (b .wram) (vram-fits b h) (wram-fits b h)
 
 kind-lt : (m : Mapper) → registersOf m .kind < 4
-kind-lt m = let h : registersOf m .kind ≤ mbc.kindMbc2 = leb-true (registersOf m .kind) mbc.kindMbc2 (registers-known m) in omega (arith, h)
+kind-lt m = let h = leb-true (registersOf m .kind) _ (registers-known m) in omega (arith, h)
 
 -- N to 128 has a logarithm to 7
 abbrev Low : List ℕ → Type 0
