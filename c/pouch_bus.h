@@ -59,6 +59,14 @@ static inline uint16_t pouch_bus_read_word(struct pouch_bus *bus, uint16_t index
     return value;
 }
 
+static inline uint8_t pouch_bus_read_block(struct pouch_bus *bus, uint16_t index, uint8_t *out, size_t out_len)
+{
+    bus->number = pouch_read_block(
+        bus->image, sizeof bus->image, bus->rom, bus->rom_len, bus->vram, bus->vram_len, bus->wram, bus->wram_len, bus->save, bus->save_len, bus->sound,
+        POUCH_SOUND_LEN, index, out, out_len);
+    return bus->number;
+}
+
 static inline uint8_t pouch_bus_write(struct pouch_bus *bus, uint16_t index, uint8_t byte)
 {
     bus->number = pouch_write_byte(

@@ -32,7 +32,7 @@ OneShown =
     (o : Shown) (n d l s m n′ d′ l′ s′ m′ : ℕ) (y c a w y′ c′ a′ w′ : ℤ) → shown n d l s m y c a w ≡ o → shown n′ d′ l′ s′ m′ y′ c′ a′ w′ ≡ o
     → (n ≡ n′) × (d ≡ d′) × (l ≡ l′) × (s ≡ s′) × (m ≡ m′) × (y ≡ y′) × (c ≡ c′) × (a ≡ a′) × (w ≡ w′)
 
--- the colours, and the image's store
+-- the colours, a block of reads, and the image's store
 abbrev pub OneStored : Type 0
 OneStored = (o : Stored) (m n : ℕ) (i j : List ℕ) → stored m i ≡ o → stored n j ≡ o → (m ≡ n) × (i ≡ j)
 

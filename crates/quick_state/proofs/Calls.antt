@@ -16,7 +16,7 @@ use Rattle.entry.specs.Entry.{Given, changed, stateEntry, given, askEntry}
 use Rattle.image.proofs.OpenLaws.{load-range}
 use Rattle.image.specs.Layout.{imageOf}
 use Rattle.image.specs.Load.{loadCall}
-use Rattle.in_place.proofs.Images.{state, held}
+use Rattle.in_place.proofs.Images.{state}
 use Rattle.in_place.specs.Held.{Held}
 use Rattle.input_calls.proofs.Cycles.{cycles-pass}
 use Rattle.input_calls.specs.Input.{buttonCall}
@@ -31,20 +31,13 @@ use Rattle.joypad.specs.declared.Pressed.{Pressed}
 use Rattle.joypad.specs.declared.buttons.Button.{Button}
 use Rattle.joypad.specs.declared.buttons.Named.{Named}
 use Rattle.joypad.specs.declared.buttons.Named.the-variants as button
-use Rattle.memory.proofs.Laws.{range-clock}
 use Rattle.memory.specs.declared.Memory.{Memory}
 use Rattle.packing.specs.Packing.{Below}
-use Rattle.refusals.proofs.Answers.{range-state}
 use Rattle.refusals.specs.Answers as answer
 use Rattle.refusals.specs.Refusal.{orElse, stateRefused, refusedState, rawRefused, cyclesRefused}
 use Rattle.registers.specs.State.{loaded, timerOf, withTimer, withController}
-use Rattle.savelog.specs.Log.{logLimit}
 use Rattle.state_calls.specs.State.{onInterrupt}
-use Rattle.timer.proofs.Laws.{call-done, update-ready}
-use Rattle.timer.specs.Promises.{Ready}
-use Rattle.timer.specs.Timer.{updated, updateCall}
-use Rattle.timer.specs.declared.Timer.{Timer}
-use Rattle.timer.specs.declared.Updated.{Updated}
+use Rattle.timer.specs.Timer.{updated}
 
 -- By the image's number
 
@@ -165,27 +158,15 @@ module _ (i : List ℕ) (h : Held i) where
 
   -- The timer
 
-  ready : Ready (timerOf (state i h))
-  ready =
-      let t = held i h .typed in
-      let k = range-clock (state i h) (range-state (state i h) logLimit (load-range i (h .1) (h .0))) in
-      let p = t .page .1 in
-      record { div = p 0x04; tima = p 0x05; tma = p 0x06; tac = p 0x07; flags = p 0x0F; div-cycles = t .div; tima-cycles = omega arith }
-
   module _ (n : ℕ) {k : ℕ} (e : k ≡ cyclesRefused n) where
     pub timer-refused : (k ≡ 0 → ⊥) → changed k i ≡ stateEntry i (on.UpdateTimer n)
     unfolding stateStep
     timer-refused z = own-refused (on.UpdateTimer n) _ refl e (cycles-due z n e)
 
-    module _ (z : k ≡ 0) {t : Timer} (a : t ≡ timerOf (state i h)) {r : Updated} (f : r ≡ updateCall t n) where
-      after : r .timer ≡ updated (timerOf (state i h)) n
-      after =
-          let d = call-done (timerOf (state i h)) n (ready .tima-cycles) (cycles-pass n (sym e ∙ z)) in
-          ap (λ (u : Updated). u .timer) (f ∙ ap (λ (u : Timer). updateCall u n) a ∙ d)
+    module _ (z : k ≡ 0) where
+      pub cycles-below : n ≤ 65536
+      cycles-below = cycles-pass n (sym e ∙ z)
 
-      pub after-below : r .timer .«tima_cycles» < 1024
-      after-below = rw after (update-ready (timerOf (state i h)) n ready .tima-cycles)
-
-      pub timer-done : {j : List ℕ} → j ≡ imageOf (withTimer (state i h) (r .timer)) → changed 0 j ≡ stateEntry i (on.UpdateTimer n)
+      pub timer-done : {j : List ℕ} → j ≡ imageOf (withTimer (state i h) (updated (timerOf (state i h)) n)) → changed 0 j ≡ stateEntry i (on.UpdateTimer n)
       unfolding stateStep
-      timer-done g = own-done (on.UpdateTimer n) _ refl e z (g ∙ ap (λ (u : Timer). imageOf (withTimer (state i h) u)) after)
+      timer-done g = own-done (on.UpdateTimer n) _ refl e z g

@@ -1,4 +1,4 @@
--- The log's use, HDMA's flag and the screen's numbers: fields of the state that was loaded, and the image with the use put.
+-- The log's use, HDMA's flag, the cycles left and the screen's numbers: fields of the state that was loaded, and the image with the use put.
 use mathlib.Core.Bool.{Bool, true, false, not}
 use mathlib.Core.List.{List}
 use mathlib.Core.Path.{_≡_, refl, sym, ap, _∙_}
@@ -11,7 +11,7 @@ use Rattle.dispatch.specs.declared.StateCall.the-variants as on
 use Rattle.entry.proofs.Entries.{unloaded-state}
 use Rattle.entry.proofs.Laws.{used-storable}
 use Rattle.entry.specs.Entry.{Changed, Given, changed, stateEntry, given, askEntry, usedEntry}
-use Rattle.entry.specs.Host.{shownOf, numbersEntry, useEntry}
+use Rattle.entry.specs.Host.{shownOf, numbersEntry, overflowEntry, useEntry}
 use Rattle.hdma.specs.declared.Hdma.{Hdma}
 use Rattle.image.proofs.LoadedPatches.{loaded-used}
 use Rattle.image.proofs.OpenLaws.{load-refused}
@@ -27,8 +27,10 @@ use Rattle.memory.specs.Start.{zeroed}
 use Rattle.memory.specs.World.{withUsed}
 use Rattle.memory.specs.declared.Core.{Core}
 use Rattle.packing.specs.Packing.{Below}
+use Rattle.registers.specs.State.{timerOf}
 use Rattle.rules.proofs.Tests.{by-cond, denied, granted}
 use Rattle.savelog.specs.Log.{logLimit, useInRange, clearedUse}
+use Rattle.timer.specs.Overflow.{leftOf}
 use Rattle.quick_state.proofs.Calls.{flag-asked, state-done}
 
 -- an image that is refused: its state is the all-zero one
@@ -45,6 +47,10 @@ module _ (i : List ℕ) {n : ℕ} (e : n ≡ loadCall i .number) (h : n ≡ 0 �
   closed-numbers f =
       ap (shownOf n) f ∙ ap (λ (x : ℕ). shownOf x (zeroed .core .lcd)) e ∙ ap (λ (d : Loaded). shownOf (d .number) (d .state .core .lcd)) zero-state
 
+  pub closed-overflow : {r : Given} → r ≡ given n 0 → r ≡ overflowEntry i
+  unfolding overflowEntry
+  closed-overflow f = f ∙ rw (e, ne-eqb (loadCall i .number) 0 (λ k. h (e ∙ k)))
+
   pub closed-use : (u : ℕ) → changed n i ≡ useEntry i u
   unfolding useEntry
   closed-use u = rw (e, ne-eqb (loadCall i .number) 0 (λ k. h (e ∙ k)))
@@ -57,6 +63,10 @@ module _ (i : List ℕ) (h : Held i) where
 
   pub used-given : {v : ℕ} → v ≡ at (fields i) 28 → given 0 v ≡ usedEntry i
   used-given e = rw (e ∙ ap (λ (k : Core). k .used) (core i h), h .1)
+
+  pub overflow-given : {v : ℕ} → v ≡ leftOf (timerOf (state i h)) → given 0 v ≡ overflowEntry i
+  unfolding overflowEntry
+  overflow-given e = rw (h .1) (ap (given 0) e)
 
   pub numbers-given : {l : Lcd} → l ≡ lcdOf (fields i) → shownOf 0 l ≡ numbersEntry i
   numbers-given e = rw (e ∙ ap (λ (k : Core). k .lcd) (core i h), h .1)
