@@ -5,36 +5,33 @@ use crate::bus::Bus;
 use crate::engine::{next_mode, pass, Processor};
 use crate::game::{Button, Step};
 use bench::pattern::Access;
+use bench::sides::Ours;
 use pouchrattle::{HostNumbers, Interrupt};
 
 const TIMER: std::ops::RangeInclusive<u16> = 0xFF04..=0xFF07;
-const TIMA: u16 = 0xFF05;
-const TAC: u16 = 0xFF07;
 
 /// Fewer than the 65,536 that an update may be told of.
-const LONGEST_WAIT: i32 = 60_000;
+const LONGEST_WAIT: u32 = 60_000;
 
-struct Engine<'a, B> {
-    bus: &'a mut B,
+struct Engine<'a> {
+    bus: &'a mut Ours,
     numbers: HostNumbers,
-    /// Cycles that the timer was not told of, and how many may be without an overflow of TIMA in them.
-    untold: i32,
-    wait: i32,
-    /// Cycles of a step of TIMA, if it steps.
-    period: Option<i32>,
+    /// Cycles that the timer was not told of, and with how many TIMA overflows.
+    untold: u32,
+    wait: u32,
     waiting: Option<Interrupt>,
 }
 
-pub fn play<B: Bus>(bus: &mut B, steps: &[Step]) -> u32 {
+pub fn play(bus: &mut Ours, steps: &[Step]) -> u32 {
     let numbers = bus.numbers();
-    let mut engine = Engine { bus, numbers, untold: 0, wait: 0, period: None, waiting: None };
+    let mut engine = Engine { bus, numbers, untold: 0, wait: 0, waiting: None };
     engine.look();
     let mut processor = Processor::default();
     for step in steps {
         processor.step(engine.bus);
         engine.run(&mut processor, step);
-        engine.untold += step.cycles();
-        if engine.untold > engine.wait {
+        engine.untold += step.cycles() as u32;
+        if engine.untold >= engine.wait {
             engine.tell();
         }
         if pass(&mut engine.numbers, step.cycles()) {
@@ -55,7 +52,7 @@ pub fn play<B: Bus>(bus: &mut B, steps: &[Step]) -> u32 {
     processor.seen()
 }
 
-impl<B: Bus> Engine<'_, B> {
+impl Engine<'_> {
     fn run(&mut self, processor: &mut Processor, step: &Step) {
         for index in step.fetches() {
             processor.see(self.bus.read_byte(*index));
@@ -82,37 +79,24 @@ impl<B: Bus> Engine<'_, B> {
         self.look();
     }
 
-    /// Takes anew what a write to a register may have changed. The timer is told of the next cycles at once: what is left of a step may be longer than a
-    /// period that has become shorter.
+    /// Takes anew what a write to a register may have changed.
     fn look(&mut self) {
         self.numbers = self.bus.numbers();
         self.bus.update_joypad();
-        self.period = match self.bus.read_byte(TAC) & 7 {
-            4 => Some(1024),
-            5 => Some(16),
-            6 => Some(64),
-            7 => Some(256),
-            _ => None,
-        };
-        self.wait = 0;
-        self.waiting = self.bus.get_interrupts();
+        self.ask();
     }
 
     /// Tells the timer of the cycles.
     #[inline(never)]
     fn tell(&mut self) {
-        self.bus.update_timer(self.untold);
+        self.bus.update_timer(self.untold as i32);
         self.untold = 0;
         self.ask();
     }
 
-    /// How long the timer can wait after an update, and which interrupt waits. The last step of TIMA may come at any time, those before it take a period each; an entry
-    /// for the cycles until the overflow would say it exactly.
+    /// How long the timer can wait, and which interrupt waits.
     fn ask(&mut self) {
-        self.wait = match self.period {
-            Some(period) => LONGEST_WAIT.min(period * (255 - i32::from(self.bus.read_byte(TIMA)))),
-            None => LONGEST_WAIT,
-        };
+        self.wait = self.bus.memory.cycles_to_overflow().map_or(LONGEST_WAIT, |cycles| cycles.min(LONGEST_WAIT));
         self.waiting = self.bus.get_interrupts();
     }
 
