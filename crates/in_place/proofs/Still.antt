@@ -7,6 +7,7 @@ use Prim.Native.Nat.{ℕ, _+_, _*_, _/_, _%_, _<_, _≤_}
 use native.Mathlib.Omega.{arith}
 use lib.ListN.{getD, set}
 use lib.Seq.{getD-set-other, set-getD}
+use Rattle.image.proofs.PatchLaws.{joypad-bytes, div-byte}
 use Rattle.image.proofs.StateLaws.{storable-state}
 use Rattle.image.specs.Layout.{imageOf}
 use Rattle.image.specs.Load.{clockOf}
@@ -49,7 +50,7 @@ module _ (i : List ℕ) (h : Held i) where
       let t = held i h .typed in
       let k = range-clock (state i h) (storable-state (state i h) (held i h .storable)) in
       let p = t .page .1 in
-      record { div = p 0x04; tima = p 0x05; tma = p 0x06; tac = p 0x07; flags = p 0x0F; div-cycles = t .div; tima-cycles = omega arith }
+      record { div = p 0x04; tima = p 0x05; tma = p 0x06; tac = p 0x07; flags = p 0x0F; div-cycles = div-byte t; tima-cycles = omega arith }
 
   clock-in : {c : Clock} → c ≡ clockOf (fields i) → c ≡ state i h .core .clock
   clock-in e = e ∙ ap (λ (k : Core). k .clock) (core i h)
@@ -119,7 +120,7 @@ module _ (i : List ℕ) (h : Held i) where
     pub unmarked-image : {j : List ℕ} → j ≡ put (joypadFields (withState k (k .released))) i → j ≡ imageOf (polledIn (state i h))
     unmarked-image e =
         let t = held i h .typed in
-        e ∙ put-joypad (held i h) (withState k (k .released)) (rw a (t .released, t .released)) .same ∙ ap imageOf (sym quiet)
+        e ∙ put-joypad (held i h) (withState k (k .released)) (rw a (joypad-bytes t .0, joypad-bytes t .0)) .same ∙ ap imageOf (sym quiet)
 
     pub unmarked-same : k .state ≡ k .released → i ≡ imageOf (polledIn (state i h))
     unmarked-same e =
