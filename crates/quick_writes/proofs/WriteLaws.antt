@@ -8,7 +8,7 @@ use Prim.Native.Nat.{ℕ, _+_, _*_, _-_, _/_, _%_, _<_, _≤_}
 use native.Mathlib.Omega.{arith}
 use lib.Dec.{eqb, ltb}
 use lib.ListN.{length, set}
-use borrow.Author.Tests.{eq-eqb, eqb-true, ne-eqb, lt-ltb, le-ltb, ltb-false}
+use borrow.Author.Tests.{le-leb, eq-eqb, eqb-true, ne-eqb, lt-ltb, le-ltb, ltb-false}
 use Rattle.bus.proofs.Passes.{write-passes}
 use Rattle.bus.specs.Calls.{Outcome, outcome, unless}
 use Rattle.dispatch.specs.Step.{step}
@@ -22,7 +22,7 @@ use Rattle.image.proofs.Round.{state-back}
 use Rattle.image.specs.Laws.{Typed}
 use Rattle.image.specs.Layout.{imageLen, imageOf}
 use Rattle.image.specs.Load.{at, storable, loaded, loadCall}
-use Rattle.image.specs.Patches.{fields, Slim, mappingPut}
+use Rattle.image.specs.Patches.{fields, MapperFits, RestFits, Slim, mappingPut}
 use Rattle.image.specs.declared.Loaded.{Loaded}
 use Rattle.in_place.proofs.Images.{core}
 use Rattle.in_place.specs.Held.{Held}
@@ -46,11 +46,12 @@ use Rattle.refusals.proofs.Answers.{both-pass}
 use Rattle.rules.proofs.Tests.{both-true, by-cond, untrue}
 use Rattle.refusals.proofs.Core.{write-lent}
 use Rattle.registers.specs.Page.{writeRegister}
-use Rattle.refusals.specs.Refusal.{orElse, useRefused, lengthsRefused, logRefused, lentRefused, writeRefused, refusedWrite, inSound, nextIndex, byteRoom, wordRoom, byteOwed, wordOwed}
+use Rattle.refusals.specs.Refusal.{orElse, useRefused, lengthsRefused, logRefused, lentRefused, writeRefused, refusedWrite, readRefused, refusedRead, stateRefused, inSound, nextIndex, byteRoom, wordRoom, byteOwed, wordOwed}
 use Rattle.savelog.specs.Log.{logLimit, useInRange}
 use Rattle.entry.specs.Entry.{Left, left, leftIn, encodedIn, worldEntry}
-use Rattle.quick_writes.specs.Writes.{quick, worldOf, Taken, coreIn, coreOf, leftBy, ownPut}
+use Rattle.quick_writes.specs.Writes.{quick, worldOf, Taken, LogFits, coreIn, coreOf, leftBy, ownPut}
 use Rattle.entry.proofs.Laws.{stays-storable, in-log}
+use Rattle.quick_reads.proofs.ReadLaws.{surely-loaded, surely-passes}
 use Rattle.quick_transfers.specs.Transfers.{Lent}
 use Rattle.quick_writes.proofs.Quick.{quick-plain, put-typed, own-oam}
 
@@ -385,3 +386,25 @@ module _ (i : List ℕ) {n : ℕ} (e : n ≡ loadCall i .number) (rom vram wram 
       (w ∙ rw (g, r, y, h, x))
       ∙ sym (write-lent m (load-range i t below) rom vram wram save sound log)
       ∙ sym (ap (λ (a : ℕ). orElse a (writeRefused m rom vram wram save sound log)) t ∙ zero-else (writeRefused m rom vram wram save sound log))
+
+-- the tests that are enough
+module _ (rom sound i v w s l : List ℕ) (below : Below 256 i) (p : MapperFits i (length rom) (length s)) (q : RestFits i (length v) (length w))
+    (r : LogFits i (length sound) (length l)) where
+  lengths-pass : lengthsRefused (loadCall i .state .core) (length rom) (length v) (length w) (length s) (length sound) ≡ 0
+  unfolding readRefused
+  lengths-pass =
+      let a = both-pass (loadCall i .number) (refusedRead (fixed rom sound) (world (loadCall i .state) v w s [])) (sym (surely-passes (fixed rom sound) i v w s below p q (r .sound))) in
+      both-pass (stateRefused (loadCall i .state) logLimit) (lengthsRefused (loadCall i .state .core) (length rom) (length v) (length w) (length s) (length sound)) (a .1) .1
+
+  use-passes : useRefused (at (fields i) 28) (length l) ≡ 0
+  unfolding useRefused
+  use-passes = rw (r .used)
+
+  log-passes : logRefused (length l) ≡ 0
+  unfolding logRefused
+  log-passes = rw (le-leb (length l) logLimit (r .log))
+
+  pub surely-writes : 0 ≡ orElse (loadCall i .number) (refusedWrite (fixed rom sound) (worldOf i v w s l))
+  surely-writes =
+      number-lent i (sym (surely-loaded (fixed rom sound) i v w s below p q (r .sound))) (length rom) (length v) (length w) (length s) (length sound) (length l) refl below refl
+      (sym use-passes) (sym lengths-pass) (sym log-passes) (sym (zero-else 0)) (sym (zero-else 0))

@@ -3,18 +3,18 @@
 use mathlib.Core.Bool.{Bool, true, false, cond}
 use mathlib.Core.List.{List}
 use mathlib.Core.Path.{_≡_}
-use Prim.Native.Nat.{ℕ, _-_}
+use Prim.Native.Nat.{ℕ, _-_, _≤_}
 use lib.Dec.{eqb}
 use lib.ListN.{length, set}
 use Rattle.image.specs.Layout.{imageOf}
-use Rattle.image.specs.Load.{coreFrom, loadCall}
+use Rattle.image.specs.Load.{at, coreFrom, loadCall}
 use Rattle.image.specs.Patches.{fields}
 use Rattle.memory.specs.World.{World, world}
 use Rattle.memory.specs.declared.Core.{Core}
 use Rattle.mmu.specs.Access.{Holds}
 use Rattle.numbers.specs.Numbers.{done}
 use Rattle.packing.specs.Packing.{Below}
-use Rattle.savelog.specs.Log.{useInRange}
+use Rattle.savelog.specs.Log.{logLimit, useInRange}
 use Rattle.entry.specs.Entry.{Left, leftIn}
 
 -- an index whose write starts no transfer
@@ -31,6 +31,12 @@ pub record Taken (i v w s l : List ℕ) : Type 0 where
   pub number : loadCall i .number ≡ done
   pub holds : Holds (worldOf i v w s l)
   pub used : useInRange (loadCall i .state .core .used) (length l) ≡ true
+
+-- what the test of what is lent beside the image says
+pub record LogFits (i : List ℕ) (m n : ℕ) : Type 0 where
+  pub sound : m ≡ 48
+  pub log : n ≤ logLimit
+  pub used : useInRange (at (fields i) 28) n ≡ true
 
 -- the state but its arrays, by the fields
 abbrev pub coreIn : List ℕ → Core

@@ -20,7 +20,7 @@ ghost use Rattle.registers.specs.Page.{writeRegister};
 ghost use Rattle.refusals.specs.Refusal.{orElse, writeRefused, nextIndex};
 ghost use Rattle.savelog.specs.Log.{logLimit};
 ghost use Rattle.entry.specs.Entry.{left, worldEntry};
-ghost use Rattle.quick_writes.specs.Writes.{quick, worldOf, Taken, coreIn, coreOf, leftBy, ownPut};
+ghost use Rattle.quick_writes.specs.Writes.{quick, worldOf, Taken, LogFits, coreIn, coreOf, leftBy, ownPut};
 use dispatch::Call;
 use entry::on_bus;
 use memory::Region;
@@ -115,6 +115,63 @@ fn put_byte(
     }
 }
 
+// Called from one place, so that what `put_byte` is given is stored there, and not by every write.
+fn put_apart(
+    image: &mut [u8],
+    vram: &mut [u8],
+    wram: &mut [u8],
+    save: &mut [u8],
+    log: &mut [u8],
+    index: u16,
+    value: u8,
+)
+    requires { ⌜ Taken (now image) (now vram) (now wram) (now save) (now log) ⌝ }
+    ensures { λ _. ⌜ left 0 0 (now (image .exit)) (now (vram .exit)) (now (wram .exit)) (now (save .exit)) (now (log .exit)) ≡ leftBy (put (worldOf (now (image .entry)) (now (vram .entry)) (now (wram .entry)) (now (save .entry)) (now (log .entry))) index value) ⌝ }
+{
+    put_byte(image, vram, wram, save, log, index, value);
+}
+
+// As `put_byte`, and small enough to be put in place where it is called: a byte of video or work memory or of OAM goes there at once.
+fn put_here(
+    image: &mut [u8],
+    vram: &mut [u8],
+    wram: &mut [u8],
+    save: &mut [u8],
+    log: &mut [u8],
+    index: u16,
+    value: u8,
+)
+    requires { ⌜ Taken (now image) (now vram) (now wram) (now save) (now log) ⌝ }
+    ensures { λ _. ⌜ left 0 0 (now (image .exit)) (now (vram .exit)) (now (wram .exit)) (now (save .exit)) (now (log .exit)) ≡ leftBy (put (worldOf (now (image .entry)) (now (vram .entry)) (now (wram .entry)) (now (save .entry)) (now (log .entry))) index value) ⌝ }
+{
+    match memory::region_of(index) {
+        Region::Vram => {
+            let banks = image::banks_at(image);
+            mmu::regions::write_cgb_lcd_ram(vram, banks.vram, index, value);
+        }
+        Region::Wram => {
+            let banks = image::banks_at(image);
+            mmu::regions::write_cgb_wram(wram, banks.wram, index, value);
+        }
+        Region::Oam => put_own(image, index, value),
+        _ => put_apart(image, vram, wram, save, log, index, value),
+    }
+}
+
+// Whether the sound window, the log and its use are right: with the image's own tests, enough that nothing but a log without room refuses a write.
+fn log_fits(image: &[u8], sound: usize, log: usize) -> bool
+    requires { ⌜ length (now image) ≡ imageLen ⌝ }
+    ensures { λ r. ⌜ (r ≡ true → LogFits (now (image .entry)) sound log) ⌝ }
+{
+    if sound != 48 {
+        return false;
+    }
+    if savelog::LOG_LIMIT < log {
+        return false;
+    }
+    savelog::use_in_range(image::used_at(image), log)
+}
+
 // The number of the image, of the log's use, and of the lengths.
 fn number(
     image: &[u8],
@@ -161,8 +218,8 @@ fn put_all(
     quick_transfers::start(image, core, rom, vram, wram, save, sound, index, value);
 }
 
-// As the plain entry, which decodes and encodes the whole image.
-pub fn write_byte(
+// Every image, and every refusal.
+fn plain_byte(
     image: &mut [u8],
     rom: &[u8],
     vram: &mut [u8],
@@ -195,6 +252,36 @@ pub fn write_byte(
     refusals::byte_owed(index)
 }
 
+// As the plain entry, which decodes and encodes the whole image. Where the tests that are enough pass, only a log without room refuses.
+pub fn write_byte(
+    image: &mut [u8],
+    rom: &[u8],
+    vram: &mut [u8],
+    wram: &mut [u8],
+    save: &mut [u8],
+    log: &mut [u8],
+    sound: &[u8],
+    index: u16,
+    value: u8,
+) -> u8
+    ensures { λ r. ⌜ left r 0 (now (image .exit)) (now (vram .exit)) (now (wram .exit)) (now (save .exit)) (now (log .exit)) ≡ worldEntry (fixed (now (rom .entry)) (now (sound .entry))) (now (image .entry)) (now (vram .entry)) (now (wram .entry)) (now (save .entry)) (now (log .entry)) (WriteByte index value) ⌝ }
+{
+    if is_quick(index) {
+        if image::mapper_surely_fits(image, rom.len(), save.len()) {
+            if image::rest_surely_fits(image, vram.len(), wram.len()) {
+                if log_fits(image, sound.len(), log.len()) {
+                    let room = refusals::byte_room(image::used_at(image), log.len(), index);
+                    if room == numbers::DONE {
+                        put_here(image, vram, wram, save, log, index, value);
+                        return refusals::byte_owed(index);
+                    }
+                }
+            }
+        }
+    }
+    plain_byte(image, rom, vram, wram, save, log, sound, index, value)
+}
+
 // Two writes, low byte first.
 fn put_both(
     image: &mut [u8],
@@ -211,8 +298,8 @@ fn put_both(
     let low = (value % 256) as u8;
     let high = (value / 256) as u8;
     let above = refusals::next_index(index);
-    put_byte(image, vram, wram, save, log, index, low);
-    put_byte(image, vram, wram, save, log, above, high);
+    put_here(image, vram, wram, save, log, index, low);
+    put_here(image, vram, wram, save, log, above, high);
 }
 
 fn write_both(
@@ -274,6 +361,17 @@ pub fn write_word(
     ensures { λ r. ⌜ left r 0 (now (image .exit)) (now (vram .exit)) (now (wram .exit)) (now (save .exit)) (now (log .exit)) ≡ worldEntry (fixed (now (rom .entry)) (now (sound .entry))) (now (image .entry)) (now (vram .entry)) (now (wram .entry)) (now (save .entry)) (now (log .entry)) (WriteWord index value) ⌝ }
 {
     if both_quick(index) {
+        if image::mapper_surely_fits(image, rom.len(), save.len()) {
+            if image::rest_surely_fits(image, vram.len(), wram.len()) {
+                if log_fits(image, sound.len(), log.len()) {
+                    let room = refusals::word_room(image::used_at(image), log.len(), index);
+                    if room == numbers::DONE {
+                        put_both(image, vram, wram, save, log, index, value);
+                        return refusals::word_owed(index);
+                    }
+                }
+            }
+        }
         return write_both(image, rom, vram, wram, save, log, sound, index, value);
     }
     let done = on_bus(
