@@ -21,7 +21,7 @@ pub fn is_colour(image: &[u8]) -> bool
     banks.colour
 }
 
-fn banks_at(image: &[u8]) -> Banks
+pub fn banks_at(image: &[u8]) -> Banks
     requires { ⌜ Held (now image) ⌝ }
     ensures { λ r. ⌜ r ≡ loadCall (now (image .entry)) .state .core .banks ⌝ }
 {

@@ -11,7 +11,7 @@ ghost use Rattle.image.specs.Load.{loadCall, storable};
 ghost use Rattle.registers.specs.Transfers.{transferPut, sourceHighPut, sourceLowPut, destinationHighPut, destinationLowPut, startPut};
 ghost use Rattle.in_place.specs.Held.{Held};
 
-fn hdma_at(image: &[u8]) -> Hdma
+pub fn hdma_at(image: &[u8]) -> Hdma
     requires { ⌜ Held (now image) ⌝ }
     ensures { λ r. ⌜ r ≡ loadCall (now (image .entry)) .state .core .hdma ⌝ }
 {
@@ -19,7 +19,7 @@ fn hdma_at(image: &[u8]) -> Hdma
 }
 
 // The hidden addresses, and a byte of the page.
-fn put_written(image: &mut [u8], at: u8, written: Written)
+pub fn put_written(image: &mut [u8], at: u8, written: Written)
     requires { ⌜ Held (now image) × (storable (transferPut (loadCall (now image) .state) at written) ≡ true) ⌝ }
     ensures { λ _. ⌜ now (image .exit) ≡ imageOf (transferPut (loadCall (now (image .entry)) .state) at written) ⌝ }
 {
@@ -80,7 +80,7 @@ pub fn write_destination_low(image: &mut [u8], value: u8)
     store(image, 0x54, value);
 }
 
-fn mode_at(image: &[u8]) -> u8
+pub fn mode_at(image: &[u8]) -> u8
     requires { ⌜ Held (now image) ⌝ }
     ensures { λ r. ⌜ r ≡ loadCall (now (image .entry)) .state .core .lcd .mode ⌝ }
 {

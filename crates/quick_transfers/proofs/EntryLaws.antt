@@ -12,9 +12,10 @@ use Rattle.bus.specs.Calls.{outcome, unless}
 use Rattle.dispatch.specs.Step.{step}
 use Rattle.dispatch.specs.declared.Call.{Call}
 use Rattle.dispatch.specs.declared.Call.the-variants as call
-use Rattle.image.proofs.OpenLaws.{load-range, load-image, open-number, open-core}
-use Rattle.image.specs.Load.{loadCall, openCall}
-use Rattle.image.specs.declared.Opened.{Opened}
+use Rattle.image.proofs.OpenLaws.{load-range, load-image}
+use Rattle.image.specs.Load.{at, loadCall}
+use Rattle.image.specs.Patches.{fields}
+use Rattle.in_place.proofs.Images.{core}
 use Rattle.memory.specs.World.{World, Fixed, fixed}
 use Rattle.memory.specs.declared.Core.{Core}
 use Rattle.mmu.proofs.Laws.{read-ready}
@@ -22,10 +23,10 @@ use Rattle.mmu.specs.Write.{transferred, writeAt}
 use Rattle.packing.specs.Packing.{Below}
 use Rattle.refusals.proofs.Answers.{both-pass}
 use Rattle.refusals.proofs.Core.{write-lent}
-use Rattle.refusals.specs.Refusal.{orElse, useRefused, lentRefused, writeRefused, refusedWrite}
+use Rattle.refusals.specs.Refusal.{orElse, useRefused, lengthsRefused, logRefused, lentRefused, writeRefused, refusedWrite}
 use Rattle.registers.specs.Transfers.{oamCopy, blockCopy}
 use Rattle.entry.specs.Entry.{Left, left, encodedIn, worldEntry}
-use Rattle.quick_transfers.specs.Transfers.{worldOf, leftBy, Lent, Moved}
+use Rattle.quick_transfers.specs.Transfers.{worldOf, leftBy, Own, Moved}
 
 zero-else : (a : ℕ) → orElse 0 a ≡ a
 unfolding orElse
@@ -35,22 +36,25 @@ either-way : (b : Bool) {x y : Left} → x ≡ y → cond b x y ≡ y
 either-way true e = e
 either-way false e = refl
 
--- what `open_lent` finds
-module _ {o : Opened} (i : List ℕ) (e : o ≡ openCall i) where
-  pub opened-refused : (o .number ≡ 0 → ⊥) → (a : ℕ) → o .number ≡ orElse (loadCall i .number) a
-  unfolding orElse
-  opened-refused h a = open-number i e ∙ rw (ne-eqb (loadCall i .number) 0 (λ z. h (open-number i e ∙ z)))
+-- the number: of the image first, then of what is lent
+module _ (i : List ℕ) {n : ℕ} (e : n ≡ loadCall i .number) (rom vram wram save sound log : ℕ) where
+  abbrev Number : ℕ → Type 0
+  Number k = k ≡ orElse (loadCall i .number) (writeRefused (loadCall i .state) rom vram wram save sound log)
 
-  pub opened-lent : Below 256 i → o .number ≡ 0 → (rom vram wram save sound log : ℕ) {n : ℕ}
-      → n ≡ orElse (useRefused (o .core .used) log) (lentRefused (o .core) rom vram wram save sound log)
-      → n ≡ orElse (loadCall i .number) (writeRefused (loadCall i .state) rom vram wram save sound log)
-  opened-lent below z rom vram wram save sound log f =
+  pub number-closed : (n ≡ 0 → ⊥) → Number n
+  unfolding orElse
+  number-closed h = e ∙ rw (ne-eqb (loadCall i .number) 0 (λ z. h (e ∙ z)))
+
+  pub number-lent : n ≡ 0 → Below 256 i → {u a b c d k : ℕ} → u ≡ at (fields i) 28 → a ≡ useRefused u log
+      → b ≡ lengthsRefused (loadCall i .state .core) rom vram wram save sound → c ≡ logRefused log → d ≡ orElse b c → k ≡ orElse a d → Number k
+  unfolding lentRefused
+  number-lent z below {u} f g h x y w =
       let m = loadCall i .state in
-      let y = sym (open-number i e) ∙ z in
-      f
-      ∙ ap (λ (c : Core). orElse (useRefused (c .used) log) (lentRefused c rom vram wram save sound log)) (open-core i e)
-      ∙ sym (write-lent m (load-range i y below) rom vram wram save sound log)
-      ∙ sym (ap (λ (a : ℕ). orElse a (writeRefused m rom vram wram save sound log)) y ∙ zero-else (writeRefused m rom vram wram save sound log))
+      let t : loadCall i .number ≡ 0 = sym e ∙ z in
+      let r : u ≡ m .core .used = f ∙ ap (λ (c : Core). c .used) (core i (below, t)) in
+      (w ∙ rw (g, r, y, h, x))
+      ∙ sym (write-lent m (load-range i t below) rom vram wram save sound log)
+      ∙ sym (ap (λ (a : ℕ). orElse a (writeRefused m rom vram wram save sound log)) t ∙ zero-else (writeRefused m rom vram wram save sound log))
 
 -- a call that nothing but the image and the lengths refuses, whose value is k
 module _ (x : Fixed) (i v w s l : List ℕ) (below : Below 256 i) (c : Call) (k : ℕ) (u : World)
@@ -80,15 +84,15 @@ module _ (x : Fixed) (i v w s l : List ℕ) (below : Below 256 i) (c : Call) (k 
       let q = both-pass (loadCall i .number) (refusedWrite x (worldOf i v w s l)) (sym e ∙ z) in
       rw (q .0, f, q .1) (ap (λ (a : Left). left 0 k (a .image) (a .vram) (a .wram) (a .save) (a .log)) g)
 
-module _ (rom sound i v w s l : List ℕ) (below : Below 256 i) {o : Opened}
-    (p : (o .number ≡ orElse (loadCall i .number) (refusedWrite (fixed rom sound) (worldOf i v w s l))) × (o .core ≡ loadCall i .state .core)) where
-  pub lent : o .number ≡ 0 → Lent (fixed rom sound) i (o .core) v w s
+module _ (rom sound i v w s l : List ℕ) (below : Below 256 i) {n : ℕ}
+    (p : n ≡ orElse (loadCall i .number) (refusedWrite (fixed rom sound) (worldOf i v w s l))) where
+  pub lent : n ≡ 0 → Own (fixed rom sound) i v w s
   lent z =
-      let d = both-pass (loadCall i .number) (refusedWrite (fixed rom sound) (worldOf i v w s l)) (sym (p .0) ∙ z) in
+      let d = both-pass (loadCall i .number) (refusedWrite (fixed rom sound) (worldOf i v w s l)) (sym p ∙ z) in
       record {
         bytes = below;
         number = d .0;
-        core = p .1;
+        core = refl;
         ready = read-ready (fixed rom sound) (worldOf i v w s l) (write-passes rom sound (loadCall i .state) v w s l (d .1));
       }
 
@@ -99,12 +103,12 @@ module _ (rom sound i v w s l : List ℕ) (below : Below 256 i) {o : Opened}
     unfolding step
     oam-call = refl
 
-    pub oam-refused : (o .number ≡ 0 → ⊥) → left (o .number) 0 i v w s l ≡ worldEntry (fixed rom sound) i v w s l (call.DoDmaTransfer page)
-    oam-refused = call-refused (fixed rom sound) i v w s l below (call.DoDmaTransfer page) 0 _ oam-call (p .0)
+    pub oam-refused : (n ≡ 0 → ⊥) → left n 0 i v w s l ≡ worldEntry (fixed rom sound) i v w s l (call.DoDmaTransfer page)
+    oam-refused = call-refused (fixed rom sound) i v w s l below (call.DoDmaTransfer page) 0 _ oam-call p
 
-    pub oam-done : o .number ≡ 0 → {j v' : List ℕ} → ((value : ℕ) → Moved (fixed rom sound) i v w s (oamCopy page) value j v')
+    pub oam-done : n ≡ 0 → {j v' : List ℕ} → ((value : ℕ) → Moved (fixed rom sound) i v w s (oamCopy page) value j v')
         → left 0 0 j v' w s l ≡ worldEntry (fixed rom sound) i v w s l (call.DoDmaTransfer page)
-    oam-done z g = call-done (fixed rom sound) i v w s l below (call.DoDmaTransfer page) 0 _ oam-call (p .0) z (g 0 l)
+    oam-done z g = call-done (fixed rom sound) i v w s l below (call.DoDmaTransfer page) 0 _ oam-call p z (g 0 l)
 
   block-call : step (fixed rom sound) (worldOf i v w s l) call.DoHdma
       ≡ unless (refusedWrite (fixed rom sound) (worldOf i v w s l)) (worldOf i v w s l)
@@ -112,9 +116,9 @@ module _ (rom sound i v w s l : List ℕ) (below : Below 256 i) {o : Opened}
   unfolding step
   block-call = refl
 
-  pub block-refused : (o .number ≡ 0 → ⊥) → left (o .number) 0 i v w s l ≡ worldEntry (fixed rom sound) i v w s l call.DoHdma
-  block-refused = call-refused (fixed rom sound) i v w s l below call.DoHdma 36 _ block-call (p .0)
+  pub block-refused : (n ≡ 0 → ⊥) → left n 0 i v w s l ≡ worldEntry (fixed rom sound) i v w s l call.DoHdma
+  block-refused = call-refused (fixed rom sound) i v w s l below call.DoHdma 36 _ block-call p
 
-  pub block-done : o .number ≡ 0 → {j v' : List ℕ} → ((value : ℕ) → Moved (fixed rom sound) i v w s (blockCopy (loadCall i .state)) value j v')
+  pub block-done : n ≡ 0 → {j v' : List ℕ} → ((value : ℕ) → Moved (fixed rom sound) i v w s (blockCopy (loadCall i .state)) value j v')
       → left 0 36 j v' w s l ≡ worldEntry (fixed rom sound) i v w s l call.DoHdma
-  block-done z g = call-done (fixed rom sound) i v w s l below call.DoHdma 36 _ block-call (p .0) z (g 0 l)
+  block-done z g = call-done (fixed rom sound) i v w s l below call.DoHdma 36 _ block-call p z (g 0 l)

@@ -22,7 +22,7 @@ use Rattle.memory.specs.declared.Memory.{Memory}
 use Rattle.registers.specs.State.{stored}
 use Rattle.registers.specs.Transfers.{transferPut, withEnded}
 use Rattle.rules.proofs.Tests.{cond-both}
-use Rattle.quick_transfers.specs.Transfers.{endedPut, writtenPut}
+use Rattle.quick_transfers.specs.Transfers.{endedPut}
 
 -- OAM, byte by byte from its first
 
@@ -147,11 +147,5 @@ ended-image m t h e f =
 -- FF55 as its write leaves it
 
 module _ (m : Memory) (t : Typed m) (h : storable m ≡ true) (a : Written) (f : a .hdma .source < 65536) (g : a .hdma .destination < 65536) (b : a .byte < 256) where
-  pub written-image : writtenPut (imageOf m) a ≡ imageOf (transferPut m 0x55 a)
-  unfolding writtenPut
-  written-image =
-      ap (put (hdmaFields (a .hdma))) (stored-image m t h 0x55 (a .byte) (omega arith) b)
-      ∙ hdma-image (stored m 0x55 (a .byte)) (stored-typed m t h 0x55 (a .byte) b) (stored-storable m t h 0x55 (a .byte)) (a .hdma) f g
-
   pub written-typed : Typed (transferPut m 0x55 a)
   written-typed = hdma-typed m t (a .hdma) (set (m .page) 0x55 (a .byte)) f g (bytes-set (m .page) 0x55 (a .byte) (t .page) b)

@@ -7,18 +7,12 @@ use native.Mathlib.Omega.{arith}
 use lib.Dec.{eqb, ltb}
 use lib.ListN.{length, getD, set}
 use lib.Seq.{getD-set-same, getD-set-other}
-use borrow.Author.Tests.{eqb-true, eqb-false, ltb-true, ltb-false, lt-ltb, le-ltb}
+use borrow.Author.Tests.{eqb-true, eqb-false, ne-eqb, ltb-true, ltb-false, lt-ltb, le-ltb}
 use Rattle.image.proofs.OpenLaws.{load-length}
 use Rattle.image.specs.Layout.{imageLen}
-use Rattle.image.specs.Load.{loadCall}
-use Rattle.mbc.proofs.Ranges.{some-banks, rom-below}
-use Rattle.mbc.proofs.Sources.{in-rom}
-use Rattle.mbc.specs.Mbc as mbc
+use Rattle.image.specs.Load.{registersIn, loadCall}
+use Rattle.image.specs.Patches.{fields}
 use Rattle.mbc.specs.PanDocs.{romAddress, romPlace}
-use Rattle.mbc.specs.declared.cartridge.Cartridge.{Cartridge}
-use Rattle.mbc.specs.declared.mbc.Mapper.{Mapper}
-use Rattle.mbc.specs.declared.mbc.Source.{Source}
-use Rattle.mbc.specs.declared.mbc.Source.the-variants as from
 use Rattle.memory.proofs.Regions.{within, region-at}
 use Rattle.memory.specs.Region.{regionOf}
 use Rattle.memory.specs.World.{world, Fixed}
@@ -29,8 +23,10 @@ use Rattle.mmu.proofs.Places.{ready-reaches, read-by, echo-within, wram-below}
 use Rattle.mmu.specs.Access.{Ready, Reaches, readByte}
 use Rattle.mmu.specs.PanDocs.{echo, vramAt, wramAt}
 use Rattle.packing.specs.Packing.{Below}
+use Rattle.quick_reads.proofs.ReadLaws.{byte-rom, rom-place-below, byte-oam, byte-page}
+use Rattle.registers.specs.Page.{plainRead, shownAs}
 use Rattle.rules.proofs.Tests.{by-cond}
-use Rattle.quick_transfers.specs.Transfers.{Lent, Row, Read}
+use Rattle.quick_transfers.specs.Transfers.{Lent, Own, Row, Read}
 
 -- a list that is filled from its first place on: one byte more
 abbrev pub Filled : List ℕ → (ℕ → ℕ) → ℕ → Type 0
@@ -128,6 +124,9 @@ module _ {x : Fixed} {i : List ℕ} {c : Core} {v w s : List ℕ} (l : Lent x i 
   pub lent-reaches : Reaches c (x .rom) v w s
   lent-reaches = rw (l .core) (ready-reaches (l .ready))
 
+  pub own : Own x i v w s
+  own = record { bytes = l .bytes; number = l .number; core = refl; ready = l .ready }
+
 -- so for a state that is lent: the row of its selected bank
 module _ {x : Fixed} {i : List ℕ} {c : Core} {v w s : List ℕ} (l : Lent x i c v w s) (source n : ℕ) (row : Row source n) where
   module _ (e : regionOf source ≡ Vram) {at : ℕ} (a : at ≡ vramAt (c .banks .vram) source) where
@@ -158,64 +157,89 @@ module _ {x : Fixed} {i : List ℕ} {c : Core} {v w s : List ℕ} (l : Lent x i 
 
 -- ROM: neither bank begins within a row
 
-module _ (d : Cartridge) (p : Mapper) (index : ℕ) where
-  in-first : index < 0x4000 → mbc.source d p index ≡ from.Rom index
-  unfolding romPlace
-  in-first h =
-      let z : romPlace (mbc.romBank p) index ≡ index = rw (lt-ltb index 0x4000 h) in
-      in-rom d p index (omega arith) ∙ ap from.Rom z
+rom-place-row : (bank source k : ℕ) → source % 256 + k < 256 → source < 0x8000 → romPlace bank (source + k) ≡ romPlace bank source + k
+unfolding romPlace
+rom-place-row bank source k r h =
+    by-cond (λ (t : ℕ). romPlace bank (source + k) ≡ t + k) (ltb source 0x4000) source (romAddress bank source)
+    (λ t. let l = ltb-true source 0x4000 t in rw (lt-ltb (source + k) 0x4000 (omega arith)))
+    (λ f. let l = ltb-false source 0x4000 f in rw (le-ltb (source + k) 0x4000 (omega arith)) (omega arith))
 
-  in-second : 0x4000 ≤ index → index < 0x8000 → mbc.source d p index ≡ from.Rom (romAddress (mbc.romBank p) index)
-  unfolding romPlace
-  in-second l h =
-      let z : romPlace (mbc.romBank p) index ≡ romAddress (mbc.romBank p) index = rw (le-ltb index 0x4000 l) in
-      in-rom d p index h ∙ ap from.Rom z
+-- from FF80 on a byte of the page reads as it is
+shown-high : (byte : ℕ) (cgb : Bool) (line pad : ℕ) (sound : List ℕ) (at : ℕ) → 0x80 ≤ at → shownAs byte cgb line pad sound at ≡ byte
+unfolding shownAs plainRead
+shown-high byte cgb line pad sound at h =
+    let other : (k : ℕ) → k < 0x80 → eqb at k ≡ false = λ k l. ne-eqb at k (λ e. omega arith) in
+    rw (
+      other 0x00 (omega arith),
+      other 0x03 (omega arith),
+      other 0x07 (omega arith),
+      other 0x0E (omega arith),
+      other 0x0F (omega arith),
+      other 0x41 (omega arith),
+      other 0x44 (omega arith),
+      other 0x4C (omega arith),
+      other 0x4F (omega arith),
+      other 0x68 (omega arith),
+      other 0x69 (omega arith),
+      other 0x6A (omega arith),
+      other 0x6B (omega arith),
+      other 0x70 (omega arith),
+      other 0x76 (omega arith),
+      other 0x77 (omega arith),
+      le-ltb at 0x10 (omega arith),
+      le-ltb at 0x40 (omega arith),
+    )
 
-place : Source → ℕ
-place (from.Rom at) = at
-place (from.Save at) = 0
-place (from.Half at) = 0
-place (from.Fixed b) = 0
+module _ {x : Fixed} {i : List ℕ} {v w s : List ℕ} (l : Own x i v w s) (source n : ℕ) (row : Row source n) where
+  module _ (h : source < 0x8000) {bank at : ℕ} (a : bank ≡ registersIn (fields i) .rom) (e : at ≡ romPlace bank source) where
+    abbrev selected : ℕ
+    selected = registersIn (fields i) .rom
 
-module _ (d : Cartridge) (p : Mapper) (source n : ℕ) (row : Row source n) (h : source < 0x8000) {at : ℕ} (e : mbc.source d p source ≡ from.Rom at) where
-  abbrev Stands : Type 0
-  Stands = (k : ℕ) → k < n → mbc.source d p (source + k) ≡ from.Rom (at + k)
+    rom-at : (k : ℕ) → k < n → at + k ≡ romPlace selected (source + k)
+    rom-at k g =
+        ap (λ (j : ℕ). j + k) (e ∙ ap (λ (b : ℕ). romPlace b source) a) ∙ sym (rom-place-row selected source k (omega arith) h)
 
-  stands-by : (b : Bool) → ltb source 0x4000 ≡ b → Stands
-  unfolding place
-  stands-by true q k l =
-      let a = ltb-true source 0x4000 q in
-      let z : source ≡ at = ap place (sym (in-first d p source a) ∙ e) in
-      in-first d p (source + k) (omega arith) ∙ ap (λ (j : ℕ). from.Rom (j + k)) z
-  stands-by false q k l =
-      let a = ltb-false source 0x4000 q in
-      let z : romAddress (mbc.romBank p) source ≡ at = ap place (sym (in-second d p source a h) ∙ e) in
-      let y : romAddress (mbc.romBank p) (source + k) ≡ romAddress (mbc.romBank p) source + k = omega arith in
-      in-second d p (source + k) (omega arith) (omega arith) ∙ ap from.Rom (y ∙ ap (λ (j : ℕ). j + k) z)
+    pub read-rom-fits : at + n ≤ length (x .rom)
+    read-rom-fits =
+        let r = lent-reaches l .rom in
+        by-cond (λ (t : ℕ). at + n ≤ length (x .rom)) (eqb n 0) 0 0
+        (λ z.
+        let y = eqb-true n 0 z in
+        let p : at ≡ romPlace selected source = e ∙ ap (λ (b : ℕ). romPlace b source) a in
+        let q = rom-place-below i (l .number) (l .bytes) source (region-at Rom source h) in omega arith)
+        (λ z.
+        let y = eqb-false n 0 z in
+        let p = rom-at (n - 1) (omega (arith, y)) in
+        let q = rom-place-below i (l .number) (l .bytes) (source + (n - 1)) (region-at Rom (source + (n - 1)) (omega (arith, y))) in
+        omega (arith, y))
 
-  stands : Stands
-  stands = stands-by (ltb source 0x4000) refl
+    pub read-rom : (out : List ℕ) → length out ≡ n → ((k : ℕ) → k < length out → getD out k 0 ≡ getD (x .rom) (at + k) 0) → Read x i v w s source out
+    read-rom out z f k g =
+        f k g
+        ∙ ap (λ (j : ℕ). getD (x .rom) j 0) (rom-at k (omega arith))
+        ∙ byte-rom i (l .number) (l .bytes) (source + k) x v w s (region-at Rom (source + k) (omega arith))
 
-  fits-by : mbc.inRange d p ≡ true → (b : Bool) → ltb source 0x4000 ≡ b → at + n ≤ mbc.romLen d
-  unfolding place
-  fits-by r true q =
-      let a = ltb-true source 0x4000 q in
-      let z : source ≡ at = ap place (sym (in-first d p source a) ∙ e) in
-      omega (arith, some-banks d p r)
-  fits-by r false q =
-      let a = ltb-false source 0x4000 q in
-      let z : romAddress (mbc.romBank p) source ≡ at = ap place (sym (in-second d p source a h) ∙ e) in
-      omega (arith, rom-below d p r)
+  -- OAM and high memory, in the image
+  module _ {at : ℕ} (a : at ≡ source - 0xFE00) where
+    pub read-own-fits : 0xFE00 ≤ source → source < 65536 → at + n ≤ length i
+    read-own-fits b c = omega (arith, lent-length l)
 
-module _ {x : Fixed} {i : List ℕ} {c : Core} {v w s : List ℕ} (l : Lent x i c v w s) (source n : ℕ) (row : Row source n) (h : source < 0x8000) {at : ℕ}
-    (e : mbc.source (c .cartridge) (c .mapper) source ≡ from.Rom at) where
-  pub read-rom-fits : at + n ≤ length (x .rom)
-  read-rom-fits = rw (lent-reaches l .rom) (fits-by (c .cartridge) (c .mapper) source n row h e (lent-reaches l .mapper) (ltb source 0x4000) refl)
+    pub read-oam : regionOf source ≡ Oam → (out : List ℕ) → length out ≡ n → ((k : ℕ) → k < length out → getD out k 0 ≡ getD i (at + k) 0)
+        → Read x i v w s source out
+    read-oam e out z f k g =
+        let b = within source e in
+        let b₀ = b .0 in
+        let b₁ = b .1 in
+        let p : at + k ≡ source + k - 0xFE00 = omega arith in
+        f k g
+        ∙ ap (λ (j : ℕ). getD i j 0) p
+        ∙ byte-oam i (l .number) (l .bytes) (source + k) x v w s (region-at Oam (source + k) (omega arith, omega arith))
 
-  pub read-rom : (out : List ℕ) → length out ≡ n → ((k : ℕ) → k < length out → getD out k 0 ≡ getD (x .rom) (at + k) 0) → Read x i v w s source out
-  read-rom out z f k g =
-      let y : mbc.source (loadCall i .state .core .cartridge) (loadCall i .state .core .mapper) (source + k) ≡ from.Rom (at + k) =
-      ap (λ (d : Core). mbc.source (d .cartridge) (d .mapper) (source + k)) (sym (l .core))
-      ∙ stands (c .cartridge) (c .mapper) source n row h e k (omega arith) in
-      f k g
-      ∙ read-by x (loadCall i .state) v w s (source + k) (region-at Rom (source + k) (omega arith)) (ap (mbc.byteOf (x .rom) s) (sym y))
+    pub read-high : 0xFF80 ≤ source → source < 65536 → (out : List ℕ) → length out ≡ n → ((k : ℕ) → k < length out → getD out k 0 ≡ getD i (at + k) 0)
+        → Read x i v w s source out
+    read-high b c out z f k g =
+        let p : at + k ≡ source + k - 0xFE00 = omega arith in
+        f k g
+        ∙ ap (λ (j : ℕ). getD i j 0) p
+        ∙ sym (shown-high _ _ _ _ _ (source + k - 0xFF00) (omega arith))
+        ∙ byte-page i (l .number) (l .bytes) (source + k) x v w s (region-at Page (source + k) (omega arith)) (omega arith)

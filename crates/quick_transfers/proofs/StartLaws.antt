@@ -13,13 +13,13 @@ use Rattle.hdma.specs.declared.Start.the-variants as start
 use Rattle.hdma.specs.declared.Written.{Written}
 use Rattle.image.proofs.PatchLaws.{hdma-words}
 use Rattle.image.proofs.Round.{state-back}
+use Rattle.in_place.proofs.Images.{kept-storable}
 use Rattle.image.specs.Laws.{Typed}
 use Rattle.image.specs.Layout.{imageOf}
 use Rattle.image.specs.Load.{storable, loadCall}
 use Rattle.image.specs.declared.Loaded.{Loaded}
 use Rattle.memory.proofs.Laws.{HdmaParts, hdma-parts, parts-hdma, range-hdma, transfer-range}
-use Rattle.memory.specs.Ranges.{stateInRange, inRange}
-use Rattle.memory.specs.World.{World, world, Fixed, hdmaIn}
+use Rattle.memory.specs.World.{World, world, Fixed}
 use Rattle.memory.specs.declared.Core.{Core}
 use Rattle.memory.specs.declared.Memory.{Memory}
 use Rattle.mmu.proofs.Laws.{kept-stays, stays-ready, write-transfer}
@@ -32,18 +32,12 @@ use Rattle.registers.specs.State.{stored}
 use Rattle.registers.specs.Transfers.{transferPut, nothing, oamCopy, blockCopy, generalCopy, startedBy, started, startPut, startCopy, copyOf, finished}
 use Rattle.registers.specs.declared.transfers.Copy.{Copy}
 use Rattle.registers.specs.declared.transfers.Started.{Started}
-use Rattle.rules.proofs.Tests.{both-true, cond-true, cond-false}
-use Rattle.savelog.specs.Log.{logLimit, useInRange}
+use Rattle.rules.proofs.Tests.{cond-true, cond-false}
 use Rattle.entry.specs.Entry.{left}
-use Rattle.quick_transfers.specs.Transfers.{worldOf, leftBy, Lent, Moved, Wrote, Kept, writtenPut}
-use Rattle.quick_transfers.proofs.ImageLaws.{stored-image, stored-typed, written-image, written-typed}
+use Rattle.quick_transfers.specs.Transfers.{worldOf, leftBy, Lent, Own, Moved, Wrote, Kept}
+use Rattle.quick_transfers.proofs.ImageLaws.{stored-image, stored-typed, written-typed}
+use Rattle.quick_transfers.proofs.RowLaws.{own}
 use Rattle.quick_transfers.proofs.MoveLaws.{lent-typed, lent-storable, lent-image}
-
-kept-storable : {m n : Memory} → state.Kept m n → storable m ≡ true → storable n ≡ true
-unfolding storable inRange
-kept-storable {m} {n} k h =
-    let p = both-true (stateInRange m) (useInRange (m .core .used) logLimit) h in
-    rw (k .range (p .0), k .used, p .1)
 
 -- the image of a state that a write left
 pub record Next (x : Fixed) (m : Memory) (v w s : List ℕ) (j : List ℕ) : Type 0 where
@@ -77,8 +71,8 @@ module _ {x : Fixed} {i : List ℕ} {c : Core} {v w s : List ℕ} (t : Lent x i 
         (e ∙ ap (λ (n : List ℕ). set n 0x146 value) (sym (lent-image t))
         ∙ stored-image (loadCall i .state) (lent-typed t) (lent-storable t) 0x46 value (omega arith) h)
 
-    pub page-lent : {j : List ℕ} → j ≡ set i 0x146 value → Lent x j c v w s
-    page-lent {j} e = subst (λ (d : Core). Lent x j d v w s) (sym (t .core)) (page-next e .lent)
+    pub page-own : {j : List ℕ} → j ≡ set i 0x146 value → Own x j v w s
+    page-own e = own (page-next e .lent)
 
     pub page-wrote : {j : List ℕ} → j ≡ set i 0x146 value → {j' v' : List ℕ} → ((n : ℕ) → Moved x j v w s (oamCopy value) n j' v')
         → Wrote x i v w s 0xFF46 value j' v'
@@ -91,6 +85,10 @@ module _ {x : Fixed} {i : List ℕ} {c : Core} {v w s : List ℕ} (t : Lent x i 
         f value l ∙ ap leftBy (ap (transferred x (writeAt x 1) (oamCopy value) value) z ∙ q)
 
 -- FF55
+
+-- what was decided, by the fields of the state
+pub decided : (h h' : Hdma) (mode mode' value : ℕ) {k : Start} → k ≡ starts h mode value → h ≡ h' → mode ≡ mode' → k ≡ starts h' mode' value
+decided h h' mode mode' value e p q = e ∙ ap (λ (y : Hdma). starts y mode value) p ∙ ap (λ (y : ℕ). starts h' y value) q
 
 -- HDMA that is switched keeps its addresses
 abbrev Keeps : Hdma → Start → Type 0
@@ -146,22 +144,24 @@ module _ {x : Fixed} {i : List ℕ} {c : Core} {v w s : List ℕ} (t : Lent x i 
     below-destination : a .hdma .destination < 65536
     below-destination = rw (k' .destination) (hdma-words (lent-typed t) .1)
 
-    written-next : {j : List ℕ} → j ≡ writtenPut i a → Next x (transferPut m₀ 0x55 a) v w s j
+    abbrev put : List ℕ
+    put = imageOf (transferPut m₀ 0x55 a)
+
+    written-next : {j : List ℕ} → j ≡ put → Next x (transferPut m₀ 0x55 a) v w s j
     written-next e =
-        next t (transferPut m₀ 0x55 a) (written-typed m₀ (lent-typed t) (lent-storable t) a below-source below-destination (k' .byte)) (transfer-kept m₀ a k')
-        (e ∙ ap (λ (n : List ℕ). writtenPut n a) (sym (lent-image t))
-        ∙ written-image m₀ (lent-typed t) (lent-storable t) a below-source below-destination (k' .byte))
+        next t (transferPut m₀ 0x55 a) (written-typed m₀ (lent-typed t) (lent-storable t) a below-source below-destination (k' .byte)) (transfer-kept m₀ a k') e
 
-    pub written-lent : {j : List ℕ} → j ≡ writtenPut i a → {d : Core} → d ≡ hdmaIn c (a .hdma) → Lent x j d v w s
-    written-lent {j} e {d} q =
-        let p : hdmaIn (m₀ .core) (a .hdma) ≡ d = sym (q ∙ ap (λ (n : Core). hdmaIn n (a .hdma)) (t .core)) in
-        subst (λ (n : Core). Lent x j n v w s) p (written-next e .lent)
+    pub written-storable : storable (transferPut m₀ 0x55 a) ≡ true
+    written-storable = kept-storable (transfer-kept m₀ a k') (lent-storable t)
 
-    pub written-moved : {j j' v' : List ℕ} → j ≡ writtenPut i a → ((value : ℕ) → Moved x j v w s (blockCopy (loadCall j .state)) value j' v')
-        → (value : ℕ) → Moved x (writtenPut i a) v w s (blockCopy m₀) value j' v'
+    pub written-own : {j : List ℕ} → j ≡ put → Own x j v w s
+    written-own e = own (written-next e .lent)
+
+    pub written-moved : {j j' v' : List ℕ} → j ≡ put → ((value : ℕ) → Moved x j v w s (blockCopy (loadCall j .state)) value j' v')
+        → (value : ℕ) → Moved x put v w s (blockCopy m₀) value j' v'
     written-moved {j} {j'} {v'} e f value =
-        let q : blockCopy (loadCall (writtenPut i a) .state) ≡ blockCopy m₀ = ap blockCopy (written-next refl .same) ∙ same-block m₀ a k' in
-        subst (λ (n : Copy). Moved x (writtenPut i a) v w s n value j' v') q
+        let q : blockCopy (loadCall put .state) ≡ blockCopy m₀ = ap blockCopy (written-next refl .same) ∙ same-block m₀ a k' in
+        subst (λ (n : Copy). Moved x put v w s n value j' v') q
         (subst (λ (n : List ℕ). Moved x n v w s (blockCopy (loadCall n .state)) value j' v') e (f value))
 
   module _ (value : ℕ) where
@@ -183,21 +183,18 @@ module _ {x : Fixed} {i : List ℕ} {c : Core} {v w s : List ℕ} (t : Lent x i 
           (ap (λ (d : Started). d .memory) started-by) (ap (λ (d : Started). d .copy) started-by) refl
 
     module _ (h : c .banks .colour ≡ true) {k : Start} (e : k ≡ starts (c .hdma) (c .lcd .mode) value) where
-      pub set-wrote : {a : Written} → k ≡ start.Set a → {j : List ℕ} → j ≡ writtenPut i a → Wrote x i v w s 0xFF55 value j v
-      unfolding copyBy finished
-      set-wrote {a} q {j} f l =
-          let p = set-keeps (c .hdma) (c .lcd .mode) value e h a q in
-          let y = below-source a p in
-          let g : j ≡ imageOf (transferPut m₀ 0x55 a) =
-          f ∙ ap (λ (n : List ℕ). writtenPut n a) (sym (lent-image t))
-          ∙ written-image m₀ (lent-typed t) (lent-storable t) a (below-source a p) (below-destination a p) (p .byte) in
-          ap (λ (n : List ℕ). left 0 0 n v w s l) g ∙ ap leftBy (start-by h (sym q ∙ e) l)
+      pub set-storable : {a : Written} → k ≡ start.Set a → storable (transferPut m₀ 0x55 a) ≡ true
+      set-storable {a} q = written-storable a (set-keeps (c .hdma) (c .lcd .mode) value e h a q)
 
-      pub block-wrote : {a : Written} → k ≡ start.Block a → {j' v' : List ℕ} → ((value : ℕ) → Moved x (writtenPut i a) v w s (blockCopy m₀) value j' v')
+      pub set-wrote : {a : Written} → k ≡ start.Set a → {j : List ℕ} → j ≡ imageOf (transferPut m₀ 0x55 a) → Wrote x i v w s 0xFF55 value j v
+      unfolding copyBy finished
+      set-wrote {a} q {j} f l = ap (λ (n : List ℕ). left 0 0 n v w s l) f ∙ ap leftBy (start-by h (sym q ∙ e) l)
+
+      pub block-wrote : {a : Written} → k ≡ start.Block a → {j' v' : List ℕ} → ((value : ℕ) → Moved x (imageOf (transferPut m₀ 0x55 a)) v w s (blockCopy m₀) value j' v')
           → Wrote x i v w s 0xFF55 value j' v'
       block-wrote {a} q f l =
           let p = block-keeps (c .hdma) (c .lcd .mode) value e h a q in
-          let z : worldOf (writtenPut i a) v w s l ≡ inState (worldOf i v w s l) (transferPut m₀ 0x55 a) =
+          let z : worldOf (imageOf (transferPut m₀ 0x55 a)) v w s l ≡ inState (worldOf i v w s l) (transferPut m₀ 0x55 a) =
           ap (λ (n : Memory). world n v w s l) (written-next a p refl .same) in
           f value l ∙ ap leftBy (ap (transferred x (writeAt x 1) (blockCopy m₀) value) z ∙ start-by h (sym q ∙ e) l)
 

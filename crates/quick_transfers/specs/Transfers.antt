@@ -35,6 +35,10 @@ pub record Lent (x : Fixed) (i : List ℕ) (c : Core) (v w s : List ℕ) : Type 
   pub core : c ≡ loadCall i .state .core
   pub ready : Ready x (worldOf i v w s [])
 
+-- with the fields that its bytes hold
+abbrev pub Own : Fixed → List ℕ → List ℕ → List ℕ → List ℕ → Type 0
+Own x i v w s = Lent x i (loadCall i .state .core) v w s
+
 -- bytes that lie within 256 from a multiple of 256: these are in one region, and there in a row
 abbrev pub Row : ℕ → ℕ → Type 0
 Row source n = source % 256 + n ≤ 256
@@ -66,10 +70,6 @@ endedPut i e =
 -- and after a byte write that starts one
 abbrev pub Wrote : Fixed → List ℕ → List ℕ → List ℕ → List ℕ → ℕ → ℕ → List ℕ → List ℕ → Type 0
 Wrote x i v w s index value j v' = (l : List ℕ) → left done 0 j v' w s l ≡ leftBy (writeAt x 2 (worldOf i v w s l) index value)
-
--- FF55 and the hidden addresses as its write leaves them, in the image
-unfoldable pub writtenPut : List ℕ → Written → List ℕ
-writtenPut i a = put (hdmaFields (a .hdma)) (set i 0x155 (a .byte))
 
 -- a write of FF55 that switches HDMA keeps its addresses, in colour
 pub record Kept (b : Bool) (h : Hdma) (a : Written) : Type 0 where

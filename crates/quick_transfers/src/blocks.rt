@@ -2,14 +2,13 @@
 ghost use mathlib.Core.Path.{_≡_};
 ghost use Prim.Native.Nat.{_%_};
 ghost use Rattle.memory.specs.World.{fixed};
-ghost use Rattle.quick_transfers.specs.Transfers.{Lent, Lands, Copied};
+ghost use Rattle.quick_transfers.specs.Transfers.{Own, Lands, Copied};
 use crate::rows;
-use memory::Core;
+use in_place::colour::banks_at;
 
 // One block.
 fn copy(
     image: &[u8],
-    core: Core,
     rom: &[u8],
     vram: &mut [u8],
     wram: &[u8],
@@ -18,13 +17,12 @@ fn copy(
     source: u16,
     destination: u16,
 )
-    requires { ⌜ Lent (fixed (now rom) (now sound)) (now image) core (now vram) (now wram) (now save) × ((source % 16 ≡ 0) × Lands destination 16) ⌝ }
+    requires { ⌜ Own (fixed (now rom) (now sound)) (now image) (now vram) (now wram) (now save) × ((source % 16 ≡ 0) × Lands destination 16) ⌝ }
     ensures { λ _. ⌜ Copied (fixed (now (rom .entry)) (now (sound .entry))) (now (image .entry)) (now (vram .entry)) (now (wram .entry)) (now (save .entry)) source destination 16 (now (vram .exit)) ⌝ }
 {
     let mut bytes = [0u8; 16];
     rows::read(
         image,
-        core,
         rom,
         vram,
         wram,
@@ -33,7 +31,7 @@ fn copy(
         source,
         &mut bytes,
     );
-    let banks = core.banks;
+    let banks = banks_at(image);
     let at = mmu::regions::vram_at(banks.vram, destination);
     packing::put(vram, at, &bytes);
 }
@@ -41,7 +39,6 @@ fn copy(
 // As many blocks as `count` bytes are, in rising order, so that later ones read what earlier ones wrote. The source wraps.
 pub fn copy_all(
     image: &[u8],
-    core: Core,
     rom: &[u8],
     vram: &mut [u8],
     wram: &[u8],
@@ -51,7 +48,7 @@ pub fn copy_all(
     destination: u16,
     count: u16,
 )
-    requires { ⌜ Lent (fixed (now rom) (now sound)) (now image) core (now vram) (now wram) (now save) × (((source % 16 ≡ 0) × (count % 16 ≡ 0)) × Lands destination count) ⌝ }
+    requires { ⌜ Own (fixed (now rom) (now sound)) (now image) (now vram) (now wram) (now save) × (((source % 16 ≡ 0) × (count % 16 ≡ 0)) × Lands destination count) ⌝ }
     ensures { λ _. ⌜ Copied (fixed (now (rom .entry)) (now (sound .entry))) (now (image .entry)) (now (vram .entry)) (now (wram .entry)) (now (save .entry)) source destination count (now (vram .exit)) ⌝ }
 {
     let mut i: u16 = 0;
@@ -59,8 +56,7 @@ pub fn copy_all(
         let from = std::num::wrapping_add_u16(source, i);
         copy(
             image,
-            core,
-            rom,
+                rom,
             vram,
             wram,
             save,

@@ -7,7 +7,6 @@ ghost use Rattle.memory.specs.World.{fixed};
 ghost use Rattle.refusals.specs.Refusal.{orElse, writeRefused};
 ghost use Rattle.entry.specs.Entry.{left, worldEntry};
 use entry::Given;
-use image::Opened;
 
 mod blocks;
 mod moves;
@@ -17,9 +16,10 @@ mod starts;
 use moves::move_block;
 use moves::move_oam;
 pub use starts::start;
+pub use starts::start_on;
 
-// An image with the lengths of what is lent beside it.
-fn open_lent(
+// The number of the image, of the log's use, and of the lengths of what is lent.
+pub fn number(
     image: &[u8],
     rom: usize,
     vram: usize,
@@ -27,21 +27,17 @@ fn open_lent(
     save: usize,
     sound: usize,
     log: usize,
-) -> Opened
-    ensures { λ r. ⌜ (r .number ≡ orElse (loadCall (now (image .entry)) .number) (writeRefused (loadCall (now (image .entry)) .state) rom vram wram save sound log)) × (r .core ≡ loadCall (now (image .entry)) .state .core) ⌝ }
+) -> u8
+    ensures { λ r. ⌜ r ≡ orElse (loadCall (now (image .entry)) .number) (writeRefused (loadCall (now (image .entry)) .state) rom vram wram save sound log) ⌝ }
 {
-    let opened = image::open(image);
-    if opened.number != numbers::DONE {
-        return opened;
+    let number = image::number(image);
+    if number != numbers::DONE {
+        return number;
     }
-    let core = opened.core;
-    let used = refusals::use_refused(core.used, log);
-    let lent = refusals::lent_refused(core, rom, vram, wram, save, sound, log);
-    let number = refusals::or_else(used, lent);
-    Opened {
-        number: number,
-        core: core,
-    }
+    let used = refusals::use_refused(image::used_at(image), log);
+    let lengths = quick_reads::lengths(image, rom, vram, wram, save, sound);
+    let lent = refusals::or_else(lengths, refusals::log_refused(log));
+    refusals::or_else(used, lent)
 }
 
 pub fn do_dma_transfer(
@@ -56,7 +52,7 @@ pub fn do_dma_transfer(
 ) -> u8
     ensures { λ r. ⌜ left r 0 (now (image .exit)) (now (vram .exit)) (now (wram .exit)) (now (save .exit)) (now (log .exit)) ≡ worldEntry (fixed (now (rom .entry)) (now (sound .entry))) (now (image .entry)) (now (vram .entry)) (now (wram .entry)) (now (save .entry)) (now (log .entry)) (DoDmaTransfer page) ⌝ }
 {
-    let opened = open_lent(
+    let number = number(
         image,
         rom.len(),
         vram.len(),
@@ -65,11 +61,10 @@ pub fn do_dma_transfer(
         sound.len(),
         log.len(),
     );
-    if opened.number != numbers::DONE {
-        return opened.number;
+    if number != numbers::DONE {
+        return number;
     }
-    let core = opened.core;
-    move_oam(image, core, rom, vram, wram, save, sound, page);
+    move_oam(image, rom, vram, wram, save, sound, page);
     numbers::DONE
 }
 
@@ -85,7 +80,7 @@ pub fn do_hdma(
 ) -> Given
     ensures { λ r. ⌜ left (r .number) (r .value) (now (image .exit)) (now (vram .exit)) (now (wram .exit)) (now (save .exit)) (now (log .exit)) ≡ worldEntry (fixed (now (rom .entry)) (now (sound .entry))) (now (image .entry)) (now (vram .entry)) (now (wram .entry)) (now (save .entry)) (now (log .entry)) DoHdma ⌝ }
 {
-    let opened = open_lent(
+    let number = number(
         image,
         rom.len(),
         vram.len(),
@@ -94,14 +89,13 @@ pub fn do_hdma(
         sound.len(),
         log.len(),
     );
-    if opened.number != numbers::DONE {
+    if number != numbers::DONE {
         return Given {
-            number: opened.number,
+            number: number,
             value: 0,
         };
     }
-    let core = opened.core;
-    move_block(image, core, rom, vram, wram, save, sound);
+    move_block(image, rom, vram, wram, save, sound);
     Given {
         number: numbers::DONE,
         value: 36,

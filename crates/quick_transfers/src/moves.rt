@@ -6,11 +6,11 @@ ghost use Rattle.image.specs.Layout.{imageLen};
 ghost use Rattle.image.specs.Load.{loadCall};
 ghost use Rattle.memory.specs.World.{fixed};
 ghost use Rattle.registers.specs.Transfers.{oamCopy, blockCopy};
-ghost use Rattle.quick_transfers.specs.Transfers.{Lent, Moved, endedPut};
+ghost use Rattle.quick_transfers.specs.Transfers.{Own, Moved, endedPut};
 use crate::blocks;
 use crate::rows;
 use hdma::Ended;
-use memory::Core;
+use in_place::transfers::hdma_at;
 
 // FF51..FF55 and the hidden addresses.
 pub fn put_ended(image: &mut [u8], ended: Ended)
@@ -29,7 +29,6 @@ pub fn put_ended(image: &mut [u8], ended: Ended)
 // OAM DMA. OAM is the first bytes of an image.
 pub fn move_oam(
     image: &mut [u8],
-    core: Core,
     rom: &[u8],
     vram: &[u8],
     wram: &[u8],
@@ -37,7 +36,7 @@ pub fn move_oam(
     sound: &[u8],
     page: u8,
 )
-    requires { ⌜ Lent (fixed (now rom) (now sound)) (now image) core (now vram) (now wram) (now save) ⌝ }
+    requires { ⌜ Own (fixed (now rom) (now sound)) (now image) (now vram) (now wram) (now save) ⌝ }
     ensures { λ _. ⌜ ((value : ℕ) → Moved (fixed (now (rom .entry)) (now (sound .entry))) (now (image .entry)) (now (vram .entry)) (now (wram .entry)) (now (save .entry)) (oamCopy page) value (now (image .exit)) (now (vram .entry))) ⌝ }
 {
     let copy = registers::transfers::oam_copy(page);
@@ -47,7 +46,6 @@ pub fn move_oam(
     let mut bytes = [0u8; 160];
     rows::read(
         image,
-        core,
         rom,
         vram,
         wram,
@@ -62,22 +60,20 @@ pub fn move_oam(
 // One HDMA block, enabled or not.
 pub fn move_block(
     image: &mut [u8],
-    core: Core,
     rom: &[u8],
     vram: &mut [u8],
     wram: &[u8],
     save: &[u8],
     sound: &[u8],
 )
-    requires { ⌜ Lent (fixed (now rom) (now sound)) (now image) core (now vram) (now wram) (now save) ⌝ }
+    requires { ⌜ Own (fixed (now rom) (now sound)) (now image) (now vram) (now wram) (now save) ⌝ }
     ensures { λ _. ⌜ ((value : ℕ) → Moved (fixed (now (rom .entry)) (now (sound .entry))) (now (image .entry)) (now (vram .entry)) (now (wram .entry)) (now (save .entry)) (blockCopy (loadCall (now (image .entry)) .state)) value (now (image .exit)) (now (vram .exit))) ⌝ }
 {
-    let hdma = core.hdma;
+    let hdma = hdma_at(image);
     let source = hdma::source_of(hdma);
     let destination = hdma::destination_of(hdma);
     blocks::copy_all(
         image,
-        core,
         rom,
         vram,
         wram,

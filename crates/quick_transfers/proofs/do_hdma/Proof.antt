@@ -1,21 +1,21 @@
 -- Refused, or moved: then the image is taken, and what is lent has its lengths (`lent`).
-use denote.Ref.{now}
 use Rattle.quick_transfers.proofs.EntryLaws.{lent, block-refused, block-done}
+use denote.Ref.{now}
 use borrow.Author.Needs.{needs}
 use Rattle.quick_transfers.proofs.do_hdma.Statement.{statement}
 use Rattle.quick_transfers.proofs.do_hdma.Tie as tie
 
-open-lent-requires : tie.Need-open-lent-requires
-open-lent-requires c κs = search needs
+number-requires : tie.Need-number-requires
+number-requires c κs = search needs
 
 same-length : tie.Need-same-length
 same-length c = search needs
 
 returns : tie.Need-returns
-returns c = block-refused _ _ _ _ _ _ _ (λ k. c .before .before .before .before .before .before .before .before .before .before .slice-known .given k .fits) (c .before .before .open-lent .ensures) (c .if1 .taken)
+returns c = block-refused _ _ _ _ _ _ _ (λ k. c .before .before .before .before .before .before .before .before .before .slice-known .given k .fits) (c .before .number .ensures) (c .if1 .taken)
 
 move-block-requires : tie.Need-move-block-requires
-move-block-requires c κs = lent _ _ _ _ _ _ (now (c .before .before .before .before .before .before .before .before .before .before .before .before .before .before .before .before .args .log)) (λ k. c .before .before .before .before .before .before .before .before .before .before .before .before .before .before .before .slice-known .given k .fits) (c .before .before .before .before .before .before .before .open-lent .ensures) (c .before .before .before .before .before .if1 .left)
+move-block-requires c κs = lent _ _ _ _ _ _ (now (c .before .before .before .before .before .before .before .before .before .before .before .before .before .before .args .log)) (λ k. c .before .before .before .before .before .before .before .before .before .before .before .before .before .slice-known .given k .fits) (c .before .before .before .before .before .number .ensures) (c .before .before .before .before .if1 .left)
 
 same-length-2 : tie.Need-same-length-2
 same-length-2 c = search needs
@@ -30,13 +30,13 @@ same-length-5 : tie.Need-same-length-5
 same-length-5 c = search needs
 
 returns-2 : tie.Need-returns-2
-returns-2 c = block-done _ _ _ _ _ _ _ (λ k. c .before .before .before .before .before .before .before .before .before .before .before .before .before .before .before .before .before .before .before .before .slice-known .given k .fits) (c .before .before .before .before .before .before .before .before .before .before .before .before .open-lent .ensures) (c .before .before .before .before .before .before .before .before .before .before .if1 .left) (c .before .before .before .before .move-block .ensures)
+returns-2 c = block-done _ _ _ _ _ _ _ (λ k. c .before .before .before .before .before .before .before .before .before .before .before .before .before .before .before .before .before .before .slice-known .given k .fits) (c .before .before .before .before .before .before .before .before .before .before .number .ensures) (c .before .before .before .before .before .before .before .before .before .if1 .left) (c .before .before .before .before .move-block .ensures)
 
 pub do-hdma-spec : {M : Type 1} → statement M
 do-hdma-spec =
     tie.close
     (tie.spec
-    open-lent-requires
+    number-requires
     same-length
     returns
     move-block-requires

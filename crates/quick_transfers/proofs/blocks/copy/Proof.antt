@@ -1,6 +1,9 @@
-use native.Mathlib.Omega.{arith}
 -- The block read, and pasted (`block-copied`).
 use Rattle.quick_transfers.proofs.MoveLaws.{block-fits, block-copied}
+use Rattle.mmu.specs.PanDocs.{vramAt}
+use Rattle.memory.specs.declared.Banks.{Banks}
+use native.Mathlib.Omega.{arith}
+use mathlib.Core.Path.{ap, _∙_}
 use borrow.Author.Needs.{needs}
 use Rattle.quick_transfers.proofs.blocks.copy.Statement.{statement}
 use Rattle.quick_transfers.proofs.blocks.copy.Tie as tie
@@ -11,6 +14,9 @@ slice-aggregate-read c = search needs
 read-requires : tie.Need-read-requires
 read-requires c κs = search needs
 
+banks-at-requires : tie.Need-banks-at-requires
+banks-at-requires c κs = (c .before .before .before .before .before .before .before .before .before .before .pre .0 .bytes, c .before .before .before .before .before .before .before .before .before .before .pre .0 .number)
+
 vram-at-requires : tie.Need-vram-at-requires
 vram-at-requires c κs = search needs
 
@@ -18,13 +24,13 @@ slice-aggregate-put : tie.Need-slice-aggregate-put
 slice-aggregate-put c = search needs
 
 put-requires : tie.Need-put-requires
-put-requires c κs = omega (arith, block-fits (c .before .before .before .before .before .before .before .before .before .before .before .before .before .before .pre .0) (c .before .before .before .before .before .before .before .before .before .before .before .before .before .before .args .destination) 16 (c .before .before .before .before .before .before .before .before .before .before .before .before .before .before .pre .1 .1) (c .before .before .vram-at .ensures), c .before .before .before .before .before .read .kept .1 .1 .1 .1 .1 .1 .1 .1 .0)
+put-requires c κs = omega (arith, block-fits (c .before .before .before .before .before .before .before .before .before .before .before .before .before .before .pre .0) (c .before .before .before .before .before .before .before .before .before .before .before .before .before .before .args .destination) 16 (c .before .before .before .before .before .before .before .before .before .before .before .before .before .before .pre .1 .1) (c .before .before .vram-at .ensures ∙ ap (λ (b : Banks). vramAt (b .vram) (c .before .before .before .before .before .before .before .before .before .before .before .before .before .before .args .destination)) (c .before .before .before .banks-at .ensures)), c .before .before .before .before .before .read .kept .1 .1 .1 .1 .1 .1 .1 .0)
 
 same-length : tie.Need-same-length
 same-length c = search needs
 
 returns : tie.Need-returns
-returns c = block-copied (c .before .before .before .before .before .before .before .before .before .before .before .before .before .before .before .before .before .pre .0) _ _ (c .before .before .before .before .before .before .before .before .before .before .before .before .before .before .before .before .before .fits .source .fits) (c .before .before .before .before .before .before .before .before .before .before .before .before .before .before .before .before .before .pre .1 .0) (c .before .before .before .before .before .before .before .before .before .before .before .before .before .before .before .before .before .pre .1 .1) (c .before .before .before .before .before .vram-at .ensures) (c .before .before .before .before .before .before .before .before .read .last .1 .1 .1 .1 .1 .1 .1 .1 .0) (c .before .before .before .before .before .before .before .before .read .kept .1 .1 .1 .1 .1 .1 .1 .1 .0) (c .before .before .before .before .before .before .before .before .read .ensures) (c .before .before .put .ensures)
+returns c = block-copied (c .before .before .before .before .before .before .before .before .before .before .before .before .before .before .before .before .before .pre .0) _ _ (c .before .before .before .before .before .before .before .before .before .before .before .before .before .before .before .before .before .fits .source .fits) (c .before .before .before .before .before .before .before .before .before .before .before .before .before .before .before .before .before .pre .1 .0) (c .before .before .before .before .before .before .before .before .before .before .before .before .before .before .before .before .before .pre .1 .1) (c .before .before .before .before .before .vram-at .ensures ∙ ap (λ (b : Banks). vramAt (b .vram) (c .before .before .before .before .before .before .before .before .before .before .before .before .before .before .before .before .before .args .destination)) (c .before .before .before .before .before .before .banks-at .ensures)) (c .before .before .before .before .before .before .before .before .read .last .1 .1 .1 .1 .1 .1 .1 .0) (c .before .before .before .before .before .before .before .before .read .kept .1 .1 .1 .1 .1 .1 .1 .0) (c .before .before .before .before .before .before .before .before .read .ensures) (c .before .before .put .ensures)
 
 pub copy-spec : {M : Type 1} → statement M
 copy-spec =
@@ -32,6 +38,7 @@ copy-spec =
     (tie.spec
     slice-aggregate-read
     read-requires
+    banks-at-requires
     vram-at-requires
     slice-aggregate-put
     put-requires

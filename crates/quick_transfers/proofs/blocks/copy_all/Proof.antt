@@ -11,10 +11,10 @@ use Rattle.quick_transfers.proofs.blocks.copy_all.Statement.{statement}
 use Rattle.quick_transfers.proofs.blocks.copy_all.Tie as tie
 
 abbrev Inv-loop : tie.InvT-loop
-Inv-loop image core rom vram₀ wram save sound source destination count i₀ vram i = (i ≤ count) × ((i % 16 ≡ 0) × ((length vram ≡ length vram₀) × Copied (fixed rom sound) image vram₀ wram save source destination i vram))
+Inv-loop image rom vram₀ wram save sound source destination count i₀ vram i = (i ≤ count) × ((i % 16 ≡ 0) × ((length vram ≡ length vram₀) × Copied (fixed rom sound) image vram₀ wram save source destination i vram))
 
 abbrev μ-loop : tie.MeasureT-loop
-μ-loop image core rom vram₀ wram save sound source destination count i₀ vram i = count - i
+μ-loop image rom vram₀ wram save sound source destination count i₀ vram i = count - i
 
 loop-holds : tie.Need-loop-holds Inv-loop μ-loop
 loop-holds c = (omega arith, (refl, (refl, copied-none (c .before .before .before .before .before .before .pre .0) _ _)))
@@ -45,7 +45,7 @@ loop-again c =
     let W = c .before .before .before .before .wrapping-add-u16 .ensures in
     let L = c .before .before .before .before .before .before .loop .inv in
     let P = c .before .before .before .before .before .before .before .before .before .before .before .before .before .pre in
-    (step-within _ _ _ _ (P .1) (L .0) (L .1 .0) (c .before .before .before .before .before .loop-test .taken), (omega (arith, L .1 .0), (C .kept .1 .1 .1 .0 ∙ L .1 .1 .0, copied-more (P .0) _ _ _ (L .1 .1 .1) (rw W at (C .ensures)))))
+    (step-within _ _ _ _ (P .1) (L .0) (L .1 .0) (c .before .before .before .before .before .loop-test .taken), (omega (arith, L .1 .0), (C .kept .1 .1 .0 ∙ L .1 .1 .0, copied-more (P .0) _ _ _ (L .1 .1 .1) (rw W at (C .ensures)))))
 
 same-length : tie.Need-same-length Inv-loop μ-loop
 same-length c = c .before .loop .inv .1 .1 .0

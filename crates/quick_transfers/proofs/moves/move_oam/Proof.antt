@@ -22,13 +22,13 @@ slice-aggregate-put : tie.Need-slice-aggregate-put
 slice-aggregate-put c = search needs
 
 put-requires : tie.Need-put-requires
-put-requires c κs = omega (arith, lent-length (c .before .before .before .before .before .before .before .before .before .before .before .before .before .before .before .pre), c .before .before .before .read .kept .1 .1 .1 .1 .1 .1 .1 .1 .0)
+put-requires c κs = omega (arith, lent-length (c .before .before .before .before .before .before .before .before .before .before .before .before .before .before .before .pre), c .before .before .before .read .kept .1 .1 .1 .1 .1 .1 .1 .0)
 
 same-length : tie.Need-same-length
 same-length c = search needs
 
 returns-2 : tie.Need-returns-2
-returns-2 c = oam-moved (c .before .before .before .before .before .before .before .before .before .before .before .before .before .before .before .before .before .before .pre) _ (c .before .before .before .before .before .before .before .before .before .before .before .oam-copy .ensures .0) (c .before .before .before .before .before .before .before .before .before .if1 .left) (c .before .before .before .before .before .before .read .last .1 .1 .1 .1 .1 .1 .1 .1 .0) (c .before .before .before .before .before .before .read .kept .1 .1 .1 .1 .1 .1 .1 .1 .0) (c .before .before .before .before .before .before .read .ensures) (c .before .before .put .ensures) (λ k. c .slice-known2 .given k .fits)
+returns-2 c = oam-moved (c .before .before .before .before .before .before .before .before .before .before .before .before .before .before .before .before .before .before .pre) _ (c .before .before .before .before .before .before .before .before .before .before .before .oam-copy .ensures .0) (c .before .before .before .before .before .before .before .before .before .if1 .left) (c .before .before .before .before .before .before .read .last .1 .1 .1 .1 .1 .1 .1 .0) (c .before .before .before .before .before .before .read .kept .1 .1 .1 .1 .1 .1 .1 .0) (c .before .before .before .before .before .before .read .ensures) (c .before .before .put .ensures) (λ k. c .slice-known2 .given k .fits)
 
 pub move-oam-spec : {M : Type 1} → statement M
 move-oam-spec =

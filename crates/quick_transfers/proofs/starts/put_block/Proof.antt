@@ -1,16 +1,14 @@
 -- The registers put, then a block from there (`written-moved`).
-use Rattle.quick_transfers.proofs.RowLaws.{lent-length}
-use Rattle.quick_transfers.proofs.StartLaws.{written-lent, written-moved}
-use mathlib.Core.Path.{refl}
+use Rattle.quick_transfers.proofs.StartLaws.{written-storable, written-own, written-moved}
 use borrow.Author.Needs.{needs}
 use Rattle.quick_transfers.proofs.starts.put_block.Statement.{statement}
 use Rattle.quick_transfers.proofs.starts.put_block.Tie as tie
 
 put-written-requires : tie.Need-put-written-requires
-put-written-requires c κs = lent-length (c .before .before .before .before .before .before .before .pre .0)
+put-written-requires c κs = ((c .before .before .before .before .before .before .before .pre .0 .bytes, c .before .before .before .before .before .before .before .pre .0 .number), written-storable (c .before .before .before .before .before .before .before .pre .0) _ (c .before .before .before .before .before .before .before .pre .1))
 
 move-block-requires : tie.Need-move-block-requires
-move-block-requires c κs = written-lent (c .before .before .before .before .before .before .before .before .before .before .before .before .before .pre .0) _ (c .before .before .before .before .before .before .before .before .before .before .before .before .before .pre .1) (c .before .before .before .before .before .put-written .ensures) refl
+move-block-requires c κs = written-own (c .before .before .before .before .before .before .before .before .before .before .before .before .pre .0) _ (c .before .before .before .before .before .before .before .before .before .before .before .before .pre .1) (c .before .before .before .before .put-written .ensures)
 
 same-length : tie.Need-same-length
 same-length c = search needs
@@ -19,7 +17,7 @@ same-length-2 : tie.Need-same-length-2
 same-length-2 c = search needs
 
 returns : tie.Need-returns
-returns c = written-moved (c .before .before .before .before .before .before .before .before .before .before .before .before .before .before .before .before .before .before .pre .0) _ (c .before .before .before .before .before .before .before .before .before .before .before .before .before .before .before .before .before .before .pre .1) (c .before .before .before .before .before .before .before .before .before .before .put-written .ensures) (c .before .before .before .before .move-block .ensures)
+returns c = written-moved (c .before .before .before .before .before .before .before .before .before .before .before .before .before .before .before .before .before .pre .0) _ (c .before .before .before .before .before .before .before .before .before .before .before .before .before .before .before .before .before .pre .1) (c .before .before .before .before .before .before .before .before .before .put-written .ensures) (c .before .before .before .before .move-block .ensures)
 
 pub put-block-spec : {M : Type 1} → statement M
 put-block-spec =

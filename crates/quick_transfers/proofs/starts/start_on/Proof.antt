@@ -1,19 +1,18 @@
 -- FF46: the byte, then OAM DMA from there; or FF55.
+use Rattle.quick_transfers.proofs.StartLaws.{page-own, page-wrote, wrote-at}
 use Rattle.quick_transfers.proofs.RowLaws.{lent-length}
-use Rattle.quick_transfers.proofs.StartLaws.{page-lent, page-wrote, wrote-at}
 use lib.ListN.{length-set}
 use native.Mathlib.Omega.{arith}
-use Prim.Native.Nat.{ℕ}
-use mathlib.Core.Path.{refl, sym, subst, _∙_}
+use mathlib.Core.Path.{refl, _∙_}
 use borrow.Author.Needs.{needs}
-use Rattle.quick_transfers.proofs.starts.start.Statement.{statement}
-use Rattle.quick_transfers.proofs.starts.start.Tie as tie
+use Rattle.quick_transfers.proofs.starts.start_on.Statement.{statement}
+use Rattle.quick_transfers.proofs.starts.start_on.Tie as tie
 
 slice-write-image : tie.Need-slice-write-image
 slice-write-image c = omega (arith, lent-length (c .before .before .before .before .before .before .before .pre .0))
 
 move-oam-requires : tie.Need-move-oam-requires
-move-oam-requires c κs = page-lent (c .before .before .before .before .before .before .before .before .before .pre .0) _ (c .before .before .before .before .before .before .before .before .before .fits .value .fits) refl
+move-oam-requires c κs = page-own (c .before .before .before .before .before .before .before .before .before .pre .0) _ (c .before .before .before .before .before .before .before .before .before .fits .value .fits) refl
 
 same-length : tie.Need-same-length
 same-length c = c .before .before .move-oam .kept .0 ∙ simp length-set
@@ -36,8 +35,8 @@ same-length-4 c = search needs
 returns-2 : tie.Need-returns-2
 returns-2 c = wrote-at _ _ _ _ _ _ 0xFF55 _ _ _ (c .before .before .before .before .before .before .before .before .before .before .before .before .before .before .pre .1 (c .before .before .before .before .before .before .before .if1 .left)) (c .before .before .before .before .start-hdma .ensures)
 
-pub start-spec : {M : Type 1} → statement M
-start-spec =
+pub start-on-spec : {M : Type 1} → statement M
+start-on-spec =
     tie.close
     (tie.spec
     slice-write-image
