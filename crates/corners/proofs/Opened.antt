@@ -16,10 +16,10 @@ use Rattle.refusals.specs.Answers as answers
 use Rattle.refusals.specs.Refusal as refusal
 use Rattle.registers.specs.Colour as colour
 use Rattle.registers.specs.Page as page
-use Rattle.registers.specs.PanDocs as selected
 use Rattle.registers.specs.Register as register
 use Rattle.registers.specs.Transfers as transfers
 use Rattle.savelog.specs.Log as log
+use Rattle.selects.specs.PanDocs as selected
 use Rattle.timer.specs.PanDocs as counter
 use Rattle.timer.specs.Timer as timer
 use Rattle.corners.specs.Rows as rows

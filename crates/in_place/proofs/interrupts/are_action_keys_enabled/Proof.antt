@@ -10,7 +10,7 @@ are-action-keys-enabled-requires : tie.Need-are-action-keys-enabled-requires
 are-action-keys-enabled-requires c κs = search needs
 
 returns : tie.Need-returns
-returns c = cc
+returns c = rw (c .before .load .ensures) at (c .are-action-keys-enabled .ensures)
 
 pub are-action-keys-enabled-spec : {M : Type 1} → statement M
 are-action-keys-enabled-spec =

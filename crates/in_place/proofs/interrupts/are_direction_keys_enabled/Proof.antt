@@ -10,7 +10,7 @@ are-direction-keys-enabled-requires : tie.Need-are-direction-keys-enabled-requir
 are-direction-keys-enabled-requires c κs = search needs
 
 returns : tie.Need-returns
-returns c = cc
+returns c = rw (c .before .load .ensures) at (c .are-direction-keys-enabled .ensures)
 
 pub are-direction-keys-enabled-spec : {M : Type 1} → statement M
 are-direction-keys-enabled-spec =

@@ -13,7 +13,7 @@ get-interrupts-requires : tie.Need-get-interrupts-requires
 get-interrupts-requires c κs = search needs
 
 returns : tie.Need-returns
-returns c = cc
+returns c = rw (c .before .load2 .ensures, c .before .before .load .ensures) at (c .get-interrupts .ensures)
 
 pub get-interrupts-spec : {M : Type 1} → statement M
 get-interrupts-spec =

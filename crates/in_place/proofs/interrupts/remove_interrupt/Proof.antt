@@ -16,7 +16,7 @@ same-length : tie.Need-same-length
 same-length c = search needs
 
 returns : tie.Need-returns
-returns c = cc
+returns c = rw (c .before .before .before .before .remove .ensures, c .before .before .before .before .before .load .ensures) at (c .before .before .store .ensures)
 
 pub remove-interrupt-spec : {M : Type 1} → statement M
 remove-interrupt-spec =

@@ -16,7 +16,7 @@ same-length : tie.Need-same-length
 same-length c = search needs
 
 returns : tie.Need-returns
-returns c = cc
+returns c = rw (c .before .before .before .before .request .ensures, c .before .before .before .before .before .load .ensures) at (c .before .before .store .ensures)
 
 pub request-interrupt-spec : {M : Type 1} → statement M
 request-interrupt-spec =

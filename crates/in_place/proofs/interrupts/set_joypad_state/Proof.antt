@@ -16,7 +16,7 @@ same-length : tie.Need-same-length
 same-length c = search needs
 
 returns : tie.Need-returns
-returns c = cc
+returns c = rw (c .before .before .before .before .set-joypad-state .ensures, c .before .before .before .before .before .controller-at .ensures) at (c .before .before .put-controller .ensures)
 
 pub set-joypad-state-spec : {M : Type 1} → statement M
 set-joypad-state-spec =
