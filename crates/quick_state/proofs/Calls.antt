@@ -14,6 +14,7 @@ use Rattle.dispatch.specs.declared.StateCall.the-variants as on
 use Rattle.entry.proofs.Entries.{unloaded-state, unloaded-ask, asked, refused-state, done-state}
 use Rattle.entry.specs.Entry.{Given, changed, stateEntry, given, askEntry}
 use Rattle.image.proofs.OpenLaws.{load-range}
+use Rattle.image.proofs.PatchLaws.{div-byte}
 use Rattle.image.specs.Layout.{imageOf}
 use Rattle.image.specs.Load.{loadCall}
 use Rattle.in_place.proofs.Images.{state, held}
@@ -170,7 +171,7 @@ module _ (i : List ℕ) (h : Held i) where
       let t = held i h .typed in
       let k = range-clock (state i h) (range-state (state i h) logLimit (load-range i (h .1) (h .0))) in
       let p = t .page .1 in
-      record { div = p 0x04; tima = p 0x05; tma = p 0x06; tac = p 0x07; flags = p 0x0F; div-cycles = t .div; tima-cycles = omega arith }
+      record { div = p 0x04; tima = p 0x05; tma = p 0x06; tac = p 0x07; flags = p 0x0F; div-cycles = div-byte t; tima-cycles = omega arith }
 
   module _ (n : ℕ) {k : ℕ} (e : k ≡ cyclesRefused n) where
     pub timer-refused : (k ≡ 0 → ⊥) → changed k i ≡ stateEntry i (on.UpdateTimer n)
