@@ -131,6 +131,7 @@ started-fine c m colour =
       lcd = record { line = lit< tt; signal = lit< tt; mode = lit< tt; delay = none; counter = none; aux = none; window = none };
       hdma = start-hdma colour (startPage colour) (page-bytes colour);
       clock = (lit< tt, lit< tt);
+      numbers = omega (arith, start-hdma colour (startPage colour) (page-bytes colour));
     }
 
 begun-whole : (l : Lent) → Below 256 (l .image) → start l .number ≡ done → Whole (begin l)

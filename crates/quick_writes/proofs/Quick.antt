@@ -7,7 +7,7 @@ use native.Mathlib.Omega.{arith}
 use lib.Dec.{eqb}
 use lib.ListN.{length, set}
 use borrow.Author.Tests.{eqb-false}
-use Rattle.image.proofs.PatchLaws.{typed-with, typed-bytes, bytes-set, oam-image}
+use Rattle.image.proofs.PatchLaws.{joypad-bytes, div-byte, typed-with, typed-bytes, bytes-set, oam-image}
 use Rattle.image.specs.Laws.{Typed}
 use Rattle.image.specs.Layout.{imageOf}
 use Rattle.image.specs.Load.{storable}
@@ -22,7 +22,7 @@ use Rattle.memory.proofs.Regions.{within}
 use Rattle.memory.specs.Ranges.{stateInRange}
 use Rattle.memory.specs.Region.{regionOf}
 use Rattle.memory.specs.Start.{zeroed}
-use Rattle.memory.specs.World.{World, world, Fixed, withOam, withCore, withMapper, withUsed}
+use Rattle.memory.specs.World.{World, world, Fixed, coreOf, withOam, withCore, withMapper, withUsed}
 use Rattle.memory.specs.declared.Memory.{Memory}
 use Rattle.memory.specs.declared.region.Region.{Region}
 use Rattle.memory.specs.declared.region.Region.the-variants.{Rom, Vram, Save, Wram, Oam, Page}
@@ -59,12 +59,12 @@ module _ (w : World) (t : Typed (w .state)) (i v : ℕ) (hv : v < 256) where
   mapper-typed : Typed (mapperPut (w .state) i v)
   mapper-typed =
       typed-with (w .state) t (w .state .oam) (w .state .page) (w .state .core .joypad) (w .state .core .clock) (after (w .state .core .cartridge) (w .state .core .mapper) i v)
-      (w .state .core .used) (t .oam) (t .page) (t .released) (t .state) (t .div)
+      (w .state .core .used) (t .oam) (t .page) (joypad-bytes t .0) (joypad-bytes t .1) (div-byte t)
 
   saved-typed : (a : Answer) → TypedIn (saved a (inState w (mapperPut (w .state) i v)))
   saved-typed (Stored at b) =
       typed-with (w .state) t (w .state .oam) (w .state .page) (w .state .core .joypad) (w .state .core .clock) (after (w .state .core .cartridge) (w .state .core .mapper) i v)
-      (w .state .core .used + width) (t .oam) (t .page) (t .released) (t .state) (t .div)
+      (w .state .core .used + width) (t .oam) (t .page) (joypad-bytes t .0) (joypad-bytes t .1) (div-byte t)
   saved-typed NotStored = mapper-typed
 
   save-typed : TypedIn (savePut w i v)
@@ -108,8 +108,7 @@ pub mapping-slim : {c : Cartridge} {t : Mapper} {used : ℕ} (s l : List ℕ) (i
     → Slim t → Slim (after c t i v) → Slim p
 mapping-slim {c} {t} {used} s l i v n a b =
     let k = zeroed .core in
-    let m : Memory = withCore zeroed
-    (record { banks = k .banks; lcd = k .lcd; hdma = k .hdma; joypad = k .joypad; clock = k .clock; cartridge = c; mapper = t; used = used }) in
+    let m : Memory = withUsed (withCore zeroed (coreOf (k .banks) (k .lcd) (k .hdma) (k .joypad) c t)) used in
     subst Slim (sym (ap (λ (w : World). w .state .core .mapper) (n m refl refl refl))) (save-slim (world m [] [] s l) i v a b)
 
 -- A byte of OAM or a register in the image: what a write leaves, as the world with another state, and that the image j is its
