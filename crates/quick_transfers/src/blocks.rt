@@ -21,16 +21,7 @@ fn copy(
     ensures { λ _. ⌜ Copied (fixed (now (rom .entry)) (now (sound .entry))) (now (image .entry)) (now (vram .entry)) (now (wram .entry)) (now (save .entry)) source destination 16 (now (vram .exit)) ⌝ }
 {
     let mut bytes = [0u8; 16];
-    rows::read(
-        image,
-        rom,
-        vram,
-        wram,
-        save,
-        sound,
-        source,
-        &mut bytes,
-    );
+    rows::read(image, rom, vram, wram, save, sound, source, &mut bytes);
     let banks = banks_at(image);
     let at = mmu::regions::vram_at(banks.vram, destination);
     packing::put(vram, at, &bytes);
@@ -54,16 +45,7 @@ pub fn copy_all(
     let mut i: u16 = 0;
     while i < count {
         let from = std::num::wrapping_add_u16(source, i);
-        copy(
-            image,
-                rom,
-            vram,
-            wram,
-            save,
-            sound,
-            from,
-            destination + i,
-        );
+        copy(image, rom, vram, wram, save, sound, from, destination + i);
         i += 16;
     }
 }

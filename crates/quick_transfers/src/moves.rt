@@ -44,16 +44,7 @@ pub fn move_oam(
         return;
     }
     let mut bytes = [0u8; 160];
-    rows::read(
-        image,
-        rom,
-        vram,
-        wram,
-        save,
-        sound,
-        copy.source,
-        &mut bytes,
-    );
+    rows::read(image, rom, vram, wram, save, sound, copy.source, &mut bytes);
     packing::put(image, 0, &bytes);
 }
 
@@ -72,17 +63,7 @@ pub fn move_block(
     let hdma = hdma_at(image);
     let source = hdma::source_of(hdma);
     let destination = hdma::destination_of(hdma);
-    blocks::copy_all(
-        image,
-        rom,
-        vram,
-        wram,
-        save,
-        sound,
-        source,
-        destination,
-        16,
-    );
+    blocks::copy_all(image, rom, vram, wram, save, sound, source, destination, 16);
     let ended = hdma::end_block(hdma, image[0x155]);
     put_ended(image, ended);
 }
