@@ -6,6 +6,7 @@ use Rattle.image.proofs.GroupPatches.{loaded-core}
 use Rattle.image.proofs.LoadedPatches.{loaded-typed, loaded-storable}
 use Rattle.image.proofs.OpenLaws.{load-image}
 use Rattle.image.proofs.PatchLaws.{slim, mapping-image}
+use Rattle.image.specs.Layout.{usedField}
 use Rattle.image.specs.Load.{cartridgeOf, registersIn, at, loadCall}
 use Rattle.image.specs.Patches.{fields, Slim, mappingPut}
 use Rattle.mbc.specs.Mbc.{mapperOf, readByte, writeByte}
@@ -59,7 +60,7 @@ module _ (i : List ℕ) {n : ℕ} (e : n ≡ loadCall i .number) where
         after-slim =
             slim (withMapper state (o .mapper)) (mapper-storable state k v answered h refl (loaded-storable i below taken))
 
-        pub done-write : {x u : ℕ} {j : List ℕ} → x ≡ answerNumber (o .answer) → u ≡ at (fields i) 28 → j ≡ mappingPut i (o .mapper) u
+        pub done-write : {x u : ℕ} {j : List ℕ} → x ≡ answerNumber (o .answer) → u ≡ at (fields i) usedField → j ≡ mappingPut i (o .mapper) u
             → mapped (o .number) x j ≡ mapperWriteEntry i k v
         done-write {x} {u} {j} p q g =
             let t : u ≡ state .core .used = q ∙ ap (λ (k : Core). k .used) (sym (loaded-core i below taken)) in

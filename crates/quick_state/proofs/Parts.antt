@@ -15,7 +15,7 @@ use Rattle.entry.specs.Host.{shownOf, numbersEntry, overflowEntry, useEntry}
 use Rattle.hdma.specs.declared.Hdma.{Hdma}
 use Rattle.image.proofs.LoadedPatches.{loaded-used}
 use Rattle.image.proofs.OpenLaws.{load-refused}
-use Rattle.image.specs.Layout.{imageOf}
+use Rattle.image.specs.Layout.{imageOf, usedField}
 use Rattle.image.specs.Load.{at, lcdOf, hdmaOf, loaded, loadCall}
 use Rattle.image.specs.Patches.{fields, usedPut}
 use Rattle.image.specs.declared.Loaded.{Loaded}
@@ -61,7 +61,7 @@ module _ (i : List ℕ) (h : Held i) where
   hdma-asked e f =
       flag-asked i h on.IsHdmaEnabled refl (ap (λ (d : Hdma). d .on) (e ∙ ap (λ (k : Core). k .hdma) (core i h))) f
 
-  pub used-given : {v : ℕ} → v ≡ at (fields i) 28 → given 0 v ≡ usedEntry i
+  pub used-given : {v : ℕ} → v ≡ at (fields i) usedField → given 0 v ≡ usedEntry i
   used-given e = rw (e ∙ ap (λ (k : Core). k .used) (core i h), h .1)
 
   pub overflow-given : {v : ℕ} → v ≡ leftOf (timerOf (state i h)) → given 0 v ≡ overflowEntry i

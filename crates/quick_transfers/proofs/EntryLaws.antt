@@ -13,6 +13,7 @@ use Rattle.dispatch.specs.Step.{step}
 use Rattle.dispatch.specs.declared.Call.{Call}
 use Rattle.dispatch.specs.declared.Call.the-variants as call
 use Rattle.image.proofs.OpenLaws.{load-range, load-image}
+use Rattle.image.specs.Layout.{usedField}
 use Rattle.image.specs.Load.{at, loadCall}
 use Rattle.image.specs.Patches.{fields}
 use Rattle.in_place.proofs.Images.{core}
@@ -45,7 +46,7 @@ module _ (i : List ℕ) {n : ℕ} (e : n ≡ loadCall i .number) (rom vram wram 
   unfolding orElse
   number-closed h = e ∙ rw (ne-eqb (loadCall i .number) 0 (λ z. h (e ∙ z)))
 
-  pub number-lent : n ≡ 0 → Below 256 i → {u a b c d k : ℕ} → u ≡ at (fields i) 28 → a ≡ useRefused u log
+  pub number-lent : n ≡ 0 → Below 256 i → {u a b c d k : ℕ} → u ≡ at (fields i) usedField → a ≡ useRefused u log
       → b ≡ lengthsRefused (loadCall i .state .core) rom vram wram save sound → c ≡ logRefused log → d ≡ orElse b c → k ≡ orElse a d → Number k
   unfolding lentRefused
   number-lent z below {u} f g h x y w =

@@ -16,7 +16,6 @@ mod starts;
 use moves::move_block;
 use moves::move_oam;
 pub use starts::start;
-pub use starts::start_on;
 
 // The number of the image, of the log's use, and of the lengths of what is lent.
 pub fn number(

@@ -5,7 +5,7 @@ ghost use Rattle.image.specs.Layout.{imageOf};
 ghost use Rattle.image.specs.Load.{loadCall};
 ghost use Rattle.memory.specs.World.{fixed};
 ghost use Rattle.registers.specs.Transfers.{transferPut, blockCopy, generalCopy};
-ghost use Rattle.quick_transfers.specs.Transfers.{Lent, Own, Moved, Wrote, Kept};
+ghost use Rattle.quick_transfers.specs.Transfers.{Own, Moved, Wrote, Kept};
 use crate::blocks;
 use crate::moves;
 use hdma::Start;
@@ -14,7 +14,6 @@ use in_place::colour::is_colour;
 use in_place::transfers::hdma_at;
 use in_place::transfers::mode_at;
 use in_place::transfers::put_written;
-use memory::Core;
 
 // A general transfer.
 fn move_general(
@@ -91,7 +90,7 @@ fn start_hdma(
 }
 
 // FF46 and FF55, for a caller who has asked the image, the lengths and the log's room.
-pub fn start_on(
+pub fn start(
     image: &mut [u8],
     rom: &[u8],
     vram: &mut [u8],
@@ -110,22 +109,4 @@ pub fn start_on(
         return;
     }
     start_hdma(image, rom, vram, wram, save, sound, value);
-}
-
-// For a caller who has read the fields: they are not needed.
-pub fn start(
-    image: &mut [u8],
-    core: Core,
-    rom: &[u8],
-    vram: &mut [u8],
-    wram: &[u8],
-    save: &[u8],
-    sound: &[u8],
-    index: u16,
-    value: u8,
-)
-    requires { ⌜ Lent (fixed (now rom) (now sound)) (now image) core (now vram) (now wram) (now save) × ((index ≡ 0xFF46 → ⊥) → index ≡ 0xFF55) ⌝ }
-    ensures { λ _. ⌜ Wrote (fixed (now (rom .entry)) (now (sound .entry))) (now (image .entry)) (now (vram .entry)) (now (wram .entry)) (now (save .entry)) index value (now (image .exit)) (now (vram .exit)) ⌝ }
-{
-    start_on(image, rom, vram, wram, save, sound, index, value);
 }

@@ -20,7 +20,7 @@ use Rattle.image.proofs.PatchLaws.{slim}
 use Rattle.image.proofs.StateLaws.{storable-state}
 use Rattle.image.proofs.Round.{state-back}
 use Rattle.image.specs.Laws.{Typed}
-use Rattle.image.specs.Layout.{imageLen, imageOf}
+use Rattle.image.specs.Layout.{imageLen, imageOf, usedField}
 use Rattle.image.specs.Load.{at, storable, loaded, loadCall}
 use Rattle.image.specs.Patches.{fields, MapperFits, RestFits, Slim, mappingPut}
 use Rattle.image.specs.declared.Loaded.{Loaded}
@@ -49,10 +49,11 @@ use Rattle.registers.specs.Page.{writeRegister}
 use Rattle.refusals.specs.Refusal.{orElse, useRefused, lengthsRefused, logRefused, lentRefused, writeRefused, refusedWrite, readRefused, refusedRead, stateRefused, inSound, nextIndex, byteRoom, wordRoom, byteOwed, wordOwed}
 use Rattle.savelog.specs.Log.{logLimit, useInRange}
 use Rattle.entry.specs.Entry.{Left, left, leftIn, encodedIn, worldEntry}
-use Rattle.quick_writes.specs.Writes.{quick, worldOf, Taken, LogFits, coreIn, coreOf, leftBy, ownPut}
+use Rattle.quick_writes.specs.Writes.{quick, Taken, LogFits, coreIn, ownPut}
 use Rattle.entry.proofs.Laws.{stays-storable, in-log}
 use Rattle.quick_reads.proofs.ReadLaws.{surely-loaded, surely-passes}
-use Rattle.quick_transfers.specs.Transfers.{Lent}
+use Rattle.quick_transfers.specs.Transfers.{worldOf, leftBy, Own}
+use Rattle.quick_transfers.proofs.EntryLaws.{number-lent}
 use Rattle.quick_writes.proofs.Quick.{quick-plain, put-typed, own-oam}
 
 -- the image and the memories of what a write leaves
@@ -234,10 +235,6 @@ starts-by true b e h = absurd (h refl)
 starts-by false true e h = refl
 starts-by false false e h = untrue (sym e)
 
--- what is lent, by another name of the same fields
-pub lent-as : {x : Fixed} {i : List ℕ} {c d : Core} {v w s : List ℕ} → Lent x i c v w s → d ≡ c → Lent x i d v w s
-lent-as {x} {i} {c} {d} {v} {w} {s} l e = subst (λ (k : Core). Lent x i k v w s) (sym e) l
-
 pub starts-either : (index : ℕ) {t : Bool} → t ≡ quick index → t ≡ false → (index ≡ 0xFF46 → ⊥) → index ≡ 0xFF55
 unfolding quick
 starts-either index e h n =
@@ -285,10 +282,10 @@ module _ (rom sound i v w s l : List ℕ) (below : Below 256 i) {o : ℕ}
           used = in-log (fixed rom sound) (worldOf i v w s l) (loaded-storable i below (both .0)) (both .1);
         }
 
-    used-is : {u : ℕ} → u ≡ at (fields i) 28 → u ≡ loadCall i .state .core .used
+    used-is : {u : ℕ} → u ≡ at (fields i) usedField → u ≡ loadCall i .state .core .used
     used-is f = f ∙ ap (λ (c : Core). c .used) (taken-core write-taken)
 
-    pub write-lent-to : Lent (fixed rom sound) i (coreOf i) v w s
+    pub write-lent-to : Own (fixed rom sound) i v w s
     write-lent-to =
         let r = write-passes rom sound (loadCall i .state) v w s l (both .1) in
         record {
@@ -319,7 +316,7 @@ module _ (rom sound i v w s l : List ℕ) (below : Below 256 i) {o : ℕ}
         write-refused (fixed rom sound) i v w s l below (call.WriteByte index b) byteAsked (byteOwed index) (writeAt (fixed rom sound) 2 (worldOf i v w s l) index b)
         (byte-call (fixed rom sound) (worldOf i v w s l) index b) (numbered byteAsked (closed h byteAsked)) h
 
-    module _ (z : o ≡ 0) {u r : ℕ} (f : u ≡ at (fields i) 28) (y : r ≡ byteRoom u (length l) index) where
+    module _ (z : o ≡ 0) {u r : ℕ} (f : u ≡ at (fields i) usedField) (y : r ≡ byteRoom u (length l) index) where
       byte-number : r ≡ orElse (orElse (loadCall i .number) (refusedWrite (fixed rom sound) (worldOf i v w s l))) byteAsked
       byte-number =
           let e : r ≡ byteAsked = y ∙ ap (λ (a : ℕ). byteRoom a (length l) index) (used-is z f) in
@@ -349,7 +346,7 @@ module _ (rom sound i v w s l : List ℕ) (below : Below 256 i) {o : ℕ}
         write-refused (fixed rom sound) i v w s l below (call.WriteWord index b) wordAsked (wordOwed index) wordPut
         (word-call (fixed rom sound) (worldOf i v w s l) index b (q .0) (q .1)) (numbered wordAsked (closed h wordAsked)) h
 
-    module _ (z : o ≡ 0) {u r : ℕ} (f : u ≡ at (fields i) 28) (y : r ≡ wordRoom u (length l) index) where
+    module _ (z : o ≡ 0) {u r : ℕ} (f : u ≡ at (fields i) usedField) (y : r ≡ wordRoom u (length l) index) where
       word-number : r ≡ orElse (orElse (loadCall i .number) (refusedWrite (fixed rom sound) (worldOf i v w s l))) wordAsked
       word-number =
           let e : r ≡ wordAsked = y ∙ ap (λ (a : ℕ). wordRoom a (length l) index) (used-is z f) in
@@ -367,26 +364,6 @@ module _ (rom sound i v w s l : List ℕ) (below : Below 256 i) {o : ℕ}
           (write-done (fixed rom sound) i v w s l below (call.WriteWord index b) wordAsked (wordOwed index) wordPut
           (word-call (fixed rom sound) (worldOf i v w s l) index b (q .0) (q .1)) word-number t (word-owed index) g)
 
--- what `number` finds
-module _ (i : List ℕ) {n : ℕ} (e : n ≡ loadCall i .number) (rom vram wram save sound log : ℕ) where
-  abbrev Number : ℕ → Type 0
-  Number k = k ≡ orElse (loadCall i .number) (writeRefused (loadCall i .state) rom vram wram save sound log)
-
-  pub number-closed : (n ≡ 0 → ⊥) → Number n
-  unfolding orElse
-  number-closed h = e ∙ rw (ne-eqb (loadCall i .number) 0 (λ z. h (e ∙ z)))
-
-  pub number-lent : n ≡ 0 → Below 256 i → {u a b c d k : ℕ} → u ≡ at (fields i) 28 → a ≡ useRefused u log
-      → b ≡ lengthsRefused (loadCall i .state .core) rom vram wram save sound → c ≡ logRefused log → d ≡ orElse b c → k ≡ orElse a d → Number k
-  unfolding lentRefused
-  number-lent z below {u} f g h x y w =
-      let m = loadCall i .state in
-      let t : loadCall i .number ≡ 0 = sym e ∙ z in
-      let r : u ≡ m .core .used = f ∙ ap (λ (c : Core). c .used) (core i (below, t)) in
-      (w ∙ rw (g, r, y, h, x))
-      ∙ sym (write-lent m (load-range i t below) rom vram wram save sound log)
-      ∙ sym (ap (λ (a : ℕ). orElse a (writeRefused m rom vram wram save sound log)) t ∙ zero-else (writeRefused m rom vram wram save sound log))
-
 -- the tests that are enough
 module _ (rom sound i v w s l : List ℕ) (below : Below 256 i) (p : MapperFits i (length rom) (length s)) (q : RestFits i (length v) (length w))
     (r : LogFits i (length sound) (length l)) where
@@ -396,7 +373,7 @@ module _ (rom sound i v w s l : List ℕ) (below : Below 256 i) (p : MapperFits 
       let a = both-pass (loadCall i .number) (refusedRead (fixed rom sound) (world (loadCall i .state) v w s [])) (sym (surely-passes (fixed rom sound) i v w s below p q (r .sound))) in
       both-pass (stateRefused (loadCall i .state) logLimit) (lengthsRefused (loadCall i .state .core) (length rom) (length v) (length w) (length s) (length sound)) (a .1) .1
 
-  use-passes : useRefused (at (fields i) 28) (length l) ≡ 0
+  use-passes : useRefused (at (fields i) usedField) (length l) ≡ 0
   unfolding useRefused
   use-passes = rw (r .used)
 

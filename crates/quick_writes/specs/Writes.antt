@@ -6,24 +6,19 @@ use mathlib.Core.Path.{_≡_}
 use Prim.Native.Nat.{ℕ, _-_, _≤_}
 use lib.Dec.{eqb}
 use lib.ListN.{length, set}
-use Rattle.image.specs.Layout.{imageOf}
+use Rattle.image.specs.Layout.{usedField}
 use Rattle.image.specs.Load.{at, coreFrom, loadCall}
 use Rattle.image.specs.Patches.{fields}
-use Rattle.memory.specs.World.{World, world}
 use Rattle.memory.specs.declared.Core.{Core}
 use Rattle.mmu.specs.Access.{Holds}
 use Rattle.numbers.specs.Numbers.{done}
 use Rattle.packing.specs.Packing.{Below}
 use Rattle.savelog.specs.Log.{logLimit, useInRange}
-use Rattle.entry.specs.Entry.{Left, leftIn}
+use Rattle.quick_transfers.specs.Transfers.{worldOf}
 
 -- an index whose write starts no transfer
 unfoldable pub quick : ℕ → Bool
 quick at = cond (eqb at 0xFF46) false (cond (eqb at 0xFF55) false true)
-
--- the world of an image that is taken
-abbrev pub worldOf : List ℕ → List ℕ → List ℕ → List ℕ → List ℕ → World
-worldOf i v w s l = world (loadCall i .state) v w s l
 
 -- an image that is taken, beside memories of the lengths that its state asks for
 pub record Taken (i v w s l : List ℕ) : Type 0 where
@@ -36,19 +31,11 @@ pub record Taken (i v w s l : List ℕ) : Type 0 where
 pub record LogFits (i : List ℕ) (m n : ℕ) : Type 0 where
   pub sound : m ≡ 48
   pub log : n ≤ logLimit
-  pub used : useInRange (at (fields i) 28) n ≡ true
+  pub used : useInRange (at (fields i) usedField) n ≡ true
 
 -- the state but its arrays, by the fields
 abbrev pub coreIn : List ℕ → Core
 coreIn i = coreFrom (fields i)
-
--- and as the load gives it
-abbrev pub coreOf : List ℕ → Core
-coreOf i = loadCall i .state .core
-
--- the image and the memories of a world
-abbrev pub leftBy : World → Left
-leftBy w = leftIn done 0 (imageOf (w .state)) w
 
 -- OAM is the first 256 bytes of an image
 abbrev pub ownPut : List ℕ → ℕ → ℕ → List ℕ

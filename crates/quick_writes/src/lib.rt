@@ -15,12 +15,12 @@ ghost use Rattle.memory.specs.World.{world, fixed, withMapper, withUsed};
 ghost use Rattle.memory.specs.declared.Memory.{Memory};
 ghost use Rattle.mmu.specs.Access.{savePut, put};
 ghost use Rattle.mmu.specs.Write.{writeAt};
-ghost use Rattle.quick_transfers.specs.Transfers.{Lent};
+ghost use Rattle.quick_transfers.specs.Transfers.{worldOf, leftBy, Own};
 ghost use Rattle.registers.specs.Page.{writeRegister};
-ghost use Rattle.refusals.specs.Refusal.{orElse, writeRefused, nextIndex};
+ghost use Rattle.refusals.specs.Refusal.{nextIndex};
 ghost use Rattle.savelog.specs.Log.{logLimit};
 ghost use Rattle.entry.specs.Entry.{left, worldEntry};
-ghost use Rattle.quick_writes.specs.Writes.{quick, worldOf, Taken, LogFits, coreIn, coreOf, leftBy, ownPut};
+ghost use Rattle.quick_writes.specs.Writes.{quick, Taken, LogFits, coreIn, ownPut};
 use dispatch::Call;
 use entry::on_bus;
 use memory::Region;
@@ -172,28 +172,6 @@ fn log_fits(image: &[u8], sound: usize, log: usize) -> bool
     savelog::use_in_range(image::used_at(image), log)
 }
 
-// The number of the image, of the log's use, and of the lengths.
-fn number(
-    image: &[u8],
-    rom: usize,
-    vram: usize,
-    wram: usize,
-    save: usize,
-    sound: usize,
-    log: usize,
-) -> u8
-    ensures { λ r. ⌜ r ≡ orElse (loadCall (now (image .entry)) .number) (writeRefused (loadCall (now (image .entry)) .state) rom vram wram save sound log) ⌝ }
-{
-    let number = image::number(image);
-    if number != numbers::DONE {
-        return number;
-    }
-    let used = refusals::use_refused(image::used_at(image), log);
-    let lengths = quick_reads::lengths(image, rom, vram, wram, save, sound);
-    let lent = refusals::or_else(lengths, refusals::log_refused(log));
-    refusals::or_else(used, lent)
-}
-
 // A write that nothing refuses, with the copying that it may start.
 fn put_all(
     image: &mut [u8],
@@ -206,16 +184,14 @@ fn put_all(
     index: u16,
     value: u8,
 )
-    requires { ⌜ Taken (now image) (now vram) (now wram) (now save) (now log) × Lent (fixed (now rom) (now sound)) (now image) (coreOf (now image)) (now vram) (now wram) (now save) ⌝ }
+    requires { ⌜ Taken (now image) (now vram) (now wram) (now save) (now log) × Own (fixed (now rom) (now sound)) (now image) (now vram) (now wram) (now save) ⌝ }
     ensures { λ _. ⌜ left 0 0 (now (image .exit)) (now (vram .exit)) (now (wram .exit)) (now (save .exit)) (now (log .exit)) ≡ leftBy (writeAt (fixed (now (rom .entry)) (now (sound .entry))) 2 (worldOf (now (image .entry)) (now (vram .entry)) (now (wram .entry)) (now (save .entry)) (now (log .entry))) index value) ⌝ }
 {
     if is_quick(index) {
         put_byte(image, vram, wram, save, log, index, value);
         return;
     }
-    let opened = image::open(image);
-    let core = opened.core;
-    quick_transfers::start(image, core, rom, vram, wram, save, sound, index, value);
+    quick_transfers::start(image, rom, vram, wram, save, sound, index, value);
 }
 
 // Every image, and every refusal.
@@ -232,7 +208,7 @@ fn plain_byte(
 ) -> u8
     ensures { λ r. ⌜ left r 0 (now (image .exit)) (now (vram .exit)) (now (wram .exit)) (now (save .exit)) (now (log .exit)) ≡ worldEntry (fixed (now (rom .entry)) (now (sound .entry))) (now (image .entry)) (now (vram .entry)) (now (wram .entry)) (now (save .entry)) (now (log .entry)) (WriteByte index value) ⌝ }
 {
-    let number = number(
+    let number = quick_transfers::number(
         image,
         rom.len(),
         vram.len(),
@@ -316,7 +292,7 @@ fn write_both(
     requires { ⌜ (quick index ≡ true) × (quick (nextIndex index) ≡ true) ⌝ }
     ensures { λ r. ⌜ left r 0 (now (image .exit)) (now (vram .exit)) (now (wram .exit)) (now (save .exit)) (now (log .exit)) ≡ worldEntry (fixed (now (rom .entry)) (now (sound .entry))) (now (image .entry)) (now (vram .entry)) (now (wram .entry)) (now (save .entry)) (now (log .entry)) (WriteWord index value) ⌝ }
 {
-    let number = number(
+    let number = quick_transfers::number(
         image,
         rom.len(),
         vram.len(),

@@ -1,8 +1,5 @@
 -- Quick, or by the transfer that it starts.
-use mathlib.Core.Path.{sym, subst, _∙_}
-use Rattle.image.proofs.OpenLaws.{open-core}
-use Rattle.memory.specs.declared.Core.{Core}
-use Rattle.quick_writes.proofs.WriteLaws.{put-quick, starts-either, lent-as}
+use Rattle.quick_writes.proofs.WriteLaws.{put-quick, starts-either}
 use borrow.Author.Needs.{needs}
 use Rattle.quick_writes.proofs.put_all.Statement.{statement}
 use Rattle.quick_writes.proofs.put_all.Tie as tie
@@ -31,11 +28,8 @@ same-length-5 c = search needs
 returns : tie.Need-returns
 returns c = put-quick _ _ _ _ _ (c .before .before .before .before .before .before .before .before .before .before .before .before .before .before .before .before .before .is-quick .ensures) (c .before .before .before .before .before .before .before .before .before .before .before .before .before .before .before .before .if1 .taken) (c .before .before .before .before .before .before .before .before .before .before .put-byte .ensures)
 
-open-requires : tie.Need-open-requires
-open-requires c κs = search needs
-
 start-requires : tie.Need-start-requires
-start-requires c κs = (lent-as (c .before .before .before .before .before .before .before .before .before .before .before .before .before .before .before .before .pre .1) (open-core _ (c .before .before .before .before .before .«open» .ensures)), starts-either _ (c .before .before .before .before .before .before .before .before .is-quick .ensures) (c .before .before .before .before .before .before .before .if1 .left))
+start-requires c κs = (c .before .before .before .before .before .before .before .before .before .before .before .before .before .before .pre .1, starts-either _ (c .before .before .before .before .before .before .is-quick .ensures) (c .before .before .before .before .before .if1 .left))
 
 same-length-6 : tie.Need-same-length-6
 same-length-6 c = search needs
@@ -53,4 +47,4 @@ returns-2 : tie.Need-returns-2
 returns-2 c = c .before .before .before .before .start .ensures _
 
 pub put-all-spec : {M : Type 1} → statement M
-put-all-spec = tie.close (tie.spec is-quick-requires put-byte-requires same-length same-length-2 same-length-3 same-length-4 same-length-5 returns open-requires start-requires same-length-6 same-length-7 same-length-8 same-length-9 returns-2)
+put-all-spec = tie.close (tie.spec is-quick-requires put-byte-requires same-length same-length-2 same-length-3 same-length-4 same-length-5 returns start-requires same-length-6 same-length-7 same-length-8 same-length-9 returns-2)

@@ -5,8 +5,8 @@ use lib.ListN.{length-set}
 use native.Mathlib.Omega.{arith}
 use mathlib.Core.Path.{refl, _∙_}
 use borrow.Author.Needs.{needs}
-use Rattle.quick_transfers.proofs.starts.start_on.Statement.{statement}
-use Rattle.quick_transfers.proofs.starts.start_on.Tie as tie
+use Rattle.quick_transfers.proofs.starts.start.Statement.{statement}
+use Rattle.quick_transfers.proofs.starts.start.Tie as tie
 
 slice-write-image : tie.Need-slice-write-image
 slice-write-image c = omega (arith, lent-length (c .before .before .before .before .before .before .before .pre .0))
@@ -35,8 +35,8 @@ same-length-4 c = search needs
 returns-2 : tie.Need-returns-2
 returns-2 c = wrote-at _ _ _ _ _ _ 0xFF55 _ _ _ (c .before .before .before .before .before .before .before .before .before .before .before .before .before .before .pre .1 (c .before .before .before .before .before .before .before .if1 .left)) (c .before .before .before .before .start-hdma .ensures)
 
-pub start-on-spec : {M : Type 1} → statement M
-start-on-spec =
+pub start-spec : {M : Type 1} → statement M
+start-spec =
     tie.close
     (tie.spec
     slice-write-image
