@@ -152,7 +152,8 @@ uint8_t pouch_read_word(
     size_t wram_len, const uint8_t *save, size_t save_len, const uint8_t *sound, size_t sound_len, uint16_t index, uint16_t *value);
 
 /* The bytes at `index` and behind it, as many as out_len says, each as pouch_read_byte gives it; FFFF is followed by 0000. For a host that looks through
- * tile maps, names or a whole bank: image and lengths are checked once for all of them.
+ * tile maps, names or a whole bank: image and lengths are checked once for all of them. Of video and work memory these are the banks that the game has
+ * selected; pouch_read_cgb_lcd_ram reads by bank.
  * 0; 4, 3 image; 4 another length, or out_len is over POUCH_BLOCK_LEN_MAX. */
 uint8_t pouch_read_block(
     const uint8_t *image, size_t image_len, const uint8_t *rom, size_t rom_len, const uint8_t *vram, size_t vram_len, const uint8_t *wram,
@@ -214,9 +215,11 @@ uint8_t pouch_store(uint8_t *image, size_t image_len, uint16_t index, uint8_t by
  * 0; 4, 3 image; 5 cycles over 65,536. */
 uint8_t pouch_update_timer(uint8_t *image, size_t image_len, uint32_t cycles);
 
-/* How many cycles are left until TIMA overflows and requests its interrupt: the fewest by which pouch_update_timer makes it, 0 where an update by 0 does.
- * POUCH_NEVER while TIMA does not count (bit 2 of FF07 is clear). An update by fewer cycles does not request the interrupt, so a host may update the
- * timer when it is due, and before the game reads or writes FF04..FF07, and not at every instruction. It changes with each of these writes and updates.
+/* How many cycles are left until TIMA overflows and requests its interrupt: after fewer in all it does not, after as many it does; 0 where an update by 0
+ * makes it. POUCH_NEVER while TIMA does not count (bit 2 of FF07 is clear). So a host may update the timer when it is due and not at every instruction:
+ * at 65,536 cycles at the latest, which is the most that an update takes (the number can be larger), and before whatever may look at FF04..FF07 or change
+ * them: the game's reads and writes there, words too, a write to FF46 or FF55, pouch_do_dma_transfer, pouch_do_hdma, pouch_load and pouch_store.
+ * Ask again after an update, and after such a write.
  * 0; 4, 3 image. */
 #define POUCH_NEVER 0xFFFFFFFFu
 uint8_t pouch_cycles_to_overflow(const uint8_t *image, size_t image_len, uint32_t *value);

@@ -29,7 +29,7 @@ returns : tie.Need-returns
 returns c = put-quick _ _ _ _ _ (c .before .before .before .before .before .before .before .before .before .before .before .before .before .before .before .before .before .is-quick .ensures) (c .before .before .before .before .before .before .before .before .before .before .before .before .before .before .before .before .if1 .taken) (c .before .before .before .before .before .before .before .before .before .before .put-byte .ensures)
 
 start-requires : tie.Need-start-requires
-start-requires c κs = (c .before .before .before .before .before .before .before .before .before .before .before .before .before .before .pre .1, starts-either _ (c .before .before .before .before .before .before .is-quick .ensures) (c .before .before .before .before .before .if1 .left))
+start-requires c κs = (c .before .before .before .before .before .before .before .before .before .before .before .before .before .pre .1, starts-either _ (c .before .before .before .before .before .is-quick .ensures) (c .before .before .before .before .if1 .left))
 
 same-length-6 : tie.Need-same-length-6
 same-length-6 c = search needs
