@@ -215,8 +215,8 @@ uint8_t pouch_store(uint8_t *image, size_t image_len, uint16_t index, uint8_t by
  * 0; 4, 3 image; 5 cycles over 65,536. */
 uint8_t pouch_update_timer(uint8_t *image, size_t image_len, uint32_t cycles);
 
-/* How many cycles are left until TIMA overflows and requests its interrupt: after fewer in all it does not, after as many it does; 0 where an update by 0
- * makes it. POUCH_NEVER while TIMA does not count (bit 2 of FF07 is clear). So a host may update the timer when it is due and not at every instruction:
+/* How many cycles are left until TIMA overflows and requests its interrupt: an update by fewer does not make it, one by as many does; 0 where an update
+ * by 0 does. POUCH_NEVER while TIMA does not count (bit 2 of FF07 is clear). So a host may update the timer when it is due and not at every instruction:
  * at 65,536 cycles at the latest, which is the most that an update takes (the number can be larger), and before whatever may look at FF04..FF07 or change
  * them: the game's reads and writes there, words too, a write to FF46 or FF55, pouch_do_dma_transfer, pouch_do_hdma, pouch_load and pouch_store.
  * Ask again after an update, and after such a write.

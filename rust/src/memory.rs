@@ -358,7 +358,7 @@ impl Memory {
         outcome(pouch_update_timer(&mut self.image, cycles)).map(|_| ())
     }
 
-    /// How many cycles are left until TIMA overflows and requests its interrupt: after fewer in all it does not, after as many it does. `None`
+    /// How many cycles are left until TIMA overflows and requests its interrupt: an update by fewer does not make it, one by as many does. `None`
     /// while TIMA does not count. The number may be more than the 65,536 that one update takes.
     #[inline]
     pub fn cycles_to_overflow(&self) -> Option<u32> {
