@@ -5,7 +5,7 @@ use mathlib.Core.List.{List, [], _∷_, _++_}
 use mathlib.Core.Path.{_≡_}
 use Prim.Native.Nat.{ℕ, _≤_}
 use lib.ListN.{length, take}
-use Rattle.mbc.specs.Mbc.{romLen, ramLen, described, cartridgeOf, start as mapperOf}
+use Rattle.mbc.specs.Mbc.{romLen, ramLen, known, described, cartridgeOf, start as mapperOf}
 use Rattle.memory.specs.Ranges.{vramLen, wramLen}
 use Rattle.memory.specs.World.{World, Fixed}
 use Rattle.savelog.specs.Log.{logLimit}
@@ -15,7 +15,7 @@ use Rattle.promise.specs.Admitted.{admittedBy}
 
 -- a description and lengths as document 01 has them ("Cartridge and buffers"): such a fresh bus is not refused
 pub record Fitting (l : Lent) : Type 0 where
-  pub kind : l .kind ≤ 2
+  pub kind : known (l .kind) ≡ true
   pub described : described (cartridgeOf (l .banks) (l .code)) (mapperOf (l .kind)) ≡ true
   pub rom : length (l .rom) ≡ romLen (cartridgeOf (l .banks) (l .code))
   pub vram : length (l .vram) ≡ vramLen (l .colour)
