@@ -1,7 +1,9 @@
 -- Each part is as long as was asked, since the whole is no shorter.
 use mathlib.Core.Path.{sym}
+use denote.Ref.{now}
 use native.Mathlib.Omega.{arith}
 use lib.Seq.{length-take-le}
+use Rattle.bus_host.proofs.Digests.{digest-lent}
 use borrow.Author.Needs.{needs}
 use Rattle.bus_host.proofs.digest.of_memories.Statement.{statement}
 use Rattle.bus_host.proofs.digest.of_memories.Tie as tie
@@ -31,7 +33,10 @@ of-log-requires : tie.Need-of-log-requires
 of-log-requires c κs = search needs
 
 returns : tie.Need-returns
-returns c = search needs
+returns c =
+    let a = c .before .before .before .before .before .before .before .before .before .before .before .before .args in
+    rw (c .of-log .ensures, c .before .of-bytes3 .ensures, c .before .before .before .of-bytes2 .ensures, c .before .before .before .before .before .of-bytes .ensures)
+    (digest-lent _ _ (c .before .before .before .before .before .before .before .lengths-in .ensures .0) (a .memory) (now (a .vram)) (now (a .wram)) (now (a .save)) (now (a .log)))
 
 pub of-memories-spec : {M : Type 1} → statement M
 of-memories-spec =
