@@ -1,15 +1,12 @@
 -- How an entry answers, by what the image gave and what the call gave.
 use mathlib.Core.List.{List, []}
-use mathlib.Core.Path.{_≡_, refl, ap, subst, _∙_}
+use mathlib.Core.Path.{_≡_, ap, _∙_}
 use Prim.Native.Nat.{ℕ, _<_, _≤_}
-use lib.Dec.{eqb, ltb}
 use lib.ListN.{length}
 use borrow.Author.Tests.{ne-eqb, lt-ltb, le-ltb}
-use Rattle.bus.specs.Calls.{Outcome, readByteCall, readWordCall, readCgbLcdRamCall}
+use Rattle.bus.specs.Calls.{readByteCall, readWordCall, readCgbLcdRamCall}
 use Rattle.bus.specs.Fresh.{Begun, beginning}
-use Rattle.dispatch.proofs.Numbered.{by-unless}
 use Rattle.dispatch.proofs.Starts.{begun-refused}
-use Rattle.dispatch.proofs.Unchanged.{refused-promise}
 use Rattle.dispatch.specs.Step.{step, stateStep}
 use Rattle.dispatch.specs.declared.Call.{Call}
 use Rattle.dispatch.specs.declared.Call.the-variants as call
@@ -21,11 +18,10 @@ use Rattle.image.specs.declared.Loaded.{Loaded}
 use Rattle.mbc.specs.Mbc as mbc
 use Rattle.mbc.specs.declared.mbc.ReadByte.{ReadByte}
 use Rattle.mbc.specs.declared.mbc.WriteByte.{WriteByte}
-use Rattle.memory.specs.World.{World, world, Fixed, withMapper}
+use Rattle.memory.specs.World.{world, Fixed, withMapper}
 use Rattle.memory.specs.declared.Memory.{Memory}
 use Rattle.refusals.specs.declared.Byte.{Byte}
 use Rattle.refusals.specs.declared.Word.{Word}
-use Rattle.rules.proofs.Tests.{by-cond}
 use Rattle.entry.specs.Entry.{
   changed,
   encoded,
@@ -33,10 +29,6 @@ use Rattle.entry.specs.Entry.{
   given,
   askEntry,
   readEntry,
-  Left,
-  left,
-  encodedIn,
-  worldEntry,
   fresh,
   freshEntry,
   mapperReadEntry,
@@ -68,10 +60,6 @@ module _ (i : List ℕ) {d : Loaded} (e : d ≡ loadCall i) where
     pub unloaded-mapper : (k v : ℕ) → mapped (d .number) 0 i ≡ mapperWriteEntry i k v
     unfolding mapperWriteEntry
     unloaded-mapper k v = rw (← e, ne-eqb (d .number) 0 h)
-
-    pub unloaded-bus : (x : Fixed) (v w s l : List ℕ) (c : Call) → left (d .number) 0 i v w s l ≡ worldEntry x i v w s l c
-    unfolding worldEntry
-    unloaded-bus x v w s l c = rw (← e, ne-eqb (d .number) 0 h)
 
   -- one that is loaded
   module _ (z : d .number ≡ 0) where
@@ -118,49 +106,6 @@ module _ (i : List ℕ) {d : Loaded} (e : d ≡ loadCall i) where
           → given (b .number) (b .value) ≡ readEntry x i v w s (call.ReadCgbLcdRam k bank)
       unfolding readEntry step
       lcd-ram-read k bank f = rw (← e, z, f)
-
-    module _ (x : Fixed) (v w s l : List ℕ) (c : Call) {o : Outcome} (f : o ≡ step x (world (d .state) v w s l) c) where
-      pub refused-bus : 1 < o .number
-          → left (o .number) 0 i (o .after .vram) (o .after .wram) (o .after .save) (o .after .log) ≡ worldEntry x i v w s l c
-      unfolding worldEntry encodedIn
-      refused-bus h =
-          let r = refused-promise x (world (d .state) v w s l) c (rw (← f) (lt-ltb 1 (o .number) h)) in
-          let a : o .after ≡ world (d .state) v w s l = rw f (r .0) in
-          rw (← e, z, ← f, lt-ltb 1 (o .number) h, a)
-
-      pub done-bus : o .number ≤ 1 → {j : List ℕ} → j ≡ imageOf (o .after .state)
-          → left (o .number) (o .value) j (o .after .vram) (o .after .wram) (o .after .save) (o .after .log) ≡ worldEntry x i v w s l c
-      unfolding worldEntry encodedIn
-      done-bus h g = rw (← e, z, ← f, le-ltb 1 (o .number) h, g)
-
--- a write gives no value
-
-pub with-zero : {n k : ℕ} {i v w s l : List ℕ} {r : Left} → left n k i v w s l ≡ r → r .value ≡ 0 → left n 0 i v w s l ≡ r
-with-zero {n} {k} {i} {v} {w} {s} {l} {r} e z =
-    let q : k ≡ 0 = ap (λ (a : Left). a .value) e ∙ z in
-    subst (λ (m : ℕ). left n m i v w s l ≡ r) q e
-
-module _ (x : Fixed) (i v w s l : List ℕ) where
-  abbrev NoValue : Call → Type 0
-  NoValue c = worldEntry x i v w s l c .value ≡ 0
-
-  no-value : (c : Call) → ((u : World) → step x u c .value ≡ 0) → NoValue c
-  unfolding worldEntry encodedIn
-  no-value c h =
-      by-cond (λ (a : Left). a .value ≡ 0) (eqb (loadCall i .number) 0) _ _
-      (λ t. by-cond (λ (a : Left). a .value ≡ 0) (ltb 1 (step x (world (loadCall i .state) v w s l) c .number)) _ _ (λ g. refl) (λ f. h _)) (λ f. refl)
-
-  pub byte-no-value : (k b : ℕ) → NoValue (call.WriteByte k b)
-  unfolding step
-  byte-no-value k b = no-value (call.WriteByte k b) (λ u. by-unless (λ (o : Outcome). o .value ≡ 0) _ u _ (λ z. refl) (λ h. refl))
-
-  pub word-no-value : (k b : ℕ) → NoValue (call.WriteWord k b)
-  unfolding step
-  word-no-value k b = no-value (call.WriteWord k b) (λ u. by-unless (λ (o : Outcome). o .value ≡ 0) _ u _ (λ z. refl) (λ h. refl))
-
-  pub transfer-no-value : (page : ℕ) → NoValue (call.DoDmaTransfer page)
-  unfolding step
-  transfer-no-value page = no-value (call.DoDmaTransfer page) (λ u. by-unless (λ (o : Outcome). o .value ≡ 0) _ u _ (λ z. refl) (λ h. refl))
 
 -- a fresh bus
 

@@ -32,8 +32,9 @@ use Rattle.memory.proofs.Laws.{used-range, mapper-kept}
 use Rattle.memory.specs.Ranges.{stateInRange, inRange}
 use Rattle.memory.specs.World.{World, Fixed, withUsed, withMapper}
 use Rattle.memory.specs.declared.Memory.{Memory}
-use Rattle.mmu.proofs.Laws.{Stays, write-stays, word-stays, transfer-stays}
+use Rattle.mmu.proofs.Laws.{write-stays, word-stays, transfer-stays}
 use Rattle.mmu.specs.Access.{Ready}
+use Rattle.put_bytes.proofs.Storable.{parts, joins, stays-storable}
 use Rattle.refusals.proofs.Answers.{both-pass, state-passes}
 use Rattle.refusals.specs.Answers.{changed}
 use Rattle.refusals.specs.Refusal.{refusedWrite, refusedState, lentRefused, writeRefused}
@@ -49,15 +50,6 @@ pub loaded-right : (l : List ℕ) {d : Loaded} → d ≡ loadCall l → d .numbe
 loaded-right l {d} e z =
     let h = sym (ap (λ (a : Loaded). a .number) e) ∙ z in
     (load-length l h, ap (λ (a : Loaded). storable (a .state)) e ∙ load-storable l h)
-
--- a state in range is made of two
-parts : (m : Memory) → storable m ≡ true → (stateInRange m ≡ true) × (useInRange (m .core .used) logLimit ≡ true)
-unfolding storable inRange
-parts m h = both-true (stateInRange m) _ h
-
-joins : (m : Memory) → stateInRange m ≡ true → useInRange (m .core .used) logLimit ≡ true → storable m ≡ true
-unfolding storable inRange
-joins m a b = rw (a, b)
 
 kept-storable : {m n : Memory} → Kept m n → storable m ≡ true → storable n ≡ true
 kept-storable {m} {n} k h = let p = parts m h in joins n (k .range (p .0)) (rw (k .used) (p .1))
@@ -85,9 +77,6 @@ module _ (x : Fixed) (w : World) (h : storable (w .state) ≡ true) where
   abbrev Fine : Outcome → Type 0
   Fine o = storable (o .after .state) ≡ true
 
-  pub stays-storable : useInRange (w .state .core .used) (length (w .log)) ≡ true → (u : World) → Stays w u → storable (u .state) ≡ true
-  stays-storable e u s = joins (u .state) (s .holds .state) (use-wider (u .state .core .used) (length (u .log)) logLimit (s .holds .log) (s .used e))
-
   -- what is not refused is ready
   ready : refusedWrite x w ≡ 0 → Ready x w
   ready e = write-passes (x .rom) (x .sound) (w .state) (w .vram) (w .wram) (w .save) (w .log) e
@@ -103,14 +92,14 @@ module _ (x : Fixed) (w : World) (h : storable (w .state) ≡ true) where
   step-storable (call.ReadCgbLcdRam i bank) = h
   step-storable (call.WriteByte i v) =
       by-unless Fine _ w _
-      (λ z. let e = both-pass (refusedWrite x w) _ z .0 in stays-storable (in-log e) _ (write-stays x w (ready e .holds) 2 i v)) (λ f. h)
+      (λ z. let e = both-pass (refusedWrite x w) _ z .0 in stays-storable w (in-log e) _ (write-stays x w (ready e .holds) 2 i v)) (λ f. h)
   step-storable (call.WriteWord i v) =
       by-unless Fine _ w _
-      (λ z. let e = both-pass (refusedWrite x w) _ z .0 in stays-storable (in-log e) _ (word-stays x w (ready e .holds) i v)) (λ f. h)
+      (λ z. let e = both-pass (refusedWrite x w) _ z .0 in stays-storable w (in-log e) _ (word-stays x w (ready e .holds) i v)) (λ f. h)
   step-storable (call.DoDmaTransfer page) =
-      by-unless Fine _ w _ (λ e. stays-storable (in-log e) _ (transfer-stays x w (ready e .holds) 1 (oamCopy page) 0)) (λ f. h)
+      by-unless Fine _ w _ (λ e. stays-storable w (in-log e) _ (transfer-stays x w (ready e .holds) 1 (oamCopy page) 0)) (λ f. h)
   step-storable call.DoHdma =
-      by-unless Fine _ w _ (λ e. stays-storable (in-log e) _ (transfer-stays x w (ready e .holds) 1 (blockCopy (w .state)) 0)) (λ f. h)
+      by-unless Fine _ w _ (λ e. stays-storable w (in-log e) _ (transfer-stays x w (ready e .holds) 1 (blockCopy (w .state)) 0)) (λ f. h)
   step-storable (call.State c) = state-storable (w .state) c h
 
 -- a mapper's own write that is done

@@ -21,6 +21,7 @@ use Rattle.mbc.specs.declared.mbc.WriteByte.{WriteByte}
 use Rattle.memory.specs.World.{World, world, Fixed, withMapper}
 use Rattle.memory.specs.declared.Memory.{Memory}
 use Rattle.numbers.specs.Numbers.{done, wrongLength}
+pub use Rattle.put_bytes.specs.Left.{Left, left, leftIn}
 use Rattle.savelog.specs.Log.{addressEnd, recordNumber}
 
 -- An entry that changes the state alone: the number, and the image as it is then
@@ -65,22 +66,7 @@ readEntry x i v w s c =
     (given (step x (world (loadCall i .state) v w s []) c .number) (step x (world (loadCall i .state) v w s []) c .value))
     (given (loadCall i .number) 0)
 
--- An entry that writes what is lent: the number, the value, the image and the memories as they are then
-
-pub record Left : Type 0 where
-  pub number : ℕ
-  pub value : ℕ
-  pub image : List ℕ
-  pub vram : List ℕ
-  pub wram : List ℕ
-  pub save : List ℕ
-  pub log : List ℕ
-
-abbrev pub left : ℕ → ℕ → List ℕ → List ℕ → List ℕ → List ℕ → List ℕ → Left
-left n v i a b s l = record { number = n; value = v; image = i; vram = a; wram = b; save = s; log = l }
-
-abbrev pub leftIn : ℕ → ℕ → List ℕ → World → Left
-leftIn n v i w = left n v i (w .vram) (w .wram) (w .save) (w .log)
+-- An entry that writes what is lent: the number, the value, the image and the memories as they are then (crate put_bytes, specs/Left.antt)
 
 unfoldable pub encodedIn : List ℕ → World → Outcome → Left
 encodedIn i w o =

@@ -128,7 +128,7 @@ pub extern "C" fn pouch_do_dma_transfer(
 ) -> u8
     ensures { λ r. ⌜ left r 0 (now (image .exit)) (now (vram .exit)) (now (wram .exit)) (now (save .exit)) (now (log .exit)) ≡ worldEntry (fixed (now (rom .entry)) (now (sound .entry))) (now (image .entry)) (now (vram .entry)) (now (wram .entry)) (now (save .entry)) (now (log .entry)) (DoDmaTransfer page) ⌝ }
 {
-    quick_transfers::do_dma_transfer(image, rom, vram, wram, save, log, sound, page)
+    quick_writes::transfers::do_dma_transfer(image, rom, vram, wram, save, log, sound, page)
 }
 
 // One block of 16 bytes; the value is 36 when it is done.
@@ -145,7 +145,7 @@ pub extern "C" fn pouch_do_hdma(
 ) -> u8
     ensures { λ r. ⌜ left r (now (value .exit)) (now (image .exit)) (now (vram .exit)) (now (wram .exit)) (now (save .exit)) (now (log .exit)) ≡ worldEntry (fixed (now (rom .entry)) (now (sound .entry))) (now (image .entry)) (now (vram .entry)) (now (wram .entry)) (now (save .entry)) (now (log .entry)) DoHdma ⌝ }
 {
-    let done = quick_transfers::do_hdma(image, rom, vram, wram, save, log, sound);
+    let done = quick_writes::transfers::do_hdma(image, rom, vram, wram, save, log, sound);
     *value = done.value;
     done.number
 }

@@ -28,7 +28,7 @@ fn fill(
     let mut at = index;
     let mut i = 0;
     while i < out.len() {
-        out[i] = crate::byte_at(image, rom, vram, wram, save, sound, at);
+        out[i] = take_bytes::byte_at(image, rom, vram, wram, save, sound, at);
         at = std::num::wrapping_add_u16(at, 1);
         i += 1;
     }
@@ -47,7 +47,7 @@ pub fn read_block(
 ) -> u8
     ensures { λ r. ⌜ stored r (now (out .exit)) ≡ blockEntry (fixed (now (rom .entry)) (now (sound .entry))) (now (image .entry)) (now (vram .entry)) (now (wram .entry)) (now (save .entry)) (now (out .entry)) index ⌝ }
 {
-    let number = crate::number(
+    let number = take_bytes::number(
         image,
         rom.len(),
         vram.len(),

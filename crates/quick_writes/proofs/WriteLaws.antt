@@ -1,188 +1,60 @@
--- A quick write on an image that is taken: what the parts of src/lib.rt ask for, what each region's part leaves, and that the next write finds an image
--- that is taken. Then how a write answers, by what refuses it.
+-- How a write answers, by what refuses it; and that a second write finds an image that is taken.
 use mathlib.Core.Bool.{Bool, true, false, cond, _||_}
 use mathlib.Core.List.{List, []}
-use mathlib.Core.Logic.{⊎-elim}
 use mathlib.Core.Path.{_≡_, refl, sym, ap, subst, _∙_}
-use Prim.Native.Nat.{ℕ, _+_, _*_, _-_, _/_, _%_, _<_, _≤_}
+use Prim.Native.Nat.{ℕ, _/_, _%_, _<_, _≤_}
 use native.Mathlib.Omega.{arith}
 use lib.Dec.{eqb, ltb}
-use lib.ListN.{length, set}
-use borrow.Author.Tests.{le-leb, eq-eqb, eqb-true, ne-eqb, lt-ltb, le-ltb, ltb-false}
+use lib.ListN.{length}
+use borrow.Author.Tests.{le-leb, eq-eqb, eqb-true, eqb-false, ne-eqb, le-ltb}
 use Rattle.bus.proofs.Passes.{write-passes}
-use Rattle.bus.specs.Calls.{Outcome, outcome, unless}
+use Rattle.bus.specs.Calls.{outcome, unless}
 use Rattle.dispatch.specs.Step.{step}
 use Rattle.dispatch.specs.declared.Call.{Call}
 use Rattle.dispatch.specs.declared.Call.the-variants as call
-use Rattle.image.proofs.LoadedPatches.{loaded-typed, loaded-storable, loaded-mapping}
-use Rattle.image.proofs.OpenLaws.{load-length, load-range, load-image}
-use Rattle.image.proofs.PatchLaws.{slim}
-use Rattle.image.proofs.StateLaws.{storable-state}
-use Rattle.image.proofs.Round.{state-back}
-use Rattle.image.specs.Laws.{Typed}
-use Rattle.image.specs.Layout.{imageLen, imageOf, usedField}
-use Rattle.image.specs.Load.{at, storable, loaded, loadCall}
-use Rattle.image.specs.Patches.{fields, MapperFits, RestFits, Slim, mappingPut}
-use Rattle.image.specs.declared.Loaded.{Loaded}
-use Rattle.in_place.proofs.Images.{core}
-use Rattle.in_place.specs.Held.{Held}
-use Rattle.mbc.specs.Mbc.{inRange, ramLen, after}
-use Rattle.mbc.specs.declared.mbc.Mapper.{Mapper}
-use Rattle.memory.proofs.Laws.{mapper-kept}
-use Rattle.memory.specs.Ranges as ranges
-use Rattle.memory.specs.Region.{regionOf}
-use Rattle.memory.specs.World.{World, world, Fixed, fixed, withMapper, withUsed}
+use Rattle.entry.proofs.Laws.{in-log}
+use Rattle.entry.specs.Entry.{encodedIn, worldEntry}
+use Rattle.image.proofs.LoadedPatches.{loaded-storable}
+use Rattle.image.proofs.OpenLaws.{load-image}
+use Rattle.image.specs.Layout.{usedField}
+use Rattle.image.specs.Load.{at, loadCall}
+use Rattle.image.specs.Patches.{fields, MapperFits, RestFits}
+use Rattle.in_place.proofs.Fine.{fine-typed}
+use Rattle.memory.specs.World.{World, world, Fixed, fixed}
 use Rattle.memory.specs.declared.Core.{Core}
-use Rattle.memory.specs.declared.Memory.{Memory}
-use Rattle.memory.specs.declared.region.Region.the-variants.{Rom, Vram, Save, Wram, Oam, Page}
-use Rattle.mmu.proofs.Laws.{Stays, put-stays}
-use Rattle.mmu.proofs.Places.{holds-mapper, holds-vram, holds-wram, put-rom, put-vram, put-save, put-wram, put-register}
-use Rattle.mmu.specs.Access.{Holds, mapperPut, savePut, inState, inVram, inWram, put}
-use Rattle.mmu.specs.PanDocs.{vramAt, wramAt}
+use Rattle.mmu.proofs.Laws.{write-plain, write-stays, write-ready, read-ready}
+use Rattle.mmu.specs.Access.{Ready, put}
 use Rattle.mmu.specs.Write.{writeAt, wordAt}
-use Rattle.numbers.specs.Numbers.{done}
+use Rattle.move_bytes.specs.Transfers.{Own}
 use Rattle.packing.specs.Packing.{Below}
+use Rattle.put_bytes.proofs.PutLaws.{taken-core, taken-left, taken-whole}
+use Rattle.put_bytes.proofs.Whole.{write-whole}
+use Rattle.put_bytes.specs.Left.{Left, left, worldOf, leftBy}
+use Rattle.put_bytes.specs.Puts.{Taken}
 use Rattle.refusals.proofs.Answers.{both-pass}
-use Rattle.rules.proofs.Tests.{both-true, by-cond, untrue}
-use Rattle.refusals.proofs.Core.{write-lent}
-use Rattle.registers.specs.Page.{writeRegister}
-use Rattle.refusals.specs.Refusal.{orElse, useRefused, lengthsRefused, logRefused, lentRefused, writeRefused, refusedWrite, readRefused, refusedRead, stateRefused, inSound, nextIndex, byteRoom, wordRoom, byteOwed, wordOwed}
-use Rattle.savelog.specs.Log.{logLimit, useInRange}
-use Rattle.entry.specs.Entry.{Left, left, leftIn, encodedIn, worldEntry}
-use Rattle.quick_writes.specs.Writes.{quick, Taken, LogFits, coreIn, ownPut}
-use Rattle.entry.proofs.Laws.{stays-storable, in-log}
-use Rattle.quick_reads.proofs.ReadLaws.{surely-loaded, surely-passes}
-use Rattle.quick_transfers.specs.Transfers.{worldOf, leftBy, Own}
-use Rattle.quick_transfers.proofs.EntryLaws.{number-lent}
-use Rattle.quick_writes.proofs.Quick.{quick-plain, put-typed, own-oam}
+use Rattle.refusals.specs.Refusal.{orElse, useRefused, lengthsRefused, logRefused, refusedWrite, readRefused, refusedRead, stateRefused, inSound, nextIndex, byteRoom, wordRoom, byteOwed, wordOwed}
+use Rattle.rules.proofs.Tests.{by-cond, untrue}
+use Rattle.savelog.specs.Log.{logLimit}
+use Rattle.take_bytes.proofs.ByteLaws.{surely-loaded, surely-passes}
+use Rattle.quick_writes.specs.Writes.{quick, LogFits}
+use Rattle.quick_writes.proofs.EntryLaws.{zero-else, either-way, number-lent, lent}
 
--- the image and the memories of what a write leaves
-as-left : (w : World) (index b : ℕ) {u : World} {j : List ℕ} → u ≡ put w index b → j ≡ imageOf (u .state)
-    → left 0 0 j (u .vram) (u .wram) (u .save) (u .log) ≡ leftBy (put w index b)
-as-left w index b e f = rw f (ap leftBy e)
+-- It starts no transfer
 
--- a write to the mapper, wherever it goes
-mapper-storable : (m : Memory) → storable m ≡ true → (index b : ℕ) → storable (mapperPut m index b) ≡ true
-unfolding storable ranges.inRange
-mapper-storable m h index b =
-    rw (mapper-kept m (storable-state m h) index b) (both-true (ranges.stateInRange m) (useInRange (m .core .used) logLimit) h .1)
+quick-other : (i : ℕ) → quick i ≡ true → (i ≡ 0xFF46 → ⊥) × (i ≡ 0xFF55 → ⊥)
+unfolding quick
+quick-other i q =
+    by-cond (λ (t : Bool). t ≡ true → (i ≡ 0xFF46 → ⊥) × (i ≡ 0xFF55 → ⊥)) (eqb i 0xFF46) false _
+    (λ t e. let z : _≡_ {A = ℕ} 0 1 = cc in absurd (omega arith))
+    (λ f.
+    by-cond (λ (t : Bool). t ≡ true → (i ≡ 0xFF46 → ⊥) × (i ≡ 0xFF55 → ⊥)) (eqb i 0xFF55) false true
+    (λ t e. let z : _≡_ {A = ℕ} 0 1 = cc in absurd (omega arith)) (λ g e. (eqb-false i 0xFF46 f, eqb-false i 0xFF55 g)))
+    q
 
-module _ {i v w s l : List ℕ} (t : Taken i v w s l) where
-  taken-storable : storable (loadCall i .state) ≡ true
-  taken-storable = loaded-storable i (t .bytes) (t .number)
-
-  taken-typed : Typed (loadCall i .state)
-  taken-typed = loaded-typed i (t .bytes) (t .number)
-
-  taken-image : i ≡ imageOf (loadCall i .state)
-  taken-image = sym (load-image i (t .number) (t .bytes))
-
-  put-storable : (index b : ℕ) → storable (put (worldOf i v w s l) index b .state) ≡ true
-  put-storable index b =
-      let W = worldOf i v w s l in
-      stays-storable (fixed [] []) W taken-storable (t .used) (put W index b) (put-stays W (t .holds) index b)
-
-  left-storable : (index b : ℕ) {u : World} → u ≡ put (worldOf i v w s l) index b → storable (u .state) ≡ true
-  left-storable index b e = ap (λ (a : World). storable (a .state)) e ∙ put-storable index b
-
-  pub taken-held : Held i
-  taken-held = (t .bytes, t .number)
-
-  pub taken-length : length i ≡ imageLen
-  taken-length = load-length i (t .number)
-
-  pub taken-core : coreIn i ≡ loadCall i .state .core
-  taken-core = core i taken-held
-
-  -- what the parts ask for, of the state without its arrays
-  module _ {c : Core} (e : c ≡ loadCall i .state .core) where
-    pub taken-mapper : inRange (c .cartridge) (c .mapper) ≡ true
-    taken-mapper = rw e (holds-mapper (t .holds))
-
-    pub taken-slim : Slim (c .mapper)
-    taken-slim = rw e (slim (loadCall i .state) taken-storable)
-
-    pub after-slim : (k b : ℕ) → Slim (after (c .cartridge) (c .mapper) k b)
-    after-slim k b = rw e (slim (mapperPut (loadCall i .state) k b) (mapper-storable (loadCall i .state) taken-storable k b))
-
-    pub taken-save : length s ≡ ramLen (c .cartridge) (c .mapper)
-    taken-save = rw e (t .holds .save)
-
-    pub taken-vram : c .banks .vram * 0x2000 + 0x2000 ≤ length v
-    taken-vram = rw e (holds-vram (t .holds))
-
-    pub taken-wram : (0x1000 ≤ length w) × (c .banks .wram * 0x1000 + 0x1000 ≤ length w)
-    taken-wram = rw e (holds-wram (t .holds))
-
-    -- each region
-    module _ (index b : ℕ) where
-      pub left-rom : regionOf index ≡ Rom → {j : List ℕ} → j ≡ mappingPut i (after (c .cartridge) (c .mapper) index b) (c .used)
-          → left 0 0 j v w s l ≡ leftBy (put (worldOf i v w s l) index b)
-      left-rom q f =
-          let m = loadCall i .state in
-          let p = put-rom (worldOf i v w s l) index b q refl in
-          as-left (worldOf i v w s l) index b p
-          (f
-          ∙ ap (λ (d : Core). mappingPut i (after (d .cartridge) (d .mapper) index b) (d .used)) e
-          ∙ loaded-mapping i (t .bytes) (t .number) (after (m .core .cartridge) (m .core .mapper) index b) (m .core .used) (left-storable index b p))
-
-      pub left-vram : regionOf index ≡ Vram → {j : List ℕ} → j ≡ set v (vramAt (c .banks .vram) index) b
-          → left 0 0 i j w s l ≡ leftBy (put (worldOf i v w s l) index b)
-      left-vram q f =
-          as-left (worldOf i v w s l) index b (put-vram (worldOf i v w s l) index b q (f ∙ ap (λ (d : Core). set v (vramAt (d .banks .vram) index) b) e)) taken-image
-
-      pub left-save : regionOf index ≡ Save → {p : Mapper} {r : ℕ} {j s' l' : List ℕ} → j ≡ mappingPut i p r
-          → ((m : Memory) → m .core .cartridge ≡ c .cartridge → m .core .mapper ≡ c .mapper → m .core .used ≡ c .used
-          → world (withUsed (withMapper m p) r) [] [] s' l' ≡ savePut (world m [] [] s l) index b)
-          → left 0 0 j v w s' l' ≡ leftBy (put (worldOf i v w s l) index b)
-      left-save q {p} {r} f n =
-          let m = loadCall i .state in
-          let y = put-save (worldOf i v w s l) index b q
-          (n m (sym (ap (λ (d : Core). d .cartridge) e)) (sym (ap (λ (d : Core). d .mapper) e)) (sym (ap (λ (d : Core). d .used) e))) in
-          as-left (worldOf i v w s l) index b y (f ∙ loaded-mapping i (t .bytes) (t .number) p r (left-storable index b y))
-
-      pub left-wram : regionOf index ≡ Wram → {j : List ℕ} → j ≡ set w (wramAt (c .banks .wram) index) b
-          → left 0 0 i v j s l ≡ leftBy (put (worldOf i v w s l) index b)
-      left-wram q f =
-          as-left (worldOf i v w s l) index b (put-wram (worldOf i v w s l) index b q (f ∙ ap (λ (d : Core). set w (wramAt (d .banks .wram) index) b) e)) taken-image
-
-      pub left-oam : regionOf index ≡ Oam → b < 256 → {j : List ℕ} → j ≡ ownPut i index b → left 0 0 j v w s l ≡ leftBy (put (worldOf i v w s l) index b)
-      left-oam q z f =
-          let o = own-oam (worldOf i v w s l) taken-typed taken-storable index b z q in
-          as-left (worldOf i v w s l) index b (o .same) (f ∙ ap (λ (a : List ℕ). ownPut a index b) taken-image ∙ o .image)
-
-      pub left-page : regionOf index ≡ Page → {j : List ℕ} → j ≡ imageOf (writeRegister (loadCall i .state) (index - 0xFF00) b)
-          → left 0 0 j v w s l ≡ leftBy (put (worldOf i v w s l) index b)
-      left-page q f = as-left (worldOf i v w s l) index b (put-register (worldOf i v w s l) index b q refl) f
-
-  -- and the next write finds an image that is taken
-  pub taken-put : (index b : ℕ) → b < 256 → {j v' w' s' l' : List ℕ}
-      → left 0 0 j v' w' s' l' ≡ leftBy (put (worldOf i v w s l) index b)
-      → Taken j v' w' s' l' × (worldOf j v' w' s' l' ≡ put (worldOf i v w s l) index b)
-  taken-put index b z e =
-      let u = put (worldOf i v w s l) index b in
-      let y = put-stays (worldOf i v w s l) (t .holds) index b in
-      let r = state-back (u .state) (put-typed (worldOf i v w s l) taken-typed (storable-state _ taken-storable) index b z) (put-storable index b) in
-      let n : loadCall (imageOf (u .state)) .state ≡ u .state = ap (λ (d : Loaded). d .state) (r .1 .1) in
-      subst (λ (a : Left). Taken (a .image) (a .vram) (a .wram) (a .save) (a .log) × (worldOf (a .image) (a .vram) (a .wram) (a .save) (a .log) ≡ u)) (sym e) (
-        record {
-          bytes = r .1 .0;
-          number = ap (λ (d : Loaded). d .number) (r .1 .1);
-          holds = subst (λ (m : Memory). Holds (world m (u .vram) (u .wram) (u .save) (u .log))) (sym n) (y .holds);
-          used = ap (λ (m : Memory). useInRange (m .core .used) (length (u .log))) n ∙ y .used (t .used);
-        },
-        ap (λ (m : Memory). world m (u .vram) (u .wram) (u .save) (u .log)) n,
-      )
+quick-plain : (x : Fixed) (w : World) (d index v : ℕ) → quick index ≡ true → writeAt x d w index v ≡ put w index v
+quick-plain x w d index v q = write-plain x w d index v (quick-other index q .0) (quick-other index q .1)
 
 -- How a write answers
-
-zero-else : (a : ℕ) → orElse 0 a ≡ a
-unfolding orElse
-zero-else a = refl
-
-either-way : (b : Bool) {x y : Left} → x ≡ y → cond b x y ≡ y
-either-way true e = e
-either-way false e = refl
 
 module _ (x : Fixed) (i v w s l : List ℕ) (below : Below 256 i) (c : Call) (room k : ℕ) (u : World)
     (f : step x (worldOf i v w s l) c ≡ unless (orElse (refusedWrite x (worldOf i v w s l)) room) (worldOf i v w s l) (outcome k 0 u)) where
@@ -244,13 +116,18 @@ byte-owed : (index : ℕ) → byteOwed index ≤ 1
 unfolding byteOwed
 byte-owed index = by-cond (λ (n : ℕ). n ≤ 1) (inSound index) 1 0 (λ t. omega arith) (λ f. omega arith)
 
-word-call : (x : Fixed) (w : World) (index b : ℕ) → quick index ≡ true → quick (nextIndex index) ≡ true
+word-call : (x : Fixed) (w : World) (index b : ℕ)
     → step x w (call.WriteWord index b)
-    ≡ unless (orElse (refusedWrite x w) (wordRoom (w .state .core .used) (length (w .log)) index)) w
-    (outcome (wordOwed index) 0 (put (put w index (b % 256)) (nextIndex index) (b / 256)))
-unfolding step wordAt
-word-call x w index b q r =
-    rw (quick-plain x w 2 index (b % 256) q, quick-plain x (put w index (b % 256)) 2 (nextIndex index) (b / 256) r)
+    ≡ unless (orElse (refusedWrite x w) (wordRoom (w .state .core .used) (length (w .log)) index)) w (outcome (wordOwed index) 0 (wordAt x w index b))
+unfolding step
+word-call x w index b = refl
+
+pub put-both-quick : (rom sound : List ℕ) (w : World) (index b : ℕ) → (quick index ≡ true) × (quick (nextIndex index) ≡ true) → {u : Left}
+    → u ≡ leftBy (put (put w index (b % 256)) (nextIndex index) (b / 256)) → u ≡ leftBy (wordAt (fixed rom sound) w index b)
+unfolding wordAt
+put-both-quick rom sound w index b q g =
+    g
+    ∙ sym (rw (quick-plain (fixed rom sound) w 2 index (b % 256) (q .0), quick-plain (fixed rom sound) (put w index (b % 256)) 2 (nextIndex index) (b / 256) (q .1)))
 
 word-owed : (index : ℕ) → wordOwed index ≤ 1
 unfolding wordOwed
@@ -286,26 +163,7 @@ module _ (rom sound i v w s l : List ℕ) (below : Below 256 i) {o : ℕ}
     used-is f = f ∙ ap (λ (c : Core). c .used) (taken-core write-taken)
 
     pub write-lent-to : Own (fixed rom sound) i v w s
-    write-lent-to =
-        let r = write-passes rom sound (loadCall i .state) v w s l (both .1) in
-        record {
-          bytes = below;
-          number = both .0;
-          core = refl;
-          ready =
-              record {
-                holds =
-                    record {
-                      state = r .holds .state;
-                      vram = r .holds .vram;
-                      wram = r .holds .wram;
-                      save = r .holds .save;
-                      log = omega arith;
-                    };
-                rom = r .rom;
-                sound = r .sound;
-              };
-        }
+    write-lent-to = lent rom sound i v w s l below p z
 
   module _ (index b : ℕ) where
     abbrev byteAsked : ℕ
@@ -334,17 +192,17 @@ module _ (rom sound i v w s l : List ℕ) (below : Below 256 i) {o : ℕ}
           (write-done (fixed rom sound) i v w s l below (call.WriteByte index b) byteAsked (byteOwed index) (writeAt (fixed rom sound) 2 (worldOf i v w s l) index b)
           (byte-call (fixed rom sound) (worldOf i v w s l) index b) byte-number t (byte-owed index) g)
 
-  module _ (index b : ℕ) (q : (quick index ≡ true) × (quick (nextIndex index) ≡ true)) where
+  module _ (index b : ℕ) where
     abbrev wordAsked : ℕ
     wordAsked = wordRoom (loadCall i .state .core .used) (length l) index
 
     abbrev wordPut : World
-    wordPut = put (put (worldOf i v w s l) index (b % 256)) (nextIndex index) (b / 256)
+    wordPut = wordAt (fixed rom sound) (worldOf i v w s l) index b
 
     pub word-closed : (o ≡ 0 → ⊥) → left o 0 i v w s l ≡ worldEntry (fixed rom sound) i v w s l (call.WriteWord index b)
     word-closed h =
         write-refused (fixed rom sound) i v w s l below (call.WriteWord index b) wordAsked (wordOwed index) wordPut
-        (word-call (fixed rom sound) (worldOf i v w s l) index b (q .0) (q .1)) (numbered wordAsked (closed h wordAsked)) h
+        (word-call (fixed rom sound) (worldOf i v w s l) index b) (numbered wordAsked (closed h wordAsked)) h
 
     module _ (z : o ≡ 0) {u r : ℕ} (f : u ≡ at (fields i) usedField) (y : r ≡ wordRoom u (length l) index) where
       word-number : r ≡ orElse (orElse (loadCall i .number) (refusedWrite (fixed rom sound) (worldOf i v w s l))) wordAsked
@@ -355,14 +213,40 @@ module _ (rom sound i v w s l : List ℕ) (below : Below 256 i) {o : ℕ}
       pub word-refused : (r ≡ 0 → ⊥) → left r 0 i v w s l ≡ worldEntry (fixed rom sound) i v w s l (call.WriteWord index b)
       word-refused =
           write-refused (fixed rom sound) i v w s l below (call.WriteWord index b) wordAsked (wordOwed index) wordPut
-          (word-call (fixed rom sound) (worldOf i v w s l) index b (q .0) (q .1)) word-number
+          (word-call (fixed rom sound) (worldOf i v w s l) index b) word-number
 
       pub word-done : r ≡ 0 → {k : ℕ} → k ≡ wordOwed index → {j v' w' s' l' : List ℕ} → left 0 0 j v' w' s' l' ≡ leftBy wordPut
           → left k 0 j v' w' s' l' ≡ worldEntry (fixed rom sound) i v w s l (call.WriteWord index b)
       word-done t d g =
           rw d
           (write-done (fixed rom sound) i v w s l below (call.WriteWord index b) wordAsked (wordOwed index) wordPut
-          (word-call (fixed rom sound) (worldOf i v w s l) index b (q .0) (q .1)) word-number t (word-owed index) g)
+          (word-call (fixed rom sound) (worldOf i v w s l) index b) word-number t (word-owed index) g)
+
+-- the next write finds an image that is taken, whatever the first started
+module _ (x : Fixed) (rom : Below 256 (x .rom)) (sound : Below 256 (x .sound)) {i v w s l : List ℕ} (t : Taken i v w s l) (o : Own x i v w s) where
+  taken-ready : Ready x (worldOf i v w s l)
+  taken-ready = record { holds = t .holds; rom = o .ready .rom; sound = o .ready .sound }
+
+  pub taken-write : Below 256 v → Below 256 w → Below 256 s → (index b : ℕ) → b < 256 → {j v' w' s' l' : List ℕ}
+      → left 0 0 j v' w' s' l' ≡ leftBy (writeAt x 2 (worldOf i v w s l) index b)
+      → (Taken j v' w' s' l' × Own x j v' w' s') × (worldOf j v' w' s' l' ≡ writeAt x 2 (worldOf i v w s l) index b)
+  taken-write bv bw bs index b h e =
+      let W = worldOf i v w s l in
+      let u = writeAt x 2 W index b in
+      let f = write-whole x rom sound 2 W (taken-whole t bv bw bs) index b h .state in
+      let r = taken-left t u (write-stays x W (t .holds) 2 index b) (fine-typed (u .state) f) e in
+      let y = read-ready x u (write-ready x 2 W taken-ready index b) in (
+        (
+          r .0,
+          record {
+            bytes = r .0 .bytes;
+            number = r .0 .number;
+            core = refl;
+            ready = subst (λ (a : World). Ready x (world (a .state) (a .vram) (a .wram) (a .save) [])) (sym (r .1)) y;
+          },
+        ),
+        r .1,
+      )
 
 -- the tests that are enough
 module _ (rom sound i v w s l : List ℕ) (below : Below 256 i) (p : MapperFits i (length rom) (length s)) (q : RestFits i (length v) (length w))

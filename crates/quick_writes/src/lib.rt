@@ -1,30 +1,22 @@
-// Byte and word writes of an image and what is lent. Those that start no transfer are quick: they take of the image what they need, and change it in place
-// (specs/Writes.antt).
+// Byte and word writes of an image and what is lent, with every refusal. Where the tests that are enough pass and no transfer starts, a byte is put at once
+// (crate put_bytes); elsewhere the plain function does the whole call.
 ghost use mathlib.Core.Bool.{true};
-ghost use mathlib.Core.List.{[]};
 ghost use mathlib.Core.Path.{_≡_};
-ghost use Prim.Native.Nat.{_-_, _/_, _%_, _<_, _≤_};
+ghost use Prim.Native.Nat.{_/_, _%_};
 ghost use lib.ListN.{length};
 ghost use Rattle.dispatch.specs.declared.Call.the-variants.{WriteByte, WriteWord};
-ghost use Rattle.image.specs.Layout.{imageLen, imageOf};
-ghost use Rattle.in_place.specs.Held.{Held};
-ghost use Rattle.image.specs.Load.{loadCall};
-ghost use Rattle.image.specs.Patches.{Slim, mappingPut};
-ghost use Rattle.mbc.specs.Mbc.{inRange, ramLen, after};
-ghost use Rattle.memory.specs.World.{world, fixed, withMapper, withUsed};
-ghost use Rattle.memory.specs.declared.Memory.{Memory};
-ghost use Rattle.mmu.specs.Access.{savePut, put};
-ghost use Rattle.mmu.specs.Write.{writeAt};
-ghost use Rattle.quick_transfers.specs.Transfers.{worldOf, leftBy, Own};
-ghost use Rattle.registers.specs.Page.{writeRegister};
-ghost use Rattle.refusals.specs.Refusal.{nextIndex};
-ghost use Rattle.savelog.specs.Log.{logLimit};
 ghost use Rattle.entry.specs.Entry.{left, worldEntry};
-ghost use Rattle.quick_writes.specs.Writes.{quick, Taken, LogFits, coreIn, ownPut};
-use dispatch::Call;
-use entry::on_bus;
-use memory::Region;
-use mmu::regions::Mapping;
+ghost use Rattle.image.specs.Layout.{imageLen};
+ghost use Rattle.image.specs.Load.{loadCall};
+ghost use Rattle.memory.specs.World.{fixed};
+ghost use Rattle.mmu.specs.Write.{writeAt, wordAt};
+ghost use Rattle.move_bytes.specs.Transfers.{Own};
+ghost use Rattle.put_bytes.specs.Left.{worldOf, leftBy};
+ghost use Rattle.put_bytes.specs.Puts.{Taken};
+ghost use Rattle.refusals.specs.Refusal.{orElse, writeRefused, nextIndex};
+ghost use Rattle.quick_writes.specs.Writes.{quick, LogFits};
+
+pub mod transfers;
 
 // Whether a write at an index is quick: it starts no transfer.
 fn is_quick(index: u16) -> bool
@@ -39,125 +31,6 @@ fn is_quick(index: u16) -> bool
     true
 }
 
-// Below 8000: the mapper's registers.
-fn put_mapper(image: &mut [u8], at: u16, value: u8)
-    requires { ⌜ (length (now image) ≡ imageLen) × ((at < 0x8000) × ((inRange (coreIn (now image) .cartridge) (coreIn (now image) .mapper) ≡ true) × Slim (after (coreIn (now image) .cartridge) (coreIn (now image) .mapper) at value))) ⌝ }
-    ensures { λ _. ⌜ now (image .exit) ≡ mappingPut (now (image .entry)) (after (coreIn (now (image .entry)) .cartridge) (coreIn (now (image .entry)) .mapper) at value) (coreIn (now (image .entry)) .used) ⌝ }
-{
-    let cartridge = image::cartridge_at(image);
-    let mapper = image::mapper_at(image);
-    let used = image::used_at(image);
-    let written = mapper.write(cartridge, at, value);
-    let next = written.mapper;
-    image::put_mapping(image, next, used);
-}
-
-// A000..BFFF: the save, its log, and the mapper with the log's use, which it gives.
-fn put_save(image: &mut [u8], save: &mut [u8], log: &mut [u8], at: u16, value: u8) -> Mapping
-    requires { ⌜ ((length (now image) ≡ imageLen) × (Slim (coreIn (now image) .mapper) × Slim (after (coreIn (now image) .cartridge) (coreIn (now image) .mapper) at value))) × (((0xA000 ≤ at) × (at < 0xC000)) × ((inRange (coreIn (now image) .cartridge) (coreIn (now image) .mapper) ≡ true) × ((length (now save) ≡ ramLen (coreIn (now image) .cartridge) (coreIn (now image) .mapper)) × (length (now log) ≤ logLimit)))) ⌝ }
-    ensures { λ r. ⌜ (now (image .exit) ≡ mappingPut (now (image .entry)) (r .mapper) (r .used)) × ((m : Memory) → m .core .cartridge ≡ coreIn (now (image .entry)) .cartridge → m .core .mapper ≡ coreIn (now (image .entry)) .mapper → m .core .used ≡ coreIn (now (image .entry)) .used → world (withUsed (withMapper m (r .mapper)) (r .used)) [] [] (now (save .exit)) (now (log .exit)) ≡ savePut (world m [] [] (now (save .entry)) (now (log .entry))) at value) ⌝ }
-{
-    let cartridge = image::cartridge_at(image);
-    let mapper = image::mapper_at(image);
-    let used = image::used_at(image);
-    let mapping = mmu::regions::store_save(cartridge, mapper, used, save, log, at, value);
-    let next = mapping.mapper;
-    image::put_mapping(image, next, mapping.used);
-    mapping
-}
-
-// A byte of OAM.
-fn put_own(image: &mut [u8], at: u16, value: u8)
-    requires { ⌜ (length (now image) ≡ imageLen) × (0xFE00 ≤ at) ⌝ }
-    ensures { λ _. ⌜ now (image .exit) ≡ ownPut (now (image .entry)) at value ⌝ }
-{
-    let i = (at - 0xFE00) as usize;
-    image[i] = value;
-}
-
-// A register, on the image itself.
-fn put_page(image: &mut [u8], at: u16, value: u8)
-    requires { ⌜ Held (now image) × (0xFF00 ≤ at) ⌝ }
-    ensures { λ _. ⌜ now (image .exit) ≡ imageOf (writeRegister (loadCall (now (image .entry)) .state) (at - 0xFF00) value) ⌝ }
-{
-    let i = (at - 0xFF00) as u8;
-    in_place::page::write(image, i, value);
-}
-
-// A write that nothing refuses, without the copying that it may start.
-fn put_byte(
-    image: &mut [u8],
-    vram: &mut [u8],
-    wram: &mut [u8],
-    save: &mut [u8],
-    log: &mut [u8],
-    index: u16,
-    value: u8,
-)
-    requires { ⌜ Taken (now image) (now vram) (now wram) (now save) (now log) ⌝ }
-    ensures { λ _. ⌜ left 0 0 (now (image .exit)) (now (vram .exit)) (now (wram .exit)) (now (save .exit)) (now (log .exit)) ≡ leftBy (put (worldOf (now (image .entry)) (now (vram .entry)) (now (wram .entry)) (now (save .entry)) (now (log .entry))) index value) ⌝ }
-{
-    match memory::region_of(index) {
-        Region::Rom => put_mapper(image, index, value),
-        Region::Vram => {
-            let banks = image::banks_at(image);
-            mmu::regions::write_cgb_lcd_ram(vram, banks.vram, index, value);
-        }
-        Region::Save => {
-            put_save(image, save, log, index, value);
-        }
-        Region::Wram => {
-            let banks = image::banks_at(image);
-            mmu::regions::write_cgb_wram(wram, banks.wram, index, value);
-        }
-        Region::Oam => put_own(image, index, value),
-        Region::Page => put_page(image, index, value),
-    }
-}
-
-// Called from one place, so that what `put_byte` is given is stored there, and not by every write.
-fn put_apart(
-    image: &mut [u8],
-    vram: &mut [u8],
-    wram: &mut [u8],
-    save: &mut [u8],
-    log: &mut [u8],
-    index: u16,
-    value: u8,
-)
-    requires { ⌜ Taken (now image) (now vram) (now wram) (now save) (now log) ⌝ }
-    ensures { λ _. ⌜ left 0 0 (now (image .exit)) (now (vram .exit)) (now (wram .exit)) (now (save .exit)) (now (log .exit)) ≡ leftBy (put (worldOf (now (image .entry)) (now (vram .entry)) (now (wram .entry)) (now (save .entry)) (now (log .entry))) index value) ⌝ }
-{
-    put_byte(image, vram, wram, save, log, index, value);
-}
-
-// As `put_byte`, and small enough to be put in place where it is called: a byte of video or work memory or of OAM goes there at once.
-fn put_here(
-    image: &mut [u8],
-    vram: &mut [u8],
-    wram: &mut [u8],
-    save: &mut [u8],
-    log: &mut [u8],
-    index: u16,
-    value: u8,
-)
-    requires { ⌜ Taken (now image) (now vram) (now wram) (now save) (now log) ⌝ }
-    ensures { λ _. ⌜ left 0 0 (now (image .exit)) (now (vram .exit)) (now (wram .exit)) (now (save .exit)) (now (log .exit)) ≡ leftBy (put (worldOf (now (image .entry)) (now (vram .entry)) (now (wram .entry)) (now (save .entry)) (now (log .entry))) index value) ⌝ }
-{
-    match memory::region_of(index) {
-        Region::Vram => {
-            let banks = image::banks_at(image);
-            mmu::regions::write_cgb_lcd_ram(vram, banks.vram, index, value);
-        }
-        Region::Wram => {
-            let banks = image::banks_at(image);
-            mmu::regions::write_cgb_wram(wram, banks.wram, index, value);
-        }
-        Region::Oam => put_own(image, index, value),
-        _ => put_apart(image, vram, wram, save, log, index, value),
-    }
-}
-
 // Whether the sound window, the log and its use are right: with the image's own tests, enough that nothing but a log without room refuses a write.
 fn log_fits(image: &[u8], sound: usize, log: usize) -> bool
     requires { ⌜ length (now image) ≡ imageLen ⌝ }
@@ -170,6 +43,28 @@ fn log_fits(image: &[u8], sound: usize, log: usize) -> bool
         return false;
     }
     savelog::use_in_range(image::used_at(image), log)
+}
+
+// The number of the image, of the log's use, and of the lengths of what is lent.
+pub fn number(
+    image: &[u8],
+    rom: usize,
+    vram: usize,
+    wram: usize,
+    save: usize,
+    sound: usize,
+    log: usize,
+) -> u8
+    ensures { λ r. ⌜ r ≡ orElse (loadCall (now (image .entry)) .number) (writeRefused (loadCall (now (image .entry)) .state) rom vram wram save sound log) ⌝ }
+{
+    let number = image::number(image);
+    if number != numbers::DONE {
+        return number;
+    }
+    let used = refusals::use_refused(image::used_at(image), log);
+    let lengths = take_bytes::lengths(image, rom, vram, wram, save, sound);
+    let lent = refusals::or_else(lengths, refusals::log_refused(log));
+    refusals::or_else(used, lent)
 }
 
 // A write that nothing refuses, with the copying that it may start.
@@ -188,10 +83,10 @@ fn put_all(
     ensures { λ _. ⌜ left 0 0 (now (image .exit)) (now (vram .exit)) (now (wram .exit)) (now (save .exit)) (now (log .exit)) ≡ leftBy (writeAt (fixed (now (rom .entry)) (now (sound .entry))) 2 (worldOf (now (image .entry)) (now (vram .entry)) (now (wram .entry)) (now (save .entry)) (now (log .entry))) index value) ⌝ }
 {
     if is_quick(index) {
-        put_byte(image, vram, wram, save, log, index, value);
+        put_bytes::put_byte(image, vram, wram, save, log, index, value);
         return;
     }
-    quick_transfers::start(image, rom, vram, wram, save, sound, index, value);
+    move_bytes::start(image, rom, vram, wram, save, sound, index, value);
 }
 
 // Every image, and every refusal.
@@ -208,7 +103,7 @@ fn plain_byte(
 ) -> u8
     ensures { λ r. ⌜ left r 0 (now (image .exit)) (now (vram .exit)) (now (wram .exit)) (now (save .exit)) (now (log .exit)) ≡ worldEntry (fixed (now (rom .entry)) (now (sound .entry))) (now (image .entry)) (now (vram .entry)) (now (wram .entry)) (now (save .entry)) (now (log .entry)) (WriteByte index value) ⌝ }
 {
-    let number = quick_transfers::number(
+    let number = number(
         image,
         rom.len(),
         vram.len(),
@@ -248,7 +143,7 @@ pub fn write_byte(
                 if log_fits(image, sound.len(), log.len()) {
                     let room = refusals::byte_room(image::used_at(image), log.len(), index);
                     if room == numbers::DONE {
-                        put_here(image, vram, wram, save, log, index, value);
+                        put_bytes::put_here(image, vram, wram, save, log, index, value);
                         return refusals::byte_owed(index);
                     }
                 }
@@ -258,27 +153,29 @@ pub fn write_byte(
     plain_byte(image, rom, vram, wram, save, log, sound, index, value)
 }
 
-// Two writes, low byte first.
-fn put_both(
+// Two writes, low byte first, with the copying that they may start.
+fn put_word(
     image: &mut [u8],
+    rom: &[u8],
     vram: &mut [u8],
     wram: &mut [u8],
     save: &mut [u8],
     log: &mut [u8],
+    sound: &[u8],
     index: u16,
     value: u16,
 )
-    requires { ⌜ Taken (now image) (now vram) (now wram) (now save) (now log) ⌝ }
-    ensures { λ _. ⌜ left 0 0 (now (image .exit)) (now (vram .exit)) (now (wram .exit)) (now (save .exit)) (now (log .exit)) ≡ leftBy (put (put (worldOf (now (image .entry)) (now (vram .entry)) (now (wram .entry)) (now (save .entry)) (now (log .entry))) index (value % 256)) (nextIndex index) (value / 256)) ⌝ }
+    requires { ⌜ Taken (now image) (now vram) (now wram) (now save) (now log) × Own (fixed (now rom) (now sound)) (now image) (now vram) (now wram) (now save) ⌝ }
+    ensures { λ _. ⌜ left 0 0 (now (image .exit)) (now (vram .exit)) (now (wram .exit)) (now (save .exit)) (now (log .exit)) ≡ leftBy (wordAt (fixed (now (rom .entry)) (now (sound .entry))) (worldOf (now (image .entry)) (now (vram .entry)) (now (wram .entry)) (now (save .entry)) (now (log .entry))) index value) ⌝ }
 {
     let low = (value % 256) as u8;
     let high = (value / 256) as u8;
     let above = refusals::next_index(index);
-    put_here(image, vram, wram, save, log, index, low);
-    put_here(image, vram, wram, save, log, above, high);
+    put_all(image, rom, vram, wram, save, log, sound, index, low);
+    put_all(image, rom, vram, wram, save, log, sound, above, high);
 }
 
-fn write_both(
+fn plain_word(
     image: &mut [u8],
     rom: &[u8],
     vram: &mut [u8],
@@ -289,10 +186,9 @@ fn write_both(
     index: u16,
     value: u16,
 ) -> u8
-    requires { ⌜ (quick index ≡ true) × (quick (nextIndex index) ≡ true) ⌝ }
     ensures { λ r. ⌜ left r 0 (now (image .exit)) (now (vram .exit)) (now (wram .exit)) (now (save .exit)) (now (log .exit)) ≡ worldEntry (fixed (now (rom .entry)) (now (sound .entry))) (now (image .entry)) (now (vram .entry)) (now (wram .entry)) (now (save .entry)) (now (log .entry)) (WriteWord index value) ⌝ }
 {
-    let number = quick_transfers::number(
+    let number = number(
         image,
         rom.len(),
         vram.len(),
@@ -308,7 +204,7 @@ fn write_both(
     if room != numbers::DONE {
         return room;
     }
-    put_both(image, vram, wram, save, log, index, value);
+    put_word(image, rom, vram, wram, save, log, sound, index, value);
     refusals::word_owed(index)
 }
 
@@ -342,23 +238,12 @@ pub fn write_word(
                 if log_fits(image, sound.len(), log.len()) {
                     let room = refusals::word_room(image::used_at(image), log.len(), index);
                     if room == numbers::DONE {
-                        put_both(image, vram, wram, save, log, index, value);
+                        put_bytes::put_both(image, vram, wram, save, log, index, value);
                         return refusals::word_owed(index);
                     }
                 }
             }
         }
-        return write_both(image, rom, vram, wram, save, log, sound, index, value);
     }
-    let done = on_bus(
-        image,
-        rom,
-        vram,
-        wram,
-        save,
-        log,
-        sound,
-        Call::WriteWord(index, value),
-    );
-    done.number
+    plain_word(image, rom, vram, wram, save, log, sound, index, value)
 }

@@ -4,7 +4,8 @@ use mathlib.Core.Path.{refl}
 use native.Mathlib.Omega.{arith}
 use Rattle.memory.specs.World.{fixed}
 use Rattle.packing.specs.Packing.{Below}
-use Rattle.quick_reads.proofs.ReadLaws.{surely-loaded, surely-passes, read-ready, ready-reached, near-left, ready-lent, others-left, own-from, byte-own, done-byte-read}
+use Rattle.take_bytes.proofs.ByteLaws.{surely-loaded, surely-passes, ready-reached, near-left, ready-lent, others-left, own-from, byte-own}
+use Rattle.quick_reads.proofs.ReadLaws.{read-ready, done-byte-read}
 use borrow.Author.Needs.{needs}
 use Rattle.quick_reads.proofs.read_byte.Statement.{statement}
 use Rattle.quick_reads.proofs.read_byte.Tie as tie

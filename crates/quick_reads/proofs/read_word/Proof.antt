@@ -3,7 +3,8 @@ use denote.Ref.{now}
 use mathlib.Core.Path.{refl, _∙_}
 use Rattle.memory.specs.World.{fixed}
 use Rattle.packing.specs.Packing.{Below}
-use Rattle.quick_reads.proofs.ReadLaws.{surely-loaded, surely-passes, read-ready, done-word-read}
+use Rattle.take_bytes.proofs.ByteLaws.{surely-loaded, surely-passes}
+use Rattle.quick_reads.proofs.ReadLaws.{read-ready, done-word-read}
 use borrow.Author.Needs.{needs}
 use Rattle.quick_reads.proofs.read_word.Statement.{statement}
 use Rattle.quick_reads.proofs.read_word.Tie as tie

@@ -1,9 +1,8 @@
--- Quick, or by the whole image; a write gives no value.
+-- Where the tests pass and no transfer starts, both bytes by their regions; elsewhere plainly.
 use denote.Ref.{now}
 use mathlib.Core.Path.{refl}
 use Rattle.packing.specs.Packing.{Below}
-use Rattle.entry.proofs.Entries.{with-zero, word-no-value}
-use Rattle.quick_writes.proofs.WriteLaws.{surely-writes, write-taken, word-done}
+use Rattle.quick_writes.proofs.WriteLaws.{surely-writes, write-taken, put-both-quick, word-done}
 use borrow.Author.Needs.{needs}
 use Rattle.quick_writes.proofs.write_word.Statement.{statement}
 use Rattle.quick_writes.proofs.write_word.Tie as tie
@@ -54,10 +53,10 @@ returns : tie.Need-returns
 returns c = let a = c .before .before .before .before .before .before .before .before .before .before .before .before .before .before .before .before .before .before .before .before .before .before .before .before .before .before .before .before .before .before .before .before .before .before .before .before .before .before .before .args in
     let below : Below 256 (now (a .image)) = λ k. c .before .before .before .before .before .before .before .before .before .before .before .before .before .before .before .before .before .before .before .before .before .before .before .before .before .before .before .before .before .before .before .before .before .before .before .before .before .before .slice-known .given k .fits in
     let e = surely-writes (now (a .rom)) (now (a .sound)) (now (a .image)) (now (a .vram)) (now (a .wram)) (now (a .save)) (now (a .log)) below (c .before .before .before .before .before .before .before .before .before .before .before .before .before .before .before .before .before .before .before .before .before .before .before .before .before .before .before .before .mapper-surely-fits .ensures (c .before .before .before .before .before .before .before .before .before .before .before .before .before .before .before .before .before .before .before .before .before .before .before .before .before .before .before .if2 .taken)) (c .before .before .before .before .before .before .before .before .before .before .before .before .before .before .before .before .before .before .before .before .before .before .before .before .before .rest-surely-fits .ensures (c .before .before .before .before .before .before .before .before .before .before .before .before .before .before .before .before .before .before .before .before .before .before .before .before .if3 .taken)) (c .before .before .before .before .before .before .before .before .before .before .before .before .before .before .before .before .before .before .before .before .before .before .log-fits .ensures (c .before .before .before .before .before .before .before .before .before .before .before .before .before .before .before .before .before .before .before .before .before .if4 .taken)) in
-    word-done (now (a .rom)) (now (a .sound)) (now (a .image)) (now (a .vram)) (now (a .wram)) (now (a .save)) (now (a .log)) below e _ _ (c .before .before .before .before .before .before .before .before .before .before .before .before .before .before .before .before .before .before .before .before .before .before .before .before .before .before .before .before .before .before .before .both-quick .ensures (c .before .before .before .before .before .before .before .before .before .before .before .before .before .before .before .before .before .before .before .before .before .before .before .before .before .before .before .before .before .before .if1 .taken)) refl (c .before .before .before .before .before .before .before .before .before .before .before .before .before .before .before .before .before .before .before .used-at .ensures) (c .before .before .before .before .before .before .before .before .before .before .before .before .before .before .before .before .before .before .word-room .ensures) (c .before .before .before .before .before .before .before .before .before .before .before .before .before .before .before .before .before .if5 .taken) (c .word-owed .ensures) (c .before .before .before .before .before .before .before .before .before .before .before .put-both .ensures)
+    word-done (now (a .rom)) (now (a .sound)) (now (a .image)) (now (a .vram)) (now (a .wram)) (now (a .save)) (now (a .log)) below e _ _ refl (c .before .before .before .before .before .before .before .before .before .before .before .before .before .before .before .before .before .before .before .used-at .ensures) (c .before .before .before .before .before .before .before .before .before .before .before .before .before .before .before .before .before .before .word-room .ensures) (c .before .before .before .before .before .before .before .before .before .before .before .before .before .before .before .before .before .if5 .taken) (c .word-owed .ensures) (put-both-quick _ _ _ _ _ (c .before .before .before .before .before .before .before .before .before .before .before .before .before .before .before .before .before .before .before .before .before .before .before .before .before .before .before .before .before .before .before .both-quick .ensures (c .before .before .before .before .before .before .before .before .before .before .before .before .before .before .before .before .before .before .before .before .before .before .before .before .before .before .before .before .before .before .if1 .taken)) (c .before .before .before .before .before .before .before .before .before .before .before .put-both .ensures))
 
-write-both-requires : tie.Need-write-both-requires
-write-both-requires c κs = c .before .before .before .before .before .before .before .before .before .both-quick .ensures (c .before .before .before .before .before .before .before .before .if1 .taken)
+plain-word-requires : tie.Need-plain-word-requires
+plain-word-requires c κs = search needs
 
 same-length-6 : tie.Need-same-length-6
 same-length-6 c = search needs
@@ -75,28 +74,7 @@ same-length-10 : tie.Need-same-length-10
 same-length-10 c = search needs
 
 returns-2 : tie.Need-returns-2
-returns-2 c = c .before .before .before .before .before .before .before .before .before .before .write-both .ensures
-
-on-bus-requires : tie.Need-on-bus-requires
-on-bus-requires c κs = search needs
-
-same-length-11 : tie.Need-same-length-11
-same-length-11 c = search needs
-
-same-length-12 : tie.Need-same-length-12
-same-length-12 c = search needs
-
-same-length-13 : tie.Need-same-length-13
-same-length-13 c = search needs
-
-same-length-14 : tie.Need-same-length-14
-same-length-14 c = search needs
-
-same-length-15 : tie.Need-same-length-15
-same-length-15 c = search needs
-
-returns-3 : tie.Need-returns-3
-returns-3 c = with-zero (c .before .before .before .before .before .before .before .before .before .before .on-bus .ensures) (word-no-value _ _ _ _ _ _ _ _)
+returns-2 c = c .before .before .before .before .before .before .before .before .before .before .plain-word .ensures
 
 pub write-word-spec : {M : Type 1} → statement M
 write-word-spec =
@@ -116,17 +94,10 @@ write-word-spec =
     same-length-4
     same-length-5
     returns
-    write-both-requires
+    plain-word-requires
     same-length-6
     same-length-7
     same-length-8
     same-length-9
     same-length-10
-    returns-2
-    on-bus-requires
-    same-length-11
-    same-length-12
-    same-length-13
-    same-length-14
-    same-length-15
-    returns-3)
+    returns-2)

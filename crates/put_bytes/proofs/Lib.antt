@@ -1,0 +1,4 @@
+pub mod Storable
+pub mod Typed
+pub mod PutLaws
+pub mod Whole

@@ -1,0 +1,161 @@
+// A byte put into an image or what is lent beside it, by its region: a write that nothing refuses, without the copying that it may start. It takes of the
+// image what it needs, and changes it in place.
+ghost use mathlib.Core.Bool.{true};
+ghost use mathlib.Core.List.{[]};
+ghost use mathlib.Core.Path.{_≡_};
+ghost use Prim.Native.Nat.{_-_, _/_, _%_, _<_, _≤_};
+ghost use lib.ListN.{length};
+ghost use Rattle.image.specs.Layout.{imageLen, imageOf};
+ghost use Rattle.image.specs.Load.{loadCall};
+ghost use Rattle.image.specs.Patches.{Slim, mappingPut};
+ghost use Rattle.in_place.specs.Held.{Held};
+ghost use Rattle.mbc.specs.Mbc.{inRange, ramLen, after};
+ghost use Rattle.memory.specs.World.{world, withMapper, withUsed};
+ghost use Rattle.memory.specs.declared.Memory.{Memory};
+ghost use Rattle.mmu.specs.Access.{savePut, put};
+ghost use Rattle.refusals.specs.Refusal.{nextIndex};
+ghost use Rattle.registers.specs.Page.{writeRegister};
+ghost use Rattle.savelog.specs.Log.{logLimit};
+ghost use Rattle.put_bytes.specs.Left.{left, worldOf, leftBy};
+ghost use Rattle.put_bytes.specs.Puts.{Taken, coreIn, ownPut};
+use memory::Region;
+use mmu::regions::Mapping;
+
+// Below 8000: the mapper's registers.
+fn put_mapper(image: &mut [u8], at: u16, value: u8)
+    requires { ⌜ (length (now image) ≡ imageLen) × ((at < 0x8000) × ((inRange (coreIn (now image) .cartridge) (coreIn (now image) .mapper) ≡ true) × Slim (after (coreIn (now image) .cartridge) (coreIn (now image) .mapper) at value))) ⌝ }
+    ensures { λ _. ⌜ now (image .exit) ≡ mappingPut (now (image .entry)) (after (coreIn (now (image .entry)) .cartridge) (coreIn (now (image .entry)) .mapper) at value) (coreIn (now (image .entry)) .used) ⌝ }
+{
+    let cartridge = image::cartridge_at(image);
+    let mapper = image::mapper_at(image);
+    let used = image::used_at(image);
+    let written = mapper.write(cartridge, at, value);
+    let next = written.mapper;
+    image::put_mapping(image, next, used);
+}
+
+// A000..BFFF: the save, its log, and the mapper with the log's use, which it gives.
+fn put_save(image: &mut [u8], save: &mut [u8], log: &mut [u8], at: u16, value: u8) -> Mapping
+    requires { ⌜ ((length (now image) ≡ imageLen) × (Slim (coreIn (now image) .mapper) × Slim (after (coreIn (now image) .cartridge) (coreIn (now image) .mapper) at value))) × (((0xA000 ≤ at) × (at < 0xC000)) × ((inRange (coreIn (now image) .cartridge) (coreIn (now image) .mapper) ≡ true) × ((length (now save) ≡ ramLen (coreIn (now image) .cartridge) (coreIn (now image) .mapper)) × (length (now log) ≤ logLimit)))) ⌝ }
+    ensures { λ r. ⌜ (now (image .exit) ≡ mappingPut (now (image .entry)) (r .mapper) (r .used)) × ((m : Memory) → m .core .cartridge ≡ coreIn (now (image .entry)) .cartridge → m .core .mapper ≡ coreIn (now (image .entry)) .mapper → m .core .used ≡ coreIn (now (image .entry)) .used → world (withUsed (withMapper m (r .mapper)) (r .used)) [] [] (now (save .exit)) (now (log .exit)) ≡ savePut (world m [] [] (now (save .entry)) (now (log .entry))) at value) ⌝ }
+{
+    let cartridge = image::cartridge_at(image);
+    let mapper = image::mapper_at(image);
+    let used = image::used_at(image);
+    let mapping = mmu::regions::store_save(cartridge, mapper, used, save, log, at, value);
+    let next = mapping.mapper;
+    image::put_mapping(image, next, mapping.used);
+    mapping
+}
+
+// A byte of OAM.
+fn put_own(image: &mut [u8], at: u16, value: u8)
+    requires { ⌜ (length (now image) ≡ imageLen) × (0xFE00 ≤ at) ⌝ }
+    ensures { λ _. ⌜ now (image .exit) ≡ ownPut (now (image .entry)) at value ⌝ }
+{
+    let i = (at - 0xFE00) as usize;
+    image[i] = value;
+}
+
+// A register, on the image itself.
+fn put_page(image: &mut [u8], at: u16, value: u8)
+    requires { ⌜ Held (now image) × (0xFF00 ≤ at) ⌝ }
+    ensures { λ _. ⌜ now (image .exit) ≡ imageOf (writeRegister (loadCall (now (image .entry)) .state) (at - 0xFF00) value) ⌝ }
+{
+    let i = (at - 0xFF00) as u8;
+    in_place::page::write(image, i, value);
+}
+
+// A write that nothing refuses, without the copying that it may start.
+pub fn put_byte(
+    image: &mut [u8],
+    vram: &mut [u8],
+    wram: &mut [u8],
+    save: &mut [u8],
+    log: &mut [u8],
+    index: u16,
+    value: u8,
+)
+    requires { ⌜ Taken (now image) (now vram) (now wram) (now save) (now log) ⌝ }
+    ensures { λ _. ⌜ left 0 0 (now (image .exit)) (now (vram .exit)) (now (wram .exit)) (now (save .exit)) (now (log .exit)) ≡ leftBy (put (worldOf (now (image .entry)) (now (vram .entry)) (now (wram .entry)) (now (save .entry)) (now (log .entry))) index value) ⌝ }
+{
+    match memory::region_of(index) {
+        Region::Rom => put_mapper(image, index, value),
+        Region::Vram => {
+            let banks = image::banks_at(image);
+            mmu::regions::write_cgb_lcd_ram(vram, banks.vram, index, value);
+        }
+        Region::Save => {
+            put_save(image, save, log, index, value);
+        }
+        Region::Wram => {
+            let banks = image::banks_at(image);
+            mmu::regions::write_cgb_wram(wram, banks.wram, index, value);
+        }
+        Region::Oam => put_own(image, index, value),
+        Region::Page => put_page(image, index, value),
+    }
+}
+
+// Called from one place, so that what `put_byte` is given is stored there, and not by every write.
+fn put_apart(
+    image: &mut [u8],
+    vram: &mut [u8],
+    wram: &mut [u8],
+    save: &mut [u8],
+    log: &mut [u8],
+    index: u16,
+    value: u8,
+)
+    requires { ⌜ Taken (now image) (now vram) (now wram) (now save) (now log) ⌝ }
+    ensures { λ _. ⌜ left 0 0 (now (image .exit)) (now (vram .exit)) (now (wram .exit)) (now (save .exit)) (now (log .exit)) ≡ leftBy (put (worldOf (now (image .entry)) (now (vram .entry)) (now (wram .entry)) (now (save .entry)) (now (log .entry))) index value) ⌝ }
+{
+    put_byte(image, vram, wram, save, log, index, value);
+}
+
+// As `put_byte`, and small enough to be put in place where it is called: a byte of video or work memory or of OAM goes there at once.
+pub fn put_here(
+    image: &mut [u8],
+    vram: &mut [u8],
+    wram: &mut [u8],
+    save: &mut [u8],
+    log: &mut [u8],
+    index: u16,
+    value: u8,
+)
+    requires { ⌜ Taken (now image) (now vram) (now wram) (now save) (now log) ⌝ }
+    ensures { λ _. ⌜ left 0 0 (now (image .exit)) (now (vram .exit)) (now (wram .exit)) (now (save .exit)) (now (log .exit)) ≡ leftBy (put (worldOf (now (image .entry)) (now (vram .entry)) (now (wram .entry)) (now (save .entry)) (now (log .entry))) index value) ⌝ }
+{
+    match memory::region_of(index) {
+        Region::Vram => {
+            let banks = image::banks_at(image);
+            mmu::regions::write_cgb_lcd_ram(vram, banks.vram, index, value);
+        }
+        Region::Wram => {
+            let banks = image::banks_at(image);
+            mmu::regions::write_cgb_wram(wram, banks.wram, index, value);
+        }
+        Region::Oam => put_own(image, index, value),
+        _ => put_apart(image, vram, wram, save, log, index, value),
+    }
+}
+
+// Two writes, low byte first.
+pub fn put_both(
+    image: &mut [u8],
+    vram: &mut [u8],
+    wram: &mut [u8],
+    save: &mut [u8],
+    log: &mut [u8],
+    index: u16,
+    value: u16,
+)
+    requires { ⌜ Taken (now image) (now vram) (now wram) (now save) (now log) ⌝ }
+    ensures { λ _. ⌜ left 0 0 (now (image .exit)) (now (vram .exit)) (now (wram .exit)) (now (save .exit)) (now (log .exit)) ≡ leftBy (put (put (worldOf (now (image .entry)) (now (vram .entry)) (now (wram .entry)) (now (save .entry)) (now (log .entry))) index (value % 256)) (nextIndex index) (value / 256)) ⌝ }
+{
+    let low = (value % 256) as u8;
+    let high = (value / 256) as u8;
+    let above = refusals::next_index(index);
+    put_here(image, vram, wram, save, log, index, low);
+    put_here(image, vram, wram, save, log, above, high);
+}

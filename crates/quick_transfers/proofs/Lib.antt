@@ -1,6 +1,0 @@
-pub mod Copies
-pub mod RowLaws
-pub mod ImageLaws
-pub mod MoveLaws
-pub mod StartLaws
-pub mod EntryLaws
