@@ -5,6 +5,7 @@ pub mod StateLaws
 pub mod LoadLaws
 pub mod Round
 pub mod OpenLaws
+pub mod MappedLaws
 pub mod PatchLaws
 pub mod LoadedPatches
 pub mod GroupPatches

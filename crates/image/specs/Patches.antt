@@ -59,6 +59,15 @@ mapperFits fs = mbc.sound (registersIn fs) && mbc.inRange (cartridgeOf fs) (mbc.
 abbrev pub tailFits : List ℕ → Bool
 tailFits fs = mapperFits fs && (eqb (at fs zerosField) 0 && useInRange (at fs usedField) logLimit)
 
+-- The same in two: the length and the mapper, and the rest
+
+pub record Mapped (l : List ℕ) : Type 0 where
+  pub size : length l ≡ imageLen
+  pub mapper : mapperFits (fields l) ≡ true
+
+abbrev pub restFits : List ℕ → Bool
+restFits fs = headFits fs && (eqb (at fs zerosField) 0 && useInRange (at fs usedField) logLimit)
+
 -- What the tests that are enough for a load say, with the lengths of what is lent beside the image
 
 pub record MapperFits (l : List ℕ) (m n : ℕ) : Type 0 where

@@ -21,7 +21,7 @@ ghost use Rattle.places.specs.Places.{fieldAt, putAt, Within};
 ghost use Rattle.mbc.specs.Mbc.{mapperOf};
 ghost use Rattle.image.specs.Layout.{imageLen, fieldWidths, fieldValues, usedField};
 ghost use Rattle.image.specs.Load.{banksOf, lcdOf, hdmaOf, joypadOf, clockOf, cartridgeOf, registersIn, coreFrom, at};
-ghost use Rattle.image.specs.Patches.{fields, headFits, mapperFits, tailFits, MapperFits, MachineFits, RestFits, put, Fits, banksFields, linesFields, lcdFields, hdmaFields, joypadFields, clockFields, cartridgeFields, numbersFields, Slim, usedPut, mappingPut, clockPut, groupsFields, coreFields};
+ghost use Rattle.image.specs.Patches.{fields, headFits, mapperFits, tailFits, restFits, Mapped, MapperFits, MachineFits, RestFits, put, Fits, banksFields, linesFields, lcdFields, hdmaFields, joypadFields, clockFields, cartridgeFields, numbersFields, Slim, usedPut, mappingPut, clockPut, groupsFields, coreFields};
 
 pub fn banks_at(image: &[u8]) -> Banks
     requires { ⌜ length (now image) ≡ imageLen ⌝ }
@@ -247,6 +247,48 @@ pub fn rest_surely_fits(image: &[u8], vram: usize, wram: usize) -> bool
     let banks = banks_at(image);
     let hdma = hdma_at(image);
     machine_surely_fits(banks, hdma, vram, wram)
+}
+
+// A load's tests in two, for who lends nothing beside the image: the length and the mapper, by tests that are enough; and the rest.
+
+pub fn mapper_surely(image: &[u8]) -> bool
+    ensures { λ r. ⌜ (r ≡ true → Mapped (now (image .entry))) ⌝ }
+{
+    if image.len() != layout::LENGTH {
+        return false;
+    }
+    let registers = registers_at(image);
+    if !Mbc1::has(registers) {
+        return false;
+    }
+    let cartridge = cartridge_at(image);
+    let mapper = Mbc1::from_registers(registers);
+    mapper.in_range(cartridge)
+}
+
+// By the kind of machine, as `machine_surely_fits` goes: in place that costs less than `head_fits`.
+pub fn rest_fits(image: &[u8]) -> bool
+    requires { ⌜ length (now image) ≡ imageLen ⌝ }
+    ensures { λ r. ⌜ r ≡ restFits (fields (now (image .entry))) ⌝ }
+{
+    if places::u8_at(image, layout::ZEROS_AT, layout::ZEROS) != 0 {
+        return false;
+    }
+    if !savelog::use_in_range(used_at(image), savelog::LOG_LIMIT) {
+        return false;
+    }
+    let banks = banks_at(image);
+    let hdma = hdma_at(image);
+    if banks.colour {
+        if !memory::hdma_in_range(hdma, true) {
+            return false;
+        }
+        return memory::banks_in_range(banks);
+    }
+    if !memory::hdma_in_range(hdma, false) {
+        return false;
+    }
+    memory::banks_in_range(banks)
 }
 
 // Whether the fields from the mapper on are in range, and the bits behind them 0.

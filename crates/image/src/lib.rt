@@ -7,7 +7,7 @@ ghost use lib.ListN.{length, take};
 ghost use Rattle.image.specs.Layout.{imageLen, imageOf};
 ghost use Rattle.image.specs.Load.{storable, stored, storeCall, loaded, stateOf, loadCall, openedOf, openCall};
 ghost use Rattle.image.specs.Laws.{Typed, StateBack, ImageBack, ImageTyped};
-ghost use Rattle.image.specs.Patches.{arraysOf};
+ghost use Rattle.image.specs.Patches.{arraysOf, Mapped};
 ghost use Rattle.memory.specs.Start.{zeroed};
 
 mod colors;
@@ -126,6 +126,33 @@ pub fn number(image: &[u8]) -> u8
         return numbers::OUT_OF_RANGE;
     }
     numbers::DONE
+}
+
+// Called from one place, so that the slice is stored there and not by every call.
+fn number_apart(image: &[u8]) -> u8
+    ensures { λ r. ⌜ r ≡ loadCall (now (image .entry)) .number ⌝ }
+{
+    number(image)
+}
+
+// A load's number. In two, so that each is put in place where it is called: the first is that number, or 0 where the rest is still to be asked.
+pub fn mapper_number(image: &[u8]) -> u8
+    ensures { λ r. ⌜ (r ≡ 0 → Mapped (now (image .entry))) × ((r ≡ 0 → ⊥) → r ≡ loadCall (now (image .entry)) .number) ⌝ }
+{
+    if fields::mapper_surely(image) {
+        return numbers::DONE;
+    }
+    number_apart(image)
+}
+
+pub fn rest_number(image: &[u8]) -> u8
+    requires { ⌜ Mapped (now image) ⌝ }
+    ensures { λ r. ⌜ r ≡ loadCall (now (image .entry)) .number ⌝ }
+{
+    if fields::rest_fits(image) {
+        return numbers::DONE;
+    }
+    numbers::OUT_OF_RANGE
 }
 
 // What a load gives, without the arrays.

@@ -14,7 +14,11 @@ pub struct Left {
 pub fn update_timer(image: &mut [u8], cycles: u32) -> u8
     ensures { λ r. ⌜ changed r (now (image .exit)) ≡ stateEntry (now (image .entry)) (UpdateTimer cycles) ⌝ }
 {
-    let number = image::number(image);
+    let mapper = image::mapper_number(image);
+    if mapper != numbers::DONE {
+        return mapper;
+    }
+    let number = image::rest_number(image);
     if number != numbers::DONE {
         return number;
     }
@@ -30,7 +34,14 @@ pub fn update_timer(image: &mut [u8], cycles: u32) -> u8
 pub fn cycles_to_overflow(image: &[u8]) -> Left
     ensures { λ r. ⌜ given (r .number) (r .cycles) ≡ overflowEntry (now (image .entry)) ⌝ }
 {
-    let number = image::number(image);
+    let mapper = image::mapper_number(image);
+    if mapper != numbers::DONE {
+        return Left {
+            number: mapper,
+            cycles: 0,
+        };
+    }
+    let number = image::rest_number(image);
     if number != numbers::DONE {
         return Left {
             number: number,

@@ -9,7 +9,11 @@ ghost use Rattle.entry.specs.Entry.{changed, stateEntry, given, askEntry};
 pub fn set_joypad_state(image: &mut [u8], state: u8) -> u8
     ensures { λ r. ⌜ changed r (now (image .exit)) ≡ stateEntry (now (image .entry)) (SetJoypadState state) ⌝ }
 {
-    let number = image::number(image);
+    let mapper = image::mapper_number(image);
+    if mapper != numbers::DONE {
+        return mapper;
+    }
+    let number = image::rest_number(image);
     if number != numbers::DONE {
         return number;
     }
@@ -20,7 +24,11 @@ pub fn set_joypad_state(image: &mut [u8], state: u8) -> u8
 pub fn are_action_keys_enabled(image: &[u8]) -> Given
     ensures { λ r. ⌜ given (r .number) (r .value) ≡ askEntry (now (image .entry)) AreActionKeysEnabled ⌝ }
 {
-    let number = image::number(image);
+    let mapper = image::mapper_number(image);
+    if mapper != numbers::DONE {
+        return refused(mapper);
+    }
+    let number = image::rest_number(image);
     if number != numbers::DONE {
         return refused(number);
     }
@@ -30,7 +38,11 @@ pub fn are_action_keys_enabled(image: &[u8]) -> Given
 pub fn are_direction_keys_enabled(image: &[u8]) -> Given
     ensures { λ r. ⌜ given (r .number) (r .value) ≡ askEntry (now (image .entry)) AreDirectionKeysEnabled ⌝ }
 {
-    let number = image::number(image);
+    let mapper = image::mapper_number(image);
+    if mapper != numbers::DONE {
+        return refused(mapper);
+    }
+    let number = image::rest_number(image);
     if number != numbers::DONE {
         return refused(number);
     }
@@ -41,7 +53,11 @@ pub fn are_direction_keys_enabled(image: &[u8]) -> Given
 pub fn press(image: &mut [u8], button: u8) -> u8
     ensures { λ r. ⌜ changed r (now (image .exit)) ≡ stateEntry (now (image .entry)) (Press button) ⌝ }
 {
-    let number = image::number(image);
+    let mapper = image::mapper_number(image);
+    if mapper != numbers::DONE {
+        return mapper;
+    }
+    let number = image::rest_number(image);
     if number != numbers::DONE {
         return number;
     }
@@ -58,7 +74,11 @@ pub fn press(image: &mut [u8], button: u8) -> u8
 pub fn release(image: &mut [u8], button: u8) -> u8
     ensures { λ r. ⌜ changed r (now (image .exit)) ≡ stateEntry (now (image .entry)) (Release button) ⌝ }
 {
-    let number = image::number(image);
+    let mapper = image::mapper_number(image);
+    if mapper != numbers::DONE {
+        return mapper;
+    }
+    let number = image::rest_number(image);
     if number != numbers::DONE {
         return number;
     }
@@ -76,7 +96,11 @@ pub fn release(image: &mut [u8], button: u8) -> u8
 pub fn update_joypad(image: &mut [u8]) -> u8
     ensures { λ r. ⌜ changed r (now (image .exit)) ≡ stateEntry (now (image .entry)) UpdateJoypad ⌝ }
 {
-    let number = image::number(image);
+    let mapper = image::mapper_number(image);
+    if mapper != numbers::DONE {
+        return mapper;
+    }
+    let number = image::rest_number(image);
     if number != numbers::DONE {
         return number;
     }

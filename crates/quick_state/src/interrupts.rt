@@ -10,7 +10,11 @@ ghost use Rattle.entry.specs.Entry.{changed, stateEntry, given, askEntry};
 pub fn get_interrupts(image: &[u8]) -> Given
     ensures { λ r. ⌜ given (r .number) (r .value) ≡ askEntry (now (image .entry)) GetInterrupts ⌝ }
 {
-    let number = image::number(image);
+    let mapper = image::mapper_number(image);
+    if mapper != numbers::DONE {
+        return refused(mapper);
+    }
+    let number = image::rest_number(image);
     if number != numbers::DONE {
         return refused(number);
     }
@@ -26,7 +30,11 @@ pub fn get_interrupts(image: &[u8]) -> Given
 pub fn request_interrupt(image: &mut [u8], interrupt: u8) -> u8
     ensures { λ r. ⌜ changed r (now (image .exit)) ≡ stateEntry (now (image .entry)) (RequestInterrupt interrupt) ⌝ }
 {
-    let number = image::number(image);
+    let mapper = image::mapper_number(image);
+    if mapper != numbers::DONE {
+        return mapper;
+    }
+    let number = image::rest_number(image);
     if number != numbers::DONE {
         return number;
     }
@@ -41,7 +49,11 @@ pub fn request_interrupt(image: &mut [u8], interrupt: u8) -> u8
 pub fn remove_interrupt(image: &mut [u8], interrupt: u8) -> u8
     ensures { λ r. ⌜ changed r (now (image .exit)) ≡ stateEntry (now (image .entry)) (RemoveInterrupt interrupt) ⌝ }
 {
-    let number = image::number(image);
+    let mapper = image::mapper_number(image);
+    if mapper != numbers::DONE {
+        return mapper;
+    }
+    let number = image::rest_number(image);
     if number != numbers::DONE {
         return number;
     }

@@ -1,34 +1,23 @@
 -- The mapper's own tests; the save's length by the branch on the code, or by the cartridge.
 use mathlib.Core.Path.{_≡_, refl, sym, ap, subst, _∙_}
-use mathlib.Core.Bool.{Bool, true, _&&_}
+use mathlib.Core.Bool.{true}
 use mathlib.Core.List.{List}
 use Prim.Native.Nat.{ℕ, _*_}
 use lib.ListN.{length}
 use borrow.Author.Tests.{eqb-true}
-use Rattle.rules.proofs.Tests.{granted, untrue, both-true}
-use Rattle.mbc.specs.Mbc.{mapperOf, sound, same, registersOf, inRange, romLen, ramLen, ramBanks, from1, numbers1}
+use Rattle.rules.proofs.Tests.{granted, untrue}
+use Rattle.mbc.specs.Mbc.{mapperOf, same, inRange, romLen, ramLen, ramBanks, from1, numbers1}
 use Rattle.mbc.specs.declared.cartridge.Cartridge.{Cartridge}
-use Rattle.mbc.specs.declared.mbc.Mapper.{Mapper}
 use Rattle.mbc.specs.declared.mbc.Mapper.the-variants as mapper
 use Rattle.mbc.specs.declared.mbc1.Mbc1.{Mbc1}
 use Rattle.mbc.specs.declared.registers.Registers.{Registers}
 use Rattle.image.specs.Layout.{imageLen}
 use Rattle.image.specs.Load.{cartridgeOf, registersIn}
 use Rattle.image.specs.Patches.{fields, MapperFits}
+use Rattle.image.proofs.MappedLaws.{first-mapper, first-mapped}
 use borrow.Author.Needs.{needs}
 use Rattle.image.proofs.fields.mapper_surely_fits.Statement.{statement}
 use Rattle.image.proofs.fields.mapper_surely_fits.Tie as tie
-
-and-both : {a b : Bool} → a ≡ true → b ≡ true → (a && b) ≡ true
-and-both p q = rw (p, q)
-
-of-first : (r : Registers) → same r (numbers1 (from1 r)) ≡ true → mapperOf r ≡ mapper.Mbc1 (from1 r)
-unfolding same
-of-first r h = let k : r .kind ≡ 1 = eqb-true (r .kind) 1 (both-true _ _ h .0) in rw k
-
-first-sound : (r : Registers) → same r (numbers1 (from1 r)) ≡ true → sound r ≡ true
-unfolding sound
-first-sound r h = ap (λ (p : Mapper). same r (registersOf p)) (of-first r h) ∙ h
 
 first-ram : (c : Cartridge) (m : Mbc1) → ramBanks (c .code) * 0x2000 ≡ ramLen c (mapper.Mbc1 m)
 unfolding ramLen
@@ -42,13 +31,14 @@ first-fits : (l : List ℕ) (r : Registers) (k : Cartridge) (m : Mbc1) (n s : �
     → m ≡ from1 r → same r (numbers1 (from1 r)) ≡ true → inRange k (mapper.Mbc1 m) ≡ true → n ≡ romLen k → s ≡ ramBanks (k .code) * 0x2000
     → MapperFits l n s
 first-fits l r k m n s size er ek em h g hn hs =
-    let p : mapperOf r ≡ mapper.Mbc1 m = of-first r h ∙ ap mapper.Mbc1 (sym em) in
-    let q : mapperOf (registersIn (fields l)) ≡ mapper.Mbc1 m = ap mapperOf (sym er) ∙ p in
+    let p = first-mapped l er em h size ek g in
     record {
-      size = size;
-      mapper = and-both (ap sound (sym er) ∙ first-sound r h) (ap (λ (c : Cartridge). inRange c (mapperOf (registersIn (fields l)))) (sym ek) ∙ ap (inRange k) q ∙ g);
+      size = p .size;
+      mapper = p .mapper;
       rom = subst (λ (c : Cartridge). n ≡ romLen c) ek hn;
-      save = hs ∙ first-ram k m ∙ ap (ramLen k) (sym q) ∙ ap (λ (c : Cartridge). ramLen c (mapperOf (registersIn (fields l)))) ek;
+      save =
+          hs ∙ first-ram k m ∙ ap (ramLen k) (sym (first-mapper l er em h))
+          ∙ ap (λ (c : Cartridge). ramLen c (mapperOf (registersIn (fields l)))) ek;
     }
 
 returns : tie.Need-returns
