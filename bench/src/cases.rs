@@ -64,7 +64,7 @@ macro_rules! frame {
     }};
 }
 
-pub const CASES: [Case; 12] = [
+pub const CASES: [Case; 13] = [
     case! { "read, ROM",
         |o| o.memory.read_byte(black_box(0x4123)),
         |t| t.memory.read_byte(black_box(0x4123))
@@ -121,7 +121,58 @@ pub const CASES: [Case; 12] = [
         |o| frame!(o),
         |t| frame!(t)
     },
+    case! { "the same, the timer told when it is due (***)", 1,
+        |o| lazy_frame(o),
+        |t| frame!(t)
+    },
 ];
+
+/// The frame's load by the calls that are there for it: the timer is told when TIMA overflows or a read of its registers comes, and the tile maps are read
+/// as a block.
+fn lazy_frame(side: &mut Ours) {
+    let mut untold = 0;
+    let mut wait = side.memory.cycles_to_overflow().unwrap_or(LONGEST_WAIT);
+    for access in accesses() {
+        match *access {
+            Access::Read(index) => {
+                if TIMER.contains(&index) {
+                    wait = told(side, &mut untold);
+                }
+                black_box(side.memory.read_byte(index));
+            }
+            Access::Write(index, value) => {
+                let _ = black_box(side.memory.write_byte(index, value));
+            }
+        }
+        untold += 4;
+        if wait.min(LONGEST_WAIT) <= untold {
+            wait = told(side, &mut untold);
+        }
+    }
+    told(side, &mut untold);
+    let mut maps = [0; 0x800];
+    side.memory.read_block(0x9800, black_box(&mut maps)).unwrap();
+    black_box(maps);
+    side.memory.do_dma_transfer(0xC1);
+    for (index, value) in HDMA {
+        let _ = black_box(side.memory.write_byte(index, value));
+    }
+    for _ in 0..8 {
+        black_box(side.memory.do_hdma());
+    }
+}
+
+/// Tells the timer, and says how many cycles are left until TIMA overflows.
+fn told(side: &mut Ours, untold: &mut u32) -> u32 {
+    side.memory.update_timer(*untold).unwrap();
+    *untold = 0;
+    side.memory.cycles_to_overflow().unwrap_or(LONGEST_WAIT)
+}
+
+const TIMER: std::ops::RangeInclusive<u16> = 0xFF04..=0xFF07;
+
+/// Fewer than the 65,536 that an update may be told of.
+const LONGEST_WAIT: u32 = 60_000;
 
 /// From 0100 to 8000.
 const GDMA: [(u16, u8); 5] = [(0xFF51, 0x01), (0xFF52, 0x00), (0xFF53, 0x00), (0xFF54, 0x00), (0xFF55, 0x7F)];

@@ -41,7 +41,8 @@ use Rattle.rules.proofs.Tests.{both-true, by-cond, cond-both}
 use Rattle.boundary.specs.Boundary.{Alike, EntryRuns, entryAdmitted, EntryKept, EntryPromise}
 use Rattle.boundary.specs.Held.{Held, held, entryRun, entryAnswers, answers, numbersOf, usedOf, copiedOff, entryCopies}
 use Rattle.boundary.specs.Types.{CallTyped, TurnTyped, TurnsTyped}
-use Rattle.boundary.proofs.Bytes.{Whole, step-whole}
+use Rattle.boundary.proofs.Bytes.{step-whole}
+use Rattle.put_bytes.proofs.Whole.{Whole}
 use Rattle.boundary.proofs.Entries.{entry-step}
 use Rattle.in_place.proofs.Fine.{Page, Fine, typed-fine, fine-typed}
 
