@@ -1,10 +1,10 @@
 // What is common to the mappers: the Rust's trait `Mbc` as an enum, and its two calls.
 use crate::cartridge::Cartridge;
+use crate::held::Registers;
 use crate::mbc1;
 use crate::mbc1::Mbc1;
 use crate::mbc2;
 use crate::mbc2::Mbc2;
-use crate::registers::Registers;
 use crate::rom_only;
 ghost use mathlib.Core.Path.{_≡_};
 ghost use mathlib.Core.Bool.{true};
