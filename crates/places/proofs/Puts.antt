@@ -2,7 +2,7 @@
 use mathlib.Core.Path.{_≡_, refl, sym, ap, subst, _∙_}
 use mathlib.Core.List.{List, [], _∷_, _++_}
 use Prim.Native.Nat.{ℕ, zero, suc, _+_, _-_, _*_, _/_, _%_, _^_, _<_, _≤_}
-use native.Mathlib.Nat.{mod-lt, mul-assoc, add-mul}
+use native.Mathlib.Nat.{mod-lt, add-comm, mul-assoc, add-mul}
 use native.Mathlib.Omega.{arith}
 use lib.ListN.{length, take, drop, getD, set, length-replicate, replicate-append-replicate}
 use lib.Seq.{take-at}
@@ -106,7 +106,18 @@ put-bytes ws l l' fs k j p b e h =
     ∙ ap (λ (x : List ℕ). x ++ unpacked (eights j) n) (front-bytes l k j b e)
     ∙ ap (λ (x : List ℕ). take k l ++ x) (sym (ap (unpacked (eights j)) a ∙ c))
 
--- A field of 64 bits is one of 32 above one of 32
+-- What is put says all: the same fields set leave the same bytes
+pub put-unique : (ws l a b fs : List ℕ) → Put ws l a fs → Put ws l b fs → a ≡ b
+put-unique ws l a b fs p q =
+    let k = bits ws in
+    let whole : (c : List ℕ) → Put ws l c fs → number c ≡ number l / 2 ^ k * 2 ^ k + packed ws fs =
+    λ c r. sym (split (number c) k) ∙ rw (r .before, ← r .fields, pack-unpack-mod ws (number c)) in
+    sym (bytes-back a (p .below))
+    ∙ ap (λ (i : ℕ). unpacked (eights i) (number a)) (p .size ∙ sym (q .size))
+    ∙ ap (unpacked (eights (length b))) (whole a p ∙ sym (whole b q))
+    ∙ bytes-back b (q .below)
+
+-- Two fields side by side are one: the first is above
 
 replaced-twice : (n b B w v p : ℕ) → replaced (replaced n (b + B) w v) b B p ≡ replaced n b (w + B) (v * 2 ^ B + p)
 unfolding replaced
@@ -133,20 +144,25 @@ read-halves l bit h =
     let f : behind l (bit + 32) 32 ≡ b = omega arith in
     rw (e, f, ← shr-shr (number l) b 32) (sym (mod-pow-add (number l / 2 ^ b) 32 32))
 
-pub put-halves : (l : List ℕ) (bit v : ℕ) → Below 256 l → bit + 64 ≤ 8 * length l → v < 2 ^ 64
-    → putAt (putAt l bit 32 (v / 2 ^ 32)) (bit + 32) 32 (v % 2 ^ 32) ≡ putAt l bit 64 v
-unfolding putAt
-put-halves l bit v b h k =
-    let hi = v / 2 ^ 32 in
-    let lo = v % 2 ^ 32 in
-    let l' = putAt l bit 32 hi in
-    let d = behind l bit 64 in
-    let e : behind l bit 32 ≡ d + 32 = omega arith in
-    let f : 8 * length l - (bit + 32 + 32) ≡ d = omega arith in
-    let g : hi * 2 ^ 32 + lo ≡ v = split v 32 in
-    ap (λ (i : ℕ). unpacked (eights i) (replaced (number l') (8 * i - (bit + 32 + 32)) 32 lo)) (put-length l bit 32 hi)
-    ∙ ap (λ (i : ℕ). unpacked (eights (length l)) (replaced (number l') i 32 lo)) f
-    ∙ ap (λ (i : ℕ). unpacked (eights (length l)) (replaced i d 32 lo)) (put-number l bit 32 hi b (omega arith) (omega arith))
-    ∙ ap (λ (i : ℕ). unpacked (eights (length l)) (replaced (replaced (number l) i 32 hi) d 32 lo)) e
-    ∙ ap (unpacked (eights (length l))) (replaced-twice (number l) d 32 32 hi lo)
-    ∙ ap (λ (i : ℕ). unpacked (eights (length l)) (replaced (number l) d 64 i)) g
+module _ (l : List ℕ) (bit : ℕ) (b : Below 256 l) where
+  pub put-joined : (v w hi lo : ℕ) → bit + (v + w) ≤ 8 * length l → hi < 2 ^ v → putAt (putAt l bit v hi) (bit + v) w lo ≡ putAt l bit (v + w) (hi * 2 ^ w + lo)
+  unfolding putAt
+  put-joined v w hi lo h k =
+      let l' = putAt l bit v hi in
+      let d = behind l bit (v + w) in
+      let e : behind l bit v ≡ d + w = omega arith in
+      let f : 8 * length l - (bit + v + w) ≡ d = omega arith in
+      ap (λ (i : ℕ). unpacked (eights i) (replaced (number l') (8 * i - (bit + v + w)) w lo)) (put-length l bit v hi)
+      ∙ ap (λ (i : ℕ). unpacked (eights (length l)) (replaced (number l') i w lo)) f
+      ∙ ap (λ (i : ℕ). unpacked (eights (length l)) (replaced i d w lo)) (put-number l bit v hi b (omega arith) k)
+      ∙ ap (λ (i : ℕ). unpacked (eights (length l)) (replaced (replaced (number l) i v hi) d w lo)) e
+      ∙ ap (unpacked (eights (length l))) (replaced-twice (number l) d w v hi lo)
+
+  -- a field put as it is
+  pub put-same : (w : ℕ) → putAt l bit w (fieldAt l bit w) ≡ l
+  unfolding putAt fieldAt replaced
+  put-same w =
+      let n = number l in
+      let d = behind l bit w in
+      let e : n / 2 ^ (w + d) ≡ n / 2 ^ d / 2 ^ w = rw (add-comm w d) (sym (shr-shr n d w)) in
+      ap (unpacked (eights (length l))) (rw (e, split (n / 2 ^ d) w, split n d)) ∙ bytes-back l b
