@@ -9,8 +9,8 @@ use lib.Seq.{take-at}
 use lib.Pow.{pow-pos, pow-add, high, split, mod-mod-pow, mod-pow-add, shr-shr}
 use Rattle.packing.specs.Packing.{Below, Fit, bits, packed, unpacked, repacked, eights}
 use Rattle.packing.proofs.Laws.{below-fit, fit-below, unpack-fit, unpack-pack, unpack-length, unpack-mod, unpack-append, pack-unpack, pack-unpack-mod}
-use Rattle.places.specs.Places.{number, behind, fieldAt, replaced, putAt, putFields, FitAll, setAll}
-use Rattle.places.proofs.Laws.{bits-eights, number-lt, above-mod, replaced-above, replaced-lt, replaced-set}
+use Rattle.places.specs.Places.{number, behind, fieldAt, fieldsFrom, replaced, putAt, putFields, FitAll, setAll}
+use Rattle.places.proofs.Laws.{listed, bits-eights, number-lt, above-mod, replaced-above, replaced-lt, replaced-set}
 
 -- bytes are those of their number
 pub bytes-back : (l : List ℕ) → Below 256 l → unpacked (eights (length l)) (number l) ≡ l
@@ -106,17 +106,6 @@ put-bytes ws l l' fs k j p b e h =
     ∙ ap (λ (x : List ℕ). x ++ unpacked (eights j) n) (front-bytes l k j b e)
     ∙ ap (λ (x : List ℕ). take k l ++ x) (sym (ap (unpacked (eights j)) a ∙ c))
 
--- What is put says all: the same fields set leave the same bytes
-pub put-unique : (ws l a b fs : List ℕ) → Put ws l a fs → Put ws l b fs → a ≡ b
-put-unique ws l a b fs p q =
-    let k = bits ws in
-    let whole : (c : List ℕ) → Put ws l c fs → number c ≡ number l / 2 ^ k * 2 ^ k + packed ws fs =
-    λ c r. sym (split (number c) k) ∙ rw (r .before, ← r .fields, pack-unpack-mod ws (number c)) in
-    sym (bytes-back a (p .below))
-    ∙ ap (λ (i : ℕ). unpacked (eights i) (number a)) (p .size ∙ sym (q .size))
-    ∙ ap (unpacked (eights (length b))) (whole a p ∙ sym (whole b q))
-    ∙ bytes-back b (q .below)
-
 -- Two fields side by side are one: the first is above
 
 replaced-twice : (n b B w v p : ℕ) → replaced (replaced n (b + B) w v) b B p ≡ replaced n b (w + B) (v * 2 ^ B + p)
@@ -144,25 +133,40 @@ read-halves l bit h =
     let f : behind l (bit + 32) 32 ≡ b = omega arith in
     rw (e, f, ← shr-shr (number l) b 32) (sym (mod-pow-add (number l / 2 ^ b) 32 32))
 
-module _ (l : List ℕ) (bit : ℕ) (b : Below 256 l) where
-  pub put-joined : (v w hi lo : ℕ) → bit + (v + w) ≤ 8 * length l → hi < 2 ^ v → putAt (putAt l bit v hi) (bit + v) w lo ≡ putAt l bit (v + w) (hi * 2 ^ w + lo)
-  unfolding putAt
-  put-joined v w hi lo h k =
-      let l' = putAt l bit v hi in
-      let d = behind l bit (v + w) in
-      let e : behind l bit v ≡ d + w = omega arith in
-      let f : 8 * length l - (bit + v + w) ≡ d = omega arith in
-      ap (λ (i : ℕ). unpacked (eights i) (replaced (number l') (8 * i - (bit + v + w)) w lo)) (put-length l bit v hi)
-      ∙ ap (λ (i : ℕ). unpacked (eights (length l)) (replaced (number l') i w lo)) f
-      ∙ ap (λ (i : ℕ). unpacked (eights (length l)) (replaced i d w lo)) (put-number l bit v hi b (omega arith) k)
-      ∙ ap (λ (i : ℕ). unpacked (eights (length l)) (replaced (replaced (number l) i v hi) d w lo)) e
-      ∙ ap (unpacked (eights (length l))) (replaced-twice (number l) d w v hi lo)
+pub put-joined : (l : List ℕ) → Below 256 l → (bit v w hi lo : ℕ) → bit + (v + w) ≤ 8 * length l → hi < 2 ^ v
+    → putAt (putAt l bit v hi) (bit + v) w lo ≡ putAt l bit (v + w) (hi * 2 ^ w + lo)
+unfolding putAt
+put-joined l b bit v w hi lo h k =
+    let l' = putAt l bit v hi in
+    let d = behind l bit (v + w) in
+    let e : behind l bit v ≡ d + w = omega arith in
+    let f : 8 * length l - (bit + v + w) ≡ d = omega arith in
+    ap (λ (i : ℕ). unpacked (eights i) (replaced (number l') (8 * i - (bit + v + w)) w lo)) (put-length l bit v hi)
+    ∙ ap (λ (i : ℕ). unpacked (eights (length l)) (replaced (number l') i w lo)) f
+    ∙ ap (λ (i : ℕ). unpacked (eights (length l)) (replaced i d w lo)) (put-number l bit v hi b (omega arith) k)
+    ∙ ap (λ (i : ℕ). unpacked (eights (length l)) (replaced (replaced (number l) i v hi) d w lo)) e
+    ∙ ap (unpacked (eights (length l))) (replaced-twice (number l) d w v hi lo)
 
-  -- a field put as it is
-  pub put-same : (w : ℕ) → putAt l bit w (fieldAt l bit w) ≡ l
-  unfolding putAt fieldAt replaced
-  put-same w =
-      let n = number l in
-      let d = behind l bit w in
-      let e : n / 2 ^ (w + d) ≡ n / 2 ^ d / 2 ^ w = rw (add-comm w d) (sym (shr-shr n d w)) in
-      ap (unpacked (eights (length l))) (rw (e, split (n / 2 ^ d) w, split n d)) ∙ bytes-back l b
+-- Fields put as they are leave the bytes
+
+pub put-same : (l : List ℕ) → Below 256 l → (bit w : ℕ) → putAt l bit w (fieldAt l bit w) ≡ l
+unfolding putAt fieldAt replaced
+put-same l b bit w =
+    let n = number l in
+    let d = behind l bit w in
+    let e : n / 2 ^ (w + d) ≡ n / 2 ^ d / 2 ^ w = rw (add-comm w d) (sym (shr-shr n d w)) in
+    ap (unpacked (eights (length l))) (rw (e, split (n / 2 ^ d) w, split n d)) ∙ bytes-back l b
+
+-- of a layout, by their numbers there
+abbrev pub own : List ℕ → List ℕ → List (ℕ × ℕ)
+own fs [] = []
+own fs (k ∷ ks) = (k, getD fs k 0) ∷ own fs ks
+
+pub put-own : (l : List ℕ) → Below 256 l → (bit : ℕ) (ws ks : List ℕ) (ps : List (ℕ × ℕ))
+    → putFields bit ws (own (fieldsFrom l bit ws) ks ++ ps) l ≡ putFields bit ws ps l
+put-own l b bit ws [] ps = refl
+put-own l b bit ws (k ∷ ks) ps =
+    let at = bit + bits (take k ws) in
+    let w = getD ws k 0 in
+    ap (putFields bit ws (own (fieldsFrom l bit ws) ks ++ ps)) (ap (putAt l at w) (listed l bit ws k) ∙ put-same l b at w)
+    ∙ put-own l b bit ws ks ps

@@ -25,7 +25,7 @@ returns c =
     let l = now (c .before .before .before .before .before .before .before .before .before .args .bytes) in
     let bit = c .before .before .before .before .before .before .before .before .before .args .bit in
     let n = c .before .before .before .before .before .before .before .before .before .args .value in
-    cc (put-joined l bit (λ i. c .before .before .before .before .before .before .before .before .slice-known .given i .fits) 32 32 (n / 2 ^ 32) (n % 2 ^ 32) (omega arith) (omega arith), split n 32)
+    cc (put-joined l (λ i. c .before .before .before .before .before .before .before .before .slice-known .given i .fits) bit 32 32 (n / 2 ^ 32) (n % 2 ^ 32) (omega arith) (omega arith), split n 32)
 
 pub put-u64-spec : {M : Type 1} → statement M
 put-u64-spec =
