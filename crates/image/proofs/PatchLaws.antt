@@ -3,14 +3,18 @@
 use mathlib.Core.Bool.{true}
 use mathlib.Core.Path.{_≡_, refl, sym, ap, _∙_}
 use mathlib.Core.List.{List, [], _∷_, _++_, append-assoc}
-use Prim.Native.Nat.{ℕ, zero, suc, _+_, _<_}
+use Prim.Native.Nat.{ℕ, zero, suc, _+_, _*_, _<_}
 use native.Mathlib.Nat.{zero-add, suc-add}
 use native.Mathlib.Omega.{arith}
 use lib.ListN.{length, take, set, length-append, length-set}
 use lib.Seq.{take-at, set-append-left}
-use Rattle.packing.specs.Packing.{Below, repacked, eights, fives}
-use Rattle.places.specs.Places.{setAll}
+use Rattle.packing.specs.Packing.{Below, bits, repacked, eights, fives}
+use Rattle.places.specs.Places.{putAt, setAll}
+use Rattle.places.proofs.Puts.{put-joined, own, put-own}
+use Rattle.mbc.specs.Mbc.{mapperOf, registersOf, sound}
+use Rattle.mbc.specs.declared.held.Registers.{Registers}
 use Rattle.mbc.specs.declared.mbc.Mapper.{Mapper}
+use Rattle.mbc.proofs.RegisterLaws.{registers-of-mapper}
 use Rattle.joypad.specs.declared.Controller.{Controller}
 use Rattle.memory.specs.declared.Clock.{Clock}
 use Rattle.memory.specs.declared.Core.{Core}
@@ -18,14 +22,18 @@ use Rattle.memory.specs.declared.Memory.{Memory}
 use Rattle.memory.specs.World.{withOam, withPage, withCore, withJoypad, withClock, withMapper, withUsed}
 use Rattle.memory.specs.Ranges.{palettesInRange, stateInRange, inRange}
 use Rattle.memory.proofs.Laws.{range-parts}
-use Rattle.image.specs.Layout.{imageLen, fieldWidths, widths, channels, fieldValues, values, imageOf}
-use Rattle.image.specs.Load.{storable, valuesOf, fieldsIn}
+use Rattle.image.specs.Layout.{imageLen, fieldWidths, usedField, widths, channels, fieldValues, values, imageOf}
+use Rattle.image.specs.Load.{at, registersIn, storable, valuesOf, fieldsIn}
 use Rattle.image.specs.Laws.{Typed}
-use Rattle.image.specs.Patches.{put, Fits, Slim, usedFields, usedPut, mappingFields, mappingPut, clockFields, clockPut}
-use Rattle.image.proofs.FieldLaws.{image-of-values, put-in, put-size, values-put}
+use Rattle.image.specs.Patches.{front, fields, put, Fits, Slim, numbersFields, registersFields, usedFields, usedPut, mappingFields, mappingPut, clockFields, clockPut}
+use Rattle.image.proofs.FieldLaws.{fields-number, image-of-values, put-in, put-size, values-put}
 use Rattle.image.proofs.Parts.{fieldLen, joined}
 use Rattle.image.proofs.StateLaws.{storable-state, storable-use, slim-registers, image-bytes}
 use Rattle.image.proofs.Round.{state-back, values-back, fields-of-values, front-of-values}
+
+-- where a mapper's numbers stand
+abbrev pub numbersPlace : ℕ
+numbersPlace = front + bits (take 23 fieldWidths)
 
 abbrev pub Bytes : List ℕ → Type 0
 Bytes l = (length l ≡ 256) × Below 256 l
@@ -93,6 +101,50 @@ module _ (m : Memory) (t : Typed m) (h : storable m ≡ true) where
 
 pub slim : (m : Memory) → storable m ≡ true → Slim (m .core .mapper)
 slim m h = slim-registers m h
+
+-- A mapper put. Its numbers stand side by side, so they are put as one; and fields that are put as they are change nothing
+
+module _ (l : List ℕ) (below : Below 256 l) where
+  pub numbers-put : length l ≡ imageLen → (r : Registers) → Fits (numbersFields r) → (n : ℕ)
+      → n ≡ r .rom * 64 + r .ram * 16 + r .mode * 8 + r .enabled * 4 + r .high → putAt l numbersPlace 13 n ≡ put (numbersFields r) l
+  numbers-put size r f n e =
+      let k = numbersPlace in
+      let a = r .rom * 4 + r .ram in
+      let b = a * 2 + r .mode in
+      let c = b * 2 + r .enabled in
+      let d : c * 4 + r .high ≡ n = omega arith in
+      sym
+      (ap (λ (x : List ℕ). putAt (putAt (putAt x (k + 9) 1 (r .mode)) (k + 10) 1 (r .enabled)) (k + 11) 2 (r .high))
+      (put-joined l below k 7 2 (r .rom) (r .ram) (omega arith) (omega (arith, f)))
+      ∙ ap (λ (x : List ℕ). putAt (putAt x (k + 10) 1 (r .enabled)) (k + 11) 2 (r .high)) (put-joined l below k 9 1 a (r .mode) (omega arith) (omega (arith, f)))
+      ∙ ap (λ (x : List ℕ). putAt x (k + 11) 2 (r .high)) (put-joined l below k 10 1 b (r .enabled) (omega arith) (omega (arith, f)))
+      ∙ put-joined l below k 11 2 c (r .high) (omega arith) (omega (arith, f))
+      ∙ ap (putAt l k 13) d)
+
+  put-again : (ks : List ℕ) (ps : List (ℕ × ℕ)) → put (own (fields l) ks ++ ps) l ≡ put ps l
+  put-again ks ps = put-own l below front fieldWidths ks ps
+
+  -- the image's own mapper
+  pub mapping-kept : (p : Mapper) (u : ℕ) → p ≡ mapperOf (registersIn (fields l)) → sound (registersIn (fields l)) ≡ true → mappingPut l p u ≡ usedPut l u
+  unfolding mappingPut usedPut
+  mapping-kept p u e s =
+      ap (λ (r : Registers). put (registersFields r ++ usedFields u) l) (ap registersOf e ∙ registers-of-mapper (registersIn (fields l)) s)
+      ∙ put-again (20 ∷ 23 ∷ 24 ∷ 25 ∷ 26 ∷ 27 ∷ []) (usedFields u)
+
+-- the image's own kind and log use
+pub registers-put : (l : List ℕ) → Below 256 l → length l ≡ imageLen → (p : Mapper) → Slim p → registersOf p .kind ≡ registersIn (fields l) .kind
+    → put (numbersFields (registersOf p)) l ≡ mappingPut l p (at (fields l) usedField)
+unfolding mappingPut
+registers-put l below size p f e =
+    let ps = numbersFields (registersOf p) in
+    let l' = put ps l in
+    let u = at (fields l) usedField in
+    let o = put-in l size below ps (f .1) in
+    let s : fields l' ≡ setAll ps (fields l) =
+    fields-number l' (put-size l size below ps (f .1)) ∙ o .fields ∙ ap (setAll ps) (sym (fields-number l size)) in
+    sym
+    (ap (λ (k : ℕ). put ((20, k) ∷ (ps ++ usedFields u)) l) e ∙ put-again l below (20 ∷ []) (ps ++ usedFields u)
+    ∙ ap (λ (fs : List ℕ). put (usedFields (at fs usedField)) l') (sym s) ∙ put-again l' (o .below) (usedField ∷ []) [])
 
 -- A byte of OAM or page: the first 512 bytes are these
 

@@ -17,7 +17,7 @@ use Rattle.mbc.specs.Mbc as mbc
 use Rattle.mbc.specs.Mbc.{registersOf, log2}
 use Rattle.mbc.specs.declared.cartridge.Cartridge.{Cartridge}
 use Rattle.mbc.specs.declared.mbc.Mapper.{Mapper}
-use Rattle.mbc.specs.declared.registers.Registers.{Registers}
+use Rattle.mbc.specs.declared.held.Registers.{Registers}
 use Rattle.memory.specs.declared.Banks.{Banks}
 use Rattle.memory.specs.declared.Clock.{Clock}
 use Rattle.memory.specs.declared.Core.{Core}
@@ -158,11 +158,12 @@ clockFields c = (12, c .div) ∷ (13, c .tima) ∷ []
 abbrev pub cartridgeFields : Cartridge → List (ℕ × ℕ)
 cartridgeFields c = (21, log2 (c .banks)) ∷ (22, c .code) ∷ []
 
+-- side by side in the image
 abbrev pub numbersFields : Registers → List (ℕ × ℕ)
-numbersFields r = (20, r .kind) ∷ (23, r .rom) ∷ (24, r .ram) ∷ (27, r .high) ∷ []
+numbersFields r = (23, r .rom) ∷ (24, r .ram) ∷ (25, r .mode) ∷ (26, r .enabled) ∷ (27, r .high) ∷ []
 
 abbrev pub registersFields : Registers → List (ℕ × ℕ)
-registersFields r = numbersFields r ++ ((25, r .mode) ∷ (26, r .enabled) ∷ [])
+registersFields r = (20, r .kind) ∷ numbersFields r
 
 abbrev pub usedFields : ℕ → List (ℕ × ℕ)
 usedFields u = (usedField, u) ∷ []

@@ -18,7 +18,7 @@ ghost use mir.Syntax.{w32};
 ghost use mir.Val.{ofZ, toZ};
 ghost use Rattle.packing.specs.Packing.{Fit};
 ghost use Rattle.places.specs.Places.{fieldAt, putAt, Within};
-ghost use Rattle.mbc.specs.Mbc.{mapperOf};
+ghost use Rattle.mbc.specs.Mbc.{mapperOf, registersOf};
 ghost use Rattle.image.specs.Layout.{imageLen, fieldWidths, fieldValues, usedField};
 ghost use Rattle.image.specs.Load.{banksOf, lcdOf, hdmaOf, joypadOf, clockOf, cartridgeOf, registersIn, coreFrom, at};
 ghost use Rattle.image.specs.Patches.{fields, headFits, mapperFits, tailFits, restFits, Mapped, MapperFits, MachineFits, RestFits, put, Fits, banksFields, linesFields, lcdFields, hdmaFields, joypadFields, clockFields, cartridgeFields, numbersFields, Slim, usedPut, mappingPut, clockPut, groupsFields, coreFields};
@@ -377,14 +377,17 @@ fn put_cartridge(image: &mut [u8], cartridge: Cartridge)
     places::put_u8(image, layout::CODE_AT, layout::CODE, cartridge.code);
 }
 
+// A mapper's numbers but its kind: they stand side by side, so they are put as one.
 fn put_numbers(image: &mut [u8], r: Registers)
     requires { ⌜ (length (now image) ≡ imageLen) × Fits (numbersFields r) ⌝ }
     ensures { λ _. ⌜ now (image .exit) ≡ put (numbersFields r) (now (image .entry)) ⌝ }
 {
-    places::put_u8(image, layout::KIND_AT, layout::KIND, r.kind);
-    places::put_u16(image, layout::ROM_AT, layout::ROM, r.rom);
-    places::put_u8(image, layout::RAM_AT, layout::RAM, r.ram);
-    places::put_u8(image, layout::HIGH_AT, layout::HIGH, r.high);
+    let n = r.rom * 64
+        + r.ram as u16 * 16
+        + r.mode as u16 * 8
+        + r.enabled as u16 * 4
+        + r.high as u16;
+    places::put_u16(image, layout::ROM_AT, layout::NUMBERS, n);
 }
 
 pub fn put_used(image: &mut [u8], used: u16)
@@ -400,10 +403,18 @@ pub fn put_mapping(image: &mut [u8], mapper: Mapper, used: u16)
     ensures { λ _. ⌜ now (image .exit) ≡ mappingPut (now (image .entry)) mapper used ⌝ }
 {
     let r = mapper.registers();
+    places::put_u8(image, layout::KIND_AT, layout::KIND, r.kind);
     put_numbers(image, r);
-    places::put_u8(image, layout::BANKING_AT, 1, r.mode);
-    places::put_u8(image, layout::ENABLED_AT, 1, r.enabled);
     put_used(image, used);
+}
+
+// The mapper alone, where the image has one of its kind; the log use stays.
+pub fn put_registers(image: &mut [u8], mapper: Mapper)
+    requires { ⌜ (length (now image) ≡ imageLen) × (Slim mapper × (registersOf mapper .kind ≡ registersIn (fields (now image)) .kind)) ⌝ }
+    ensures { λ _. ⌜ now (image .exit) ≡ mappingPut (now (image .entry)) mapper (at (fields (now (image .entry))) usedField) ⌝ }
+{
+    let r = mapper.registers();
+    put_numbers(image, r);
 }
 
 // The groups, and the log use.

@@ -68,6 +68,9 @@ pub const RAM: usize = 2;
 
 pub const HIGH: usize = 2;
 
+// ROM bank, RAM bank, mode, enabled and high bits, side by side.
+pub const NUMBERS: usize = ROM + RAM + 1 + 1 + HIGH;
+
 pub const USED: usize = 16;
 
 pub const ZEROS: usize = 1;

@@ -31,6 +31,7 @@ pub use fields::put_hdma;
 pub use fields::put_joypad;
 pub use fields::put_lcd;
 pub use fields::put_mapping;
+pub use fields::put_registers;
 pub use fields::put_used;
 pub use fields::registers_at;
 pub use fields::rest_surely_fits;

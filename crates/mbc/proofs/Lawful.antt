@@ -49,5 +49,6 @@ pub record Lawful (m : Mapper) : Type 0 where
   pub within : (c : Cartridge) (index : ℕ) → inRange c m ≡ true → 0xA000 ≤ index → index < 0xC000 → Within 0 (ramLen c m) (ramSource c m index)
   -- writes
   pub kept : (c : Cartridge) (index value : ℕ) → 0x8000 ≤ index → after c m index value ≡ m
+  pub like : (c : Cartridge) (index value : ℕ) → registersOf (after c m index value) .kind ≡ registersOf m .kind
   pub own : (c : Cartridge) (index value : ℕ) → behaviour (after c m index value) .ownRam ≡ behaviour m .ownRam
   pub stays : (c : Cartridge) (index value : ℕ) → inRange c m ≡ true → inRange c (after c m index value) ≡ true

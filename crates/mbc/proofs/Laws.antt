@@ -11,7 +11,7 @@ use mathlib.Core.Logic.{⊎-elim}
 use borrow.Author.Tests.{ltb-true, lt-ltb}
 use Rattle.rules.proofs.Tests.{by-cond}
 use Rattle.mbc.specs.PanDocs.{zeroAsOne, romAddress, halfByte}
-use Rattle.mbc.specs.Mbc.{ramLen, hasBanks, described, inRange, behaviour, start, romBank, ramSource, source, byteOf, readAt, storedAt, answer, low1, high1, after1, enable2, after2, after, cartridgeOf}
+use Rattle.mbc.specs.Mbc.{ramLen, hasBanks, described, inRange, behaviour, registersOf, start, romBank, ramSource, source, byteOf, readAt, storedAt, answer, low1, high1, after1, enable2, after2, after, cartridgeOf}
 use Rattle.mbc.specs.declared.cartridge.Cartridge.{Cartridge}
 use Rattle.mbc.specs.declared.mbc.Mapper.{Mapper}
 use Rattle.mbc.specs.declared.mbc.Mapper.the-variants.{RomOnly}
@@ -88,6 +88,10 @@ read-below c m rom save index r s = byte-below rom save (source c m index) r s (
 -- a write at 8000 or above changes no register
 pub ram-write-keeps : (c : Cartridge) (m : Mapper) (index value : ℕ) → 0x8000 ≤ index → after c m index value ≡ m
 ram-write-keeps c m index value h = lawful m .kept c index value h
+
+-- no write changes the kind
+pub kind-after : (c : Cartridge) (m : Mapper) (index value : ℕ) → registersOf (after c m index value) .kind ≡ registersOf m .kind
+kind-after c m index value = lawful m .like c index value
 
 pub ram-len-after : (c : Cartridge) (m : Mapper) (index value : ℕ) → ramLen c (after c m index value) ≡ ramLen c m
 unfolding ramLen

@@ -234,6 +234,7 @@ mbc1-lawful m =
           by-cond (Within 0 (ramLen c (Mbc1 m))) (m .enabled) (Save (ramAddress (ramBank1 m) index)) (Fixed 0xFF)
           (λ on. omega (arith, ram-below c m e on)) (λ off. lit< tt);
       kept = λ c index value h. rw (keeps c m index value h);
+      like = λ c index value. refl;
       own = λ c index value. refl;
       stays = λ c index value e. stays c m index value e;
     }

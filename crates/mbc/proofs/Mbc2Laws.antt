@@ -85,6 +85,7 @@ mbc2-lawful m =
           by-cond (Within 0 (ramLen c (Mbc2 m))) (m .enabled) (Half (ramAddress 0 index)) (Fixed 0xFF) (λ on. omega arith) (λ off. lit< tt))
           (λ high. lit< tt);
       kept = λ c index value h. rw (keeps c m index value h);
+      like = λ c index value. refl;
       own = λ c index value. refl;
       stays = λ c index value e. stays c m index value e;
     }

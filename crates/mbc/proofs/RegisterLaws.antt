@@ -6,7 +6,7 @@ use lib.Dec.{eqb}
 use borrow.Author.Tests.{eqb-true, eq-eqb}
 use Rattle.mbc.specs.Mbc.{known, registersOf, mapperOf, same, sound}
 use Rattle.mbc.specs.declared.mbc.Mapper.{Mapper}
-use Rattle.mbc.specs.declared.registers.Registers.{Registers}
+use Rattle.mbc.specs.declared.held.Registers.{Registers}
 use Rattle.rules.proofs.Tests.{both-true}
 use Rattle.mbc.proofs.Cases.{lawful}
 

@@ -43,6 +43,7 @@ rom-only-lawful =
           by-cond (Within 0 (ramLen c RomOnly)) (eqb (c .code) 0) (Fixed 0xFF) (Save (ramAddress 0 index)) (λ z. lit< tt)
           (λ z. omega (arith, some-ram (c .code) (has-ram c (in-code c e) z)));
       kept = λ c index value h. refl;
+      like = λ c index value. refl;
       own = λ c index value. refl;
       stays = λ c index value e. e;
     }

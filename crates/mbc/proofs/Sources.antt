@@ -8,7 +8,7 @@ use lib.Dec.{ltb}
 use borrow.Author.Tests.{ltb-true, ltb-false, lt-ltb, le-ltb}
 use Rattle.rules.proofs.Tests.{by-cond}
 use Rattle.mbc.specs.PanDocs.{romAddress, romPlace}
-use Rattle.mbc.specs.Mbc.{romLen, ramLen, inRange, romBank, ramSource, source, byteOf, readAt}
+use Rattle.mbc.specs.Mbc.{romLen, ramLen, inRange, romBank, ramSource, source, byteOf, readAt, storedAt, answer}
 use Rattle.mbc.specs.declared.cartridge.Cartridge.{Cartridge}
 use Rattle.mbc.specs.declared.mbc.Mapper.{Mapper}
 use Rattle.mbc.specs.declared.mbc.Source.{Source}
@@ -24,6 +24,10 @@ in-rom c m index h = rw (lt-ltb index 0x8000 h)
 pub past-rom : (c : Cartridge) (m : Mapper) (index : ℕ) → 0x8000 ≤ index → source c m index ≡ ramSource c m index
 unfolding source
 past-rom c m index h = rw (le-ltb index 0x8000 h)
+
+pub ram-answer : (c : Cartridge) (m : Mapper) (index value : ℕ) → 0xA000 ≤ index
+    → storedAt (ramLen c m) value (ramSource c m index) ≡ answer c m index value
+ram-answer c m index value h = rw (past-rom c m index (omega arith))
 
 -- ROM
 

@@ -9,7 +9,7 @@ use Rattle.numbers.specs.Numbers.{done, outOfRange, wrongLength, outside}
 use Rattle.mbc.specs.PanDocs.{halfByte, romPlace}
 use Rattle.mbc.specs.Behaviour.{Behaviour}
 use Rattle.mbc.specs.declared.cartridge.Cartridge.{Cartridge}
-use Rattle.mbc.specs.declared.registers.Registers.{Registers}
+use Rattle.mbc.specs.declared.held.Registers.{Registers}
 use Rattle.mbc.specs.declared.mbc.Mapper.{Mapper}
 use Rattle.mbc.specs.declared.mbc.Mapper.the-variants.{RomOnly, Mbc1, Mbc2}
 use Rattle.mbc.specs.declared.mbc.Source.{Source}

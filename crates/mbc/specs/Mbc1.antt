@@ -8,7 +8,7 @@ use Rattle.mbc.specs.Cartridge.{oneOf, implies, ramBanks, hasBanks, hasC
 use Rattle.mbc.specs.Registers.{bit, isOn}
 use Rattle.mbc.specs.Behaviour.{Behaviour}
 use Rattle.mbc.specs.declared.cartridge.Cartridge.{Cartridge}
-use Rattle.mbc.specs.declared.registers.Registers.{Registers}
+use Rattle.mbc.specs.declared.held.Registers.{Registers}
 use Rattle.mbc.specs.declared.mbc1.Mbc1.{Mbc1 as Registers1}
 use Rattle.mbc.specs.declared.mbc.Mapper.the-variants.{Mbc1}
 use Rattle.mbc.specs.declared.mbc.Source.{Source}

@@ -7,7 +7,7 @@ use Rattle.mbc.specs.Cartridge.{hasBanks}
 use Rattle.mbc.specs.Registers.{bit, isOn}
 use Rattle.mbc.specs.Behaviour.{Behaviour}
 use Rattle.mbc.specs.declared.cartridge.Cartridge.{Cartridge}
-use Rattle.mbc.specs.declared.registers.Registers.{Registers}
+use Rattle.mbc.specs.declared.held.Registers.{Registers}
 use Rattle.mbc.specs.declared.mbc2.Mbc2.{Mbc2 as Registers2}
 use Rattle.mbc.specs.declared.mbc.Mapper.the-variants.{Mbc2}
 use Rattle.mbc.specs.declared.mbc.Source.{Source}

@@ -1,13 +1,14 @@
 // The cartridge mappers: where a read finds its byte, what a write does to a mapper's registers, and what it asks of the save.
 // A mapper touches neither save nor log. The files follow the Rust's; specs/ has what is promised.
 mod cartridge;
+mod held;
 mod mbc;
 mod mbc1;
 mod mbc2;
-mod registers;
 mod rom_only;
 
 pub use cartridge::Cartridge;
+pub use held::Registers;
 pub use mbc::Answer;
 pub use mbc::Fresh;
 pub use mbc::Mapper;
@@ -19,4 +20,3 @@ pub use mbc::is_mapped;
 pub use mbc::rom_place;
 pub use mbc1::Mbc1;
 pub use mbc2::Mbc2;
-pub use registers::Registers;

@@ -1,18 +1,19 @@
 // What is common to the mappers: the Rust's trait `Mbc` as an enum, and its two calls.
 use crate::cartridge::Cartridge;
+use crate::held::Registers;
 use crate::mbc1;
 use crate::mbc1::Mbc1;
 use crate::mbc2;
 use crate::mbc2::Mbc2;
-use crate::registers::Registers;
 use crate::rom_only;
 ghost use mathlib.Core.Path.{_≡_};
 ghost use mathlib.Core.Bool.{true};
 ghost use mathlib.Core.List.{[]};
-ghost use Prim.Native.Nat.{_<_, _≤_};
+ghost use Prim.Native.Nat.{ℕ, _<_, _≤_};
 ghost use lib.ListN.{length};
 ghost use Rattle.mbc.specs.PanDocs.{romAddress, romPlace, ramAddress};
-ghost use Rattle.mbc.specs.Mbc.{romLen, ramLen, inRange, behaviour, mapperOf, registersOf, sound, mapped, start, ramSource, source, byteOf, readAt, storedAt, after, written, fresh, lengths, readAs, readByte, writeByte};
+ghost use Rattle.mbc.specs.Mbc.{romLen, ramLen, inRange, behaviour, mapperOf, registersOf, sound, mapped, start, ramSource, source, byteOf, readAt, storedAt, answer, after, written, fresh, lengths, readAs, readByte, writeByte};
+ghost use Rattle.mbc.specs.declared.cartridge.Cartridge.{Cartridge};
 
 // Kinds are the state image's: each mapper's file has its own.
 pub enum Mapper {
@@ -252,6 +253,23 @@ impl Mapper {
             Mapper::Mbc1(m) => Mapper::Mbc1(m.after(cartridge, index, value)),
             Mapper::Mbc2(m) => Mapper::Mbc2(m.after(cartridge, index, value)),
         }
+    }
+
+    // Whether a write there leaves the registers as they are, whatever it writes.
+    pub fn keeps(self, index: u16) -> bool
+        ensures { λ r. ⌜ (r ≡ true → (c : Cartridge) (v : ℕ) → after c self index v ≡ self) ⌝ }
+    {
+        0x8000 <= index
+    }
+
+    // What a write at A000..BFFF asks of the save.
+    pub fn answer(self, cartridge: Cartridge, index: u16, value: u8) -> Answer
+        requires { ⌜ 0xA000 ≤ index ⌝ }
+        ensures { λ r. ⌜ r ≡ answer cartridge self index value ⌝ }
+    {
+        let source = self.ram_source(cartridge, index);
+        let len = self.ram_len(cartridge);
+        source.stored(len, value)
     }
 
     // A000..BFFF, for the bus, as `read`.

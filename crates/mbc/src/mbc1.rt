@@ -1,15 +1,15 @@
 // MBC1, as the Rust's mbc1.rs: five registers.
 use crate::cartridge::Cartridge;
+use crate::held::Registers;
+use crate::held::bit;
 use crate::mbc::Source;
 use crate::mbc::ram_address;
-use crate::registers::Registers;
-use crate::registers::bit;
 ghost use mathlib.Core.Path.{_≡_};
-ghost use mathlib.Core.Bool.{true};
+ghost use mathlib.Core.Bool.{true, cond};
 ghost use Prim.Native.Nat.{_<_, _≤_};
 ghost use Rattle.mbc.specs.PanDocs.{mbc1Bank};
 ghost use Rattle.mbc.specs.Registers.{same};
-ghost use Rattle.mbc.specs.Mbc1.{held1, suits, ramBank1, enable1, low1, high1, mode1, after1, from1, numbers1, ramSource1};
+ghost use Rattle.mbc.specs.Mbc1.{held1, suits, ramBank1, enable1, low1, high1, withMode, mode1, after1, from1, numbers1, ramSource1};
 ghost use Rattle.mbc.specs.Mbc.{inRange};
 ghost use Rattle.mbc.specs.declared.mbc.Mapper.the-variants as mapper;
 
@@ -153,23 +153,39 @@ impl Mbc1 {
         if cartridge.code == 0 {
             return self;
         }
-        let mut next = self;
-        next.enabled = value % 16 == 0x0A;
-        next
+        Mbc1 {
+            rom: self.rom,
+            ram: self.ram,
+            mode: self.mode,
+            enabled: value % 16 == 0x0A,
+            high: self.high,
+        }
     }
 
-    // 2000..3FFF: in banking mode the upper bits are left out.
+    // The ROM bank that the five bits give: in banking mode the upper bits are left out.
+    fn low_bank(self, value: u8) -> u16
+        requires { ⌜ self .high ≤ 3 ⌝ }
+        ensures { λ r. ⌜ r ≡ mbc1Bank value (cond (self .mode) 0 (self .high)) ⌝ }
+    {
+        if self.mode {
+            return combined(value as u16, 0);
+        }
+        combined(value as u16, self.high)
+    }
+
+    // 2000..3FFF
     fn select_low(self, cartridge: Cartridge, value: u8) -> Mbc1
         requires { ⌜ (self .high ≤ 3) × (0 < cartridge .banks) ⌝ }
         ensures { λ r. ⌜ r ≡ low1 cartridge self value ⌝ }
     {
-        let mut next = self;
-        if self.mode {
-            next.rom = cartridge.masked(combined(value as u16, 0));
-            return next;
+        let bank = self.low_bank(value);
+        Mbc1 {
+            rom: cartridge.masked(bank),
+            ram: self.ram,
+            mode: self.mode,
+            enabled: self.enabled,
+            high: self.high,
         }
-        next.rom = cartridge.masked(combined(value as u16, self.high));
-        next
     }
 
     // 4000..5FFF: the RAM bank in banking mode, else the upper bits of the ROM bank.
@@ -177,33 +193,51 @@ impl Mbc1 {
         requires { ⌜ (0 < cartridge .banks) × ((self .mode ≡ true) → cartridge .code ≡ 3) ⌝ }
         ensures { λ r. ⌜ r ≡ high1 cartridge self value ⌝ }
     {
-        let mut next = self;
         if self.mode {
-            next.ram = value % 4 % cartridge.ram_banks();
-            return next;
+            return Mbc1 {
+                rom: self.rom,
+                ram: value % 4 % cartridge.ram_banks(),
+                mode: self.mode,
+                enabled: self.enabled,
+                high: self.high,
+            };
         }
         let high = value % 4;
         let bank = combined(self.rom, high);
         let masked = cartridge.masked(bank);
-        next.high = high;
-        next.rom = masked;
-        next
+        Mbc1 {
+            rom: masked,
+            ram: self.ram,
+            mode: self.mode,
+            enabled: self.enabled,
+            high: high,
+        }
     }
 
-    // 6000..7FFF: banking mode only with several RAM banks.
+    // The mode after a write of it: banking mode only with several RAM banks.
+    fn mode_by(self, cartridge: Cartridge, value: u8) -> bool
+        ensures { λ r. ⌜ withMode self r ≡ mode1 cartridge self value ⌝ }
+    {
+        if value % 2 == 1 {
+            if cartridge.code == 3 {
+                return true;
+            }
+            return self.mode;
+        }
+        false
+    }
+
+    // 6000..7FFF
     fn select_mode(self, cartridge: Cartridge, value: u8) -> Mbc1
         ensures { λ r. ⌜ r ≡ mode1 cartridge self value ⌝ }
     {
-        let mut next = self;
-        if value % 2 == 1 {
-            if cartridge.code == 3 {
-                next.mode = true;
-                return next;
-            }
-            return self;
+        Mbc1 {
+            rom: self.rom,
+            ram: self.ram,
+            mode: self.mode_by(cartridge, value),
+            enabled: self.enabled,
+            high: self.high,
         }
-        next.mode = false;
-        next
     }
 
     pub fn after(self, cartridge: Cartridge, index: u16, value: u8) -> Mbc1

@@ -1,9 +1,9 @@
 // MBC2, as the Rust's mbc2.rs: a ROM bank of four bits, and 512 half bytes of RAM.
 use crate::cartridge::Cartridge;
+use crate::held::Registers;
+use crate::held::bit;
 use crate::mbc::Source;
 use crate::mbc::ram_address;
-use crate::registers::Registers;
-use crate::registers::bit;
 ghost use mathlib.Core.Path.{_≡_};
 ghost use mathlib.Core.Bool.{true};
 ghost use Prim.Native.Nat.{_<_, _≤_};

@@ -1,8 +1,8 @@
 // No mapper, as the Rust's rom_only.rs: two ROM banks, and RAM that is always on. It has no registers.
 use crate::cartridge::Cartridge;
+use crate::held::Registers;
 use crate::mbc::Source;
 use crate::mbc::ram_address;
-use crate::registers::Registers;
 ghost use mathlib.Core.Path.{_≡_};
 ghost use Prim.Native.Nat.{_≤_};
 ghost use Rattle.mbc.specs.Registers.{starting, same};

@@ -11,8 +11,8 @@ use lib.Dec.{ltb, lit≤}
 use lib.ListN.{length, set}
 use borrow.Author.Tests.{ltb-true, ltb-false}
 use Rattle.rules.proofs.Tests.{by-cond, cond-both, cond-false, cond-true, neither}
-use Rattle.mbc.proofs.Laws.{mapped-rom, mapped-ram}
-use Rattle.mbc.specs.Mbc.{mapped, readAt, after, answer, inRange}
+use Rattle.mbc.proofs.Laws.{mapped-rom, mapped-ram, stored-within}
+use Rattle.mbc.specs.Mbc.{mapped, readAt, after, answer, inRange, ramLen}
 use Rattle.mbc.specs.declared.cartridge.Cartridge.{Cartridge}
 use Rattle.mbc.specs.declared.mbc.Answer.{Answer}
 use Rattle.mbc.specs.declared.mbc.Answer.the-variants.{Stored, NotStored}
@@ -28,7 +28,7 @@ use Rattle.memory.specs.declared.region.Region.the-variants.{Rom, Vram, Save, W
 use Rattle.registers.specs.Page.{writeRegister}
 use Rattle.savelog.specs.Log.{width, appended, full}
 use Rattle.mmu.specs.PanDocs.{echo, vramAt, wramAt}
-use Rattle.mmu.specs.Access.{Holds, Ready, Reaches, byteIn, readByte, mapperPut, saved, savePut, inState, inVram, inWram, putIn, put}
+use Rattle.mmu.specs.Access.{Holds, Ready, Reaches, byteIn, readByte, mapperPut, Lands, saved, savePut, inState, inVram, inWram, putIn, put}
 
 -- bounds: what a world that holds gives the regions
 
@@ -114,7 +114,18 @@ module _ (i : ℕ) {r : Region} (e : regionOf i ≡ r) (l : i < 0xFE00) (k : Amo
   read-mapped x m v w s p =
       ⊎-elim (λ q. read-by x m v w s i (e ∙ q) p) (λ q. read-by x m v w s i (e ∙ q) p) (mapped-in r i (within i e) l k)
 
--- the save: full, not stored, stored, of every state with this cartridge, mapper and log use; and that the rest of the world stays
+-- the save, of every state with this cartridge, mapper and log use: what an answer does, and a write, with a full log and with room
+
+pub answer-lands : (c : Cartridge) (t : Mapper) (i v : ℕ) {k : Answer} {n : ℕ} → v < 256 → k ≡ answer c t i v → n ≡ ramLen c t → Lands k n
+answer-lands c t i v h a n at b e = let w = stored-within c t i v at b h (sym a ∙ e) in (omega (arith, w .0), w .1 .0)
+
+module _ (m : Memory) {used : ℕ} (e : m .core .used ≡ used) (s l : List ℕ) where
+  pub answered-none : {k : Answer} → k ≡ NotStored → world (withUsed m used) [] [] s l ≡ saved k (world m [] [] s l)
+  answered-none a = rw (a, ← e)
+
+  pub answered-stored : {k : Answer} (at b : ℕ) {r : ℕ} {z : List ℕ} → k ≡ Stored at b → r ≡ used + width → z ≡ appended l used at b
+      → world (withUsed m r) [] [] (set s at b) z ≡ saved k (world m [] [] s l)
+  answered-stored at b a x z = rw (a, x, z, ← e)
 
 module _ (m : Memory) {c : Cartridge} {t : Mapper} {used : ℕ} (p : m .core .cartridge ≡ c) (q : m .core .mapper ≡ t) (e : m .core .used ≡ used) (s l : List ℕ)
     (i v : ℕ) where
@@ -124,22 +135,22 @@ module _ (m : Memory) {c : Cartridge} {t : Mapper} {used : ℕ} (p : m .core .ca
       let b : full (length l) (m .core .used) 1 ≡ true = rw e a in
       rw (← e, ← q) (sym (cond-true _ _ _ b))
 
-  save-answered : (k : Answer) → full (length l) used 1 ≡ false → answer c t i v ≡ k
-      → saved k (world (mapperPut m i v) [] [] s l) ≡ savePut (world m [] [] s l) i v
-  unfolding savePut
-  save-answered k a n =
-      let b : full (length l) (m .core .used) 1 ≡ false = rw e a in
-      let r : answer (m .core .cartridge) (m .core .mapper) i v ≡ k = rw (p, q) n in
-      sym (cond-false _ _ _ b ∙ ap (λ (k : Answer). saved k (world (mapperPut m i v) [] [] s l)) r)
-
-  pub save-none : {o : Mapper} → full (length l) used 1 ≡ false → o ≡ after c t i v → answer c t i v ≡ NotStored
-      → world (withUsed (withMapper m o) used) [] [] s l ≡ savePut (world m [] [] s l) i v
-  save-none a f n = rw (f, ← e, ← p, ← q) (save-answered NotStored a n)
-
-  pub save-stored : (at b : ℕ) {o : Mapper} {r : ℕ} {y z : List ℕ} → full (length l) used 1 ≡ false → o ≡ after c t i v → answer c t i v ≡ Stored at b
-      → r ≡ used + width → y ≡ set s at b → z ≡ appended l used at b
+  pub save-done : {k : Answer} {o : Mapper} {r : ℕ} {y z : List ℕ} → full (length l) used 1 ≡ false → o ≡ after c t i v → k ≡ answer c t i v
+      → ((n : Memory) → n .core .used ≡ used → world (withUsed n r) [] [] y z ≡ saved k (world n [] [] s l))
       → world (withUsed (withMapper m o) r) [] [] y z ≡ savePut (world m [] [] s l) i v
-  save-stored at b a f n x y z = rw (f, x, y, z, ← e, ← p, ← q) (save-answered (Stored at b) a n)
+  unfolding savePut
+  save-done {k} {o} a f g h =
+      let b : full (length l) (m .core .used) 1 ≡ false = rw e a in
+      let n : o ≡ after (m .core .cartridge) (m .core .mapper) i v = rw (p, q) f in
+      let d : k ≡ answer (m .core .cartridge) (m .core .mapper) i v = rw (p, q) g in
+      h (withMapper m o) e ∙ rw (n, d) (sym (cond-false _ _ _ b))
+
+  -- the registers are kept
+  pub save-kept : {k : Answer} {r : ℕ} {y z : List ℕ} → full (length l) used 1 ≡ false → after c t i v ≡ t → k ≡ answer c t i v
+      → ((n : Memory) → n .core .used ≡ used → world (withUsed n r) [] [] y z ≡ saved k (world n [] [] s l))
+      → world (withUsed m r) [] [] y z ≡ savePut (world m [] [] s l) i v
+  save-kept {k} {r} {y} {z} a f g h =
+      rw (← q) at (save-done {o = t} a (sym f) g h)
 
 -- the state, the save and the log of one world, with the memories of another
 abbrev beside : World → World → World

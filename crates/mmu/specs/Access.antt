@@ -3,7 +3,7 @@
 use mathlib.Core.Bool.{true, cond}
 use mathlib.Core.List.{List}
 use mathlib.Core.Path.{_≡_}
-use Prim.Native.Nat.{ℕ, _+_, _*_, _-_, _%_, _≤_}
+use Prim.Native.Nat.{ℕ, _+_, _*_, _-_, _%_, _<_, _≤_}
 use lib.ListN.{length, getD, set}
 use Rattle.mbc.specs.Mbc.{inRange, romLen, ramLen, readAt, after, answer}
 use Rattle.mbc.specs.declared.mbc.Answer.{Answer}
@@ -16,7 +16,7 @@ use Rattle.memory.specs.declared.Memory.{Memory}
 use Rattle.memory.specs.declared.region.Region.{Region}
 use Rattle.memory.specs.declared.region.Region.the-variants.{Rom, Vram, Save, Wram, Oam, Page}
 use Rattle.registers.specs.Page.{readRegister, writeRegister}
-use Rattle.savelog.specs.Log.{width, logLimit, appended, full}
+use Rattle.savelog.specs.Log.{width, addressEnd, logLimit, appended, full}
 use Rattle.mmu.specs.PanDocs.{vramAt, wramAt}
 
 -- a state in range, with memories of the lengths that it needs
@@ -79,6 +79,10 @@ savedLog NotStored used l = l
 abbrev pub saved : Answer → World → World
 saved a w =
     world (savedState a (w .state)) (w .vram) (w .wram) (savedSave a (w .save)) (savedLog a (w .state .core .used) (w .log))
+
+-- a byte to be stored has a place in a save of n bytes, and an address that a record can have
+abbrev pub Lands : Answer → ℕ → Type 0
+Lands a n = (at v : ℕ) → a ≡ Stored at v → (at < n) × (at < addressEnd)
 
 -- the world with its state, its video memory or its work memory changed
 abbrev pub inState : World → Memory → World

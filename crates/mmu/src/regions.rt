@@ -8,9 +8,9 @@ ghost use Rattle.mbc.specs.Mbc.{inRange, ramLen};
 ghost use Rattle.memory.specs.Region.{regionOf};
 ghost use Rattle.memory.specs.World.{world, fixed, withMapper, withUsed};
 ghost use Rattle.memory.specs.declared.Memory.{Memory};
-ghost use Rattle.savelog.specs.Log.{logLimit};
+ghost use Rattle.savelog.specs.Log.{width, logLimit};
 ghost use Rattle.mmu.specs.PanDocs.{echo, vramAt, wramAt};
-ghost use Rattle.mmu.specs.Access.{Reaches, readByte, mapperPut, savePut};
+ghost use Rattle.mmu.specs.Access.{Reaches, readByte, mapperPut, Lands, saved, savePut};
 use mbc::Answer;
 use mbc::Cartridge;
 use mbc::Mapper;
@@ -132,6 +132,18 @@ pub struct Mapping {
     pub used: u16,
 }
 
+// Does what a mapper answered: a byte is stored in the save and recorded in the log. It gives the log's next use.
+pub fn store_answer(answer: Answer, used: u16, save: &mut [u8], log: &mut [u8]) -> u16
+    requires { ⌜ Lands answer (length (now save)) × ((used + width ≤ length (now log)) × (length (now log) ≤ logLimit)) ⌝ }
+    ensures { λ r. ⌜ ((m : Memory) → m .core .used ≡ used → world (withUsed m r) [] [] (now (save .exit)) (now (log .exit)) ≡ saved answer (world m [] [] (now (save .entry)) (now (log .entry)))) ⌝ }
+{
+    let Answer::Stored { at, value } = answer else {
+        return used;
+    };
+    save[at] = value;
+    savelog::append(log, used, at, value)
+}
+
 // A write in A000..BFFF: the mapper answers, the bus stores the byte and records it. A log without room records nothing, and nothing is stored or changed.
 // It takes of the bus the cartridge, the mapper and the bytes of the log that are used.
 pub fn store_save(
@@ -155,14 +167,7 @@ pub fn store_save(
     let written = mapper.write(cartridge, index, value);
     let after = written.mapper;
     let answer = written.answer;
-    let Answer::Stored { at, value: byte } = answer else {
-        return Mapping {
-            mapper: after,
-            used: used,
-        };
-    };
-    save[at] = byte;
-    let more = savelog::append(log, used, at, byte);
+    let more = store_answer(answer, used, save, log);
     Mapping {
         mapper: after,
         used: more,

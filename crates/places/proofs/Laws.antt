@@ -22,19 +22,20 @@ fields-from l bit (w ∷ ws) h =
     let e : behind l bit w ≡ bits ws = omega arith in
     rw (e, fields-from l (bit + w) ws (omega arith))
 
--- and the k-th of them stands behind the widths before its own
-listed : (l : List ℕ) (bit : ℕ) (ws : List ℕ) (k : ℕ) → k < length ws → getD (fieldsFrom l bit ws) k 0 ≡ fieldAt l (bit + bits (take k ws)) (getD ws k 0)
-listed l bit [] k i = absurd (omega arith)
-listed l bit (w ∷ ws) zero i = rw (add-zero bit)
-listed l bit (w ∷ ws) (suc k) i = listed l (bit + w) ws k (omega arith) ∙ ap (λ (n : ℕ). fieldAt l n (getD ws k 0)) (add-assoc bit w (bits (take k ws)))
-
-pub field-in : (l : List ℕ) (bit : ℕ) (ws : List ℕ) (k : ℕ) → bit + bits ws ≡ 8 * length l → k < length ws
-    → getD (unpacked ws (number l)) k 0 ≡ fieldAt l (bit + bits (take k ws)) (getD ws k 0)
-field-in l bit ws k h i = ap (λ (fs : List ℕ). getD fs k 0) (fields-from l bit ws h) ∙ listed l bit ws k i
-
 pub field-lt : (l : List ℕ) (bit w : ℕ) → fieldAt l bit w < 2 ^ w
 unfolding fieldAt
 field-lt l bit w = mod-lt (number l / 2 ^ behind l bit w) (pow-pos w)
+
+-- and the k-th of them stands behind the widths before its own; past the last there is 0, as in no bits
+pub listed : (l : List ℕ) (bit : ℕ) (ws : List ℕ) (k : ℕ) → getD (fieldsFrom l bit ws) k 0 ≡ fieldAt l (bit + bits (take k ws)) (getD ws k 0)
+listed l bit [] zero = let h = field-lt l (bit + 0) 0 in omega arith
+listed l bit [] (suc k) = let h = field-lt l (bit + 0) 0 in omega arith
+listed l bit (w ∷ ws) zero = rw (add-zero bit)
+listed l bit (w ∷ ws) (suc k) = listed l (bit + w) ws k ∙ ap (λ (n : ℕ). fieldAt l n (getD ws k 0)) (add-assoc bit w (bits (take k ws)))
+
+pub field-in : (l : List ℕ) (bit : ℕ) (ws : List ℕ) (k : ℕ) → bit + bits ws ≡ 8 * length l → k < length ws
+    → getD (unpacked ws (number l)) k 0 ≡ fieldAt l (bit + bits (take k ws)) (getD ws k 0)
+field-in l bit ws k h i = ap (λ (fs : List ℕ). getD fs k 0) (fields-from l bit ws h) ∙ listed l bit ws k
 
 -- Windows
 

@@ -2,15 +2,15 @@
 use mathlib.Core.Path.{_≡_, refl, sym, ap, subst, _∙_}
 use mathlib.Core.List.{List, [], _∷_, _++_}
 use Prim.Native.Nat.{ℕ, zero, suc, _+_, _-_, _*_, _/_, _%_, _^_, _<_, _≤_}
-use native.Mathlib.Nat.{mod-lt, mul-assoc, add-mul}
+use native.Mathlib.Nat.{mod-lt, add-comm, mul-assoc, add-mul}
 use native.Mathlib.Omega.{arith}
 use lib.ListN.{length, take, drop, getD, set, length-replicate, replicate-append-replicate}
 use lib.Seq.{take-at}
 use lib.Pow.{pow-pos, pow-add, high, split, mod-mod-pow, mod-pow-add, shr-shr}
 use Rattle.packing.specs.Packing.{Below, Fit, bits, packed, unpacked, repacked, eights}
 use Rattle.packing.proofs.Laws.{below-fit, fit-below, unpack-fit, unpack-pack, unpack-length, unpack-mod, unpack-append, pack-unpack, pack-unpack-mod}
-use Rattle.places.specs.Places.{number, behind, fieldAt, replaced, putAt, putFields, FitAll, setAll}
-use Rattle.places.proofs.Laws.{bits-eights, number-lt, above-mod, replaced-above, replaced-lt, replaced-set}
+use Rattle.places.specs.Places.{number, behind, fieldAt, fieldsFrom, replaced, putAt, putFields, FitAll, setAll}
+use Rattle.places.proofs.Laws.{listed, bits-eights, number-lt, above-mod, replaced-above, replaced-lt, replaced-set}
 
 -- bytes are those of their number
 pub bytes-back : (l : List ℕ) → Below 256 l → unpacked (eights (length l)) (number l) ≡ l
@@ -106,7 +106,7 @@ put-bytes ws l l' fs k j p b e h =
     ∙ ap (λ (x : List ℕ). x ++ unpacked (eights j) n) (front-bytes l k j b e)
     ∙ ap (λ (x : List ℕ). take k l ++ x) (sym (ap (unpacked (eights j)) a ∙ c))
 
--- A field of 64 bits is one of 32 above one of 32
+-- Two fields side by side are one: the first is above
 
 replaced-twice : (n b B w v p : ℕ) → replaced (replaced n (b + B) w v) b B p ≡ replaced n b (w + B) (v * 2 ^ B + p)
 unfolding replaced
@@ -133,20 +133,40 @@ read-halves l bit h =
     let f : behind l (bit + 32) 32 ≡ b = omega arith in
     rw (e, f, ← shr-shr (number l) b 32) (sym (mod-pow-add (number l / 2 ^ b) 32 32))
 
-pub put-halves : (l : List ℕ) (bit v : ℕ) → Below 256 l → bit + 64 ≤ 8 * length l → v < 2 ^ 64
-    → putAt (putAt l bit 32 (v / 2 ^ 32)) (bit + 32) 32 (v % 2 ^ 32) ≡ putAt l bit 64 v
+pub put-joined : (l : List ℕ) → Below 256 l → (bit v w hi lo : ℕ) → bit + (v + w) ≤ 8 * length l → hi < 2 ^ v
+    → putAt (putAt l bit v hi) (bit + v) w lo ≡ putAt l bit (v + w) (hi * 2 ^ w + lo)
 unfolding putAt
-put-halves l bit v b h k =
-    let hi = v / 2 ^ 32 in
-    let lo = v % 2 ^ 32 in
-    let l' = putAt l bit 32 hi in
-    let d = behind l bit 64 in
-    let e : behind l bit 32 ≡ d + 32 = omega arith in
-    let f : 8 * length l - (bit + 32 + 32) ≡ d = omega arith in
-    let g : hi * 2 ^ 32 + lo ≡ v = split v 32 in
-    ap (λ (i : ℕ). unpacked (eights i) (replaced (number l') (8 * i - (bit + 32 + 32)) 32 lo)) (put-length l bit 32 hi)
-    ∙ ap (λ (i : ℕ). unpacked (eights (length l)) (replaced (number l') i 32 lo)) f
-    ∙ ap (λ (i : ℕ). unpacked (eights (length l)) (replaced i d 32 lo)) (put-number l bit 32 hi b (omega arith) (omega arith))
-    ∙ ap (λ (i : ℕ). unpacked (eights (length l)) (replaced (replaced (number l) i 32 hi) d 32 lo)) e
-    ∙ ap (unpacked (eights (length l))) (replaced-twice (number l) d 32 32 hi lo)
-    ∙ ap (λ (i : ℕ). unpacked (eights (length l)) (replaced (number l) d 64 i)) g
+put-joined l b bit v w hi lo h k =
+    let l' = putAt l bit v hi in
+    let d = behind l bit (v + w) in
+    let e : behind l bit v ≡ d + w = omega arith in
+    let f : 8 * length l - (bit + v + w) ≡ d = omega arith in
+    ap (λ (i : ℕ). unpacked (eights i) (replaced (number l') (8 * i - (bit + v + w)) w lo)) (put-length l bit v hi)
+    ∙ ap (λ (i : ℕ). unpacked (eights (length l)) (replaced (number l') i w lo)) f
+    ∙ ap (λ (i : ℕ). unpacked (eights (length l)) (replaced i d w lo)) (put-number l bit v hi b (omega arith) k)
+    ∙ ap (λ (i : ℕ). unpacked (eights (length l)) (replaced (replaced (number l) i v hi) d w lo)) e
+    ∙ ap (unpacked (eights (length l))) (replaced-twice (number l) d w v hi lo)
+
+-- Fields put as they are leave the bytes
+
+pub put-same : (l : List ℕ) → Below 256 l → (bit w : ℕ) → putAt l bit w (fieldAt l bit w) ≡ l
+unfolding putAt fieldAt replaced
+put-same l b bit w =
+    let n = number l in
+    let d = behind l bit w in
+    let e : n / 2 ^ (w + d) ≡ n / 2 ^ d / 2 ^ w = rw (add-comm w d) (sym (shr-shr n d w)) in
+    ap (unpacked (eights (length l))) (rw (e, split (n / 2 ^ d) w, split n d)) ∙ bytes-back l b
+
+-- of a layout, by their numbers there
+abbrev pub own : List ℕ → List ℕ → List (ℕ × ℕ)
+own fs [] = []
+own fs (k ∷ ks) = (k, getD fs k 0) ∷ own fs ks
+
+pub put-own : (l : List ℕ) → Below 256 l → (bit : ℕ) (ws ks : List ℕ) (ps : List (ℕ × ℕ))
+    → putFields bit ws (own (fieldsFrom l bit ws) ks ++ ps) l ≡ putFields bit ws ps l
+put-own l b bit ws [] ps = refl
+put-own l b bit ws (k ∷ ks) ps =
+    let at = bit + bits (take k ws) in
+    let w = getD ws k 0 in
+    ap (putFields bit ws (own (fieldsFrom l bit ws) ks ++ ps)) (ap (putAt l at w) (listed l bit ws k) ∙ put-same l b at w)
+    ∙ put-own l b bit ws ks ps

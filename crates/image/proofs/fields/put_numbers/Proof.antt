@@ -1,33 +1,72 @@
--- Each field is at its place.
+-- The numbers stand side by side: `numbers-put`.
+use mathlib.Core.Path.{refl, _∙_}
+use denote.Ref.{now}
+use Rattle.image.proofs.PatchLaws.{numbers-put}
 use borrow.Author.Needs.{needs}
 use Rattle.image.proofs.fields.put_numbers.Statement.{statement}
 use Rattle.image.proofs.fields.put_numbers.Tie as tie
 
-put-u8-requires : tie.Need-put-u8-requires
-put-u8-requires c κs = search needs
+mul-n : tie.Need-mul-n
+mul-n c = search needs
+
+cast-n : tie.Need-cast-n
+cast-n c = search needs
+
+mul-n-2 : tie.Need-mul-n-2
+mul-n-2 c = search needs
+
+add-n : tie.Need-add-n
+add-n c = search needs
+
+cast-n-2 : tie.Need-cast-n-2
+cast-n-2 c = search needs
+
+mul-n-3 : tie.Need-mul-n-3
+mul-n-3 c = search needs
+
+add-n-2 : tie.Need-add-n-2
+add-n-2 c = search needs
+
+cast-n-3 : tie.Need-cast-n-3
+cast-n-3 c = search needs
+
+mul-n-4 : tie.Need-mul-n-4
+mul-n-4 c = search needs
+
+add-n-3 : tie.Need-add-n-3
+add-n-3 c = search needs
+
+cast-n-4 : tie.Need-cast-n-4
+cast-n-4 c = search needs
+
+add-n-4 : tie.Need-add-n-4
+add-n-4 c = search needs
 
 put-u16-requires : tie.Need-put-u16-requires
 put-u16-requires c κs = search needs
-
-put-u8-requires-2 : tie.Need-put-u8-requires-2
-put-u8-requires-2 c κs = search needs
-
-put-u8-requires-3 : tie.Need-put-u8-requires-3
-put-u8-requires-3 c κs = search needs
 
 same-length : tie.Need-same-length
 same-length c = search needs
 
 returns : tie.Need-returns
-returns c = rw (c .before .before .before .before .before .before .put-u82 .ensures, c .before .before .before .before .before .before .before .before .before .before .put-u16 .ensures, c .before .before .before .before .before .before .before .before .before .before .before .before .before .before .put-u8 .ensures) at (c .before .before .put-u83 .ensures)
+returns c = c .before .before .put-u16 .ensures ∙ numbers-put (now (c .before .before .before .before .before .before .before .before .before .before .args .image)) (λ i. c .before .before .before .before .before .before .before .before .before .slice-known .given i .fits) (c .before .before .before .before .before .before .before .before .before .before .pre .0) (c .before .before .before .before .before .before .before .before .before .before .args .r) (c .before .before .before .before .before .before .before .before .before .before .pre .1) _ refl
 
 pub put-numbers-spec : {M : Type 1} → statement M
 put-numbers-spec =
     tie.close
     (tie.spec
-    put-u8-requires
+    mul-n
+    cast-n
+    mul-n-2
+    add-n
+    cast-n-2
+    mul-n-3
+    add-n-2
+    cast-n-3
+    mul-n-4
+    add-n-3
+    cast-n-4
+    add-n-4
     put-u16-requires
-    put-u8-requires-2
-    put-u8-requires-3
     same-length
     returns)

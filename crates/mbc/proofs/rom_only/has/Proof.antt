@@ -2,7 +2,7 @@
 use mathlib.Core.Path.{ap}
 use borrow.Author.Tests.{eq-eqb}
 use Rattle.mbc.specs.Registers.{same}
-use Rattle.mbc.specs.declared.registers.Registers.{Registers}
+use Rattle.mbc.specs.declared.held.Registers.{Registers}
 use Rattle.mbc.proofs.RegisterLaws.{unlike}
 use Rattle.mbc.proofs.rom_only.has.Statement.{statement}
 use Rattle.mbc.proofs.rom_only.has.Tie as tie

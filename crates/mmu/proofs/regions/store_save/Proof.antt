@@ -1,10 +1,9 @@
--- The three ends of a save write (`save-full`, `save-none`, `save-stored`); what the mapper answers lies in the save (`stored-within`).
-use Rattle.mmu.proofs.Places.{save-full, save-none, save-stored}
+-- The two ends of a save write (`save-full`, `save-done`); what the mapper answers lies in the save (`answer-lands`).
+use Rattle.mmu.proofs.Places.{answer-lands, save-full, save-done}
 use Rattle.mbc.specs.declared.mbc.Written.{Written}
-use Rattle.mbc.proofs.Laws.{mapped-ram, stored-within}
+use Rattle.mbc.proofs.Laws.{mapped-ram}
 use Rattle.savelog.proofs.Use.{has-room}
-use mathlib.Core.Path.{refl, sym, ap, _∙_}
-use native.Mathlib.Omega.{arith}
+use mathlib.Core.Path.{sym, ap, _∙_}
 use borrow.Author.Needs.{needs}
 use Rattle.mmu.proofs.regions.store_save.Statement.{statement}
 use Rattle.mmu.proofs.regions.store_save.Tie as tie
@@ -18,20 +17,8 @@ returns c = λ m p q e. save-full m p q e _ _ _ _ (sym (c .before .full .ensures
 write-requires : tie.Need-write-requires
 write-requires c κs = (c .before .before .before .before .pre .1 .0, mapped-ram _ (c .before .before .before .before .pre .0 .0) (c .before .before .before .before .pre .0 .1))
 
-enum-known-answer : tie.Need-enum-known-answer
-enum-known-answer c = search needs
-
-enum-told : tie.Need-enum-told
-enum-told c = search needs
-
-returns-2 : tie.Need-returns-2
-returns-2 c = λ m p q e. save-none m p q e _ _ _ _ (sym (c .before .before .before .before .full .ensures) ∙ c .before .before .before .if1 .left) (ap (λ (k : Written). k .mapper) (c .before .before .write .ensures)) (ap (λ (k : Written). k .answer) (sym (c .before .before .write .ensures)) ∙ c .enum-told .given .1)
-
-slice-write-save : tie.Need-slice-write-save
-slice-write-save c = let b = stored-within _ _ _ _ _ _ (c .before .before .before .before .before .before .before .before .fits .value .fits) (ap (λ (k : Written). k .answer) (sym (c .before .before .before .write .ensures)) ∙ c .before .answer .given .1) in omega (arith, b .0, c .before .before .before .before .before .before .before .before .pre .1 .1 .0)
-
-append-requires : tie.Need-append-requires
-append-requires c κs = let b = stored-within _ _ _ _ _ _ (c .before .before .before .before .before .before .before .before .before .fits .value .fits) (ap (λ (k : Written). k .answer) (sym (c .before .before .before .before .write .ensures)) ∙ c .before .before .answer .given .1) in (has-room _ _ 1 (sym (c .before .before .before .before .before .before .full .ensures) ∙ c .before .before .before .before .before .if1 .left), c .before .before .before .before .before .before .before .before .before .pre .1 .1 .1, omega (arith, b .1 .0))
+store-answer-requires : tie.Need-store-answer-requires
+store-answer-requires c κs = (answer-lands _ _ _ _ (c .before .before .before .before .before .before .before .fits .value .fits) (ap (λ (k : Written). k .answer) (c .before .before .write .ensures)) (c .before .before .before .before .before .before .before .pre .1 .1 .0), (has-room _ _ 1 (sym (c .before .before .before .before .full .ensures) ∙ c .before .before .before .if1 .left), c .before .before .before .before .before .before .before .pre .1 .1 .1))
 
 same-length : tie.Need-same-length
 same-length c = search needs
@@ -39,8 +26,8 @@ same-length c = search needs
 same-length-2 : tie.Need-same-length-2
 same-length-2 c = search needs
 
-returns-3 : tie.Need-returns-3
-returns-3 c = λ m p q e. save-stored m p q e _ _ _ _ _ _ (sym (c .before .before .before .before .before .before .before .before .before .full .ensures) ∙ c .before .before .before .before .before .before .before .before .if1 .left) (ap (λ (k : Written). k .mapper) (c .before .before .before .before .before .before .before .write .ensures)) (ap (λ (k : Written). k .answer) (sym (c .before .before .before .before .before .before .before .write .ensures)) ∙ c .before .before .before .before .before .answer .given .1) (c .before .before .append .ensures .1) refl (c .before .before .append .ensures .0)
+returns-2 : tie.Need-returns-2
+returns-2 c = λ m p q e. save-done m p q e _ _ _ _ (sym (c .before .before .before .before .before .before .before .before .before .full .ensures) ∙ c .before .before .before .before .before .before .before .before .if1 .left) (ap (λ (k : Written). k .mapper) (c .before .before .before .before .before .before .before .write .ensures)) (ap (λ (k : Written). k .answer) (c .before .before .before .before .before .before .before .write .ensures)) (c .before .before .before .before .store-answer .ensures)
 
 pub store-save-spec : {M : Type 1} → statement M
 store-save-spec =
@@ -49,11 +36,7 @@ store-save-spec =
     full-requires
     returns
     write-requires
-    enum-known-answer
-    enum-told
-    returns-2
-    slice-write-save
-    append-requires
+    store-answer-requires
     same-length
     same-length-2
-    returns-3)
+    returns-2)

@@ -1,6 +1,6 @@
 -- A row of the ROM, from the place in the selected bank on.
 use Rattle.move_bytes.proofs.RowLaws.{lent-length, read-rom-fits, read-rom}
-use Rattle.mbc.specs.declared.registers.Registers.{Registers}
+use Rattle.mbc.specs.declared.held.Registers.{Registers}
 use mathlib.Core.Path.{ap}
 use borrow.Author.Needs.{needs}
 use Rattle.move_bytes.proofs.rows.take_rom.Statement.{statement}

@@ -10,8 +10,8 @@ use Rattle.mbc.proofs.mbc1.Mbc1.select_high.Tie as tie
 ram-banks-requires : tie.Need-ram-banks-requires
 ram-banks-requires c κs = search needs
 
-rem-next : tie.Need-rem-next
-rem-next c = omega (arith, c .ram-banks .ensures, four-banks _ (c .before .before .pre .1 (c .before .if1 .taken)))
+rem-t10 : tie.Need-rem-t10
+rem-t10 c = omega (arith, c .ram-banks .ensures, four-banks _ (c .before .before .pre .1 (c .before .if1 .taken)))
 
 returns : tie.Need-returns
 unfolding high1
@@ -30,4 +30,4 @@ returns-2 c = rw (c .masked .ensures, c .before .combined .ensures) (search case
 pub select-high-spec : {M : Type 1} → statement M
 select-high-spec =
     tie.close
-    (tie.spec ram-banks-requires rem-next returns combined-requires masked-requires returns-2)
+    (tie.spec ram-banks-requires rem-t10 returns combined-requires masked-requires returns-2)

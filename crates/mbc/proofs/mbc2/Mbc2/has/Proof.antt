@@ -4,7 +4,7 @@ use mathlib.Core.Bool.{and-true}
 use native.Mathlib.Omega.{arith}
 use borrow.Author.Tests.{eq-eqb, le-leb}
 use Rattle.mbc.specs.Registers.{isOn, same}
-use Rattle.mbc.specs.declared.registers.Registers.{Registers}
+use Rattle.mbc.specs.declared.held.Registers.{Registers}
 use Rattle.mbc.proofs.Bits.{bit-small, bit-test}
 use Rattle.mbc.proofs.RegisterLaws.{unlike}
 use Rattle.mbc.proofs.mbc2.Mbc2.has.Statement.{statement}
