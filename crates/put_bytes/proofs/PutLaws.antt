@@ -1,23 +1,27 @@
 -- A byte put on an image that is taken: what the parts of src/lib.rt ask for, what each region's part leaves, and that the next finds an image that is taken.
 use mathlib.Core.Bool.{true}
-use mathlib.Core.List.{List, []}
+use mathlib.Core.List.{List, [], _∷_}
 use mathlib.Core.Path.{_≡_, refl, sym, ap, subst, _∙_}
 use Prim.Native.Nat.{ℕ, _+_, _*_, _-_, _<_, _≤_}
 use lib.ListN.{length, set}
 use Rattle.image.proofs.LoadedPatches.{loaded-typed, loaded-storable, loaded-mapping}
+use Rattle.image.proofs.MappedLaws.{load-mapped}
 use Rattle.image.proofs.OpenLaws.{load-length, load-image}
-use Rattle.image.proofs.PatchLaws.{slim}
+use Rattle.image.proofs.PatchLaws.{slim, mapping-kept}
 use Rattle.image.proofs.StateLaws.{storable-state}
 use Rattle.image.proofs.Round.{state-back}
 use Rattle.image.specs.Laws.{Typed}
-use Rattle.image.specs.Layout.{imageLen, imageOf}
-use Rattle.image.specs.Load.{storable, loadCall}
-use Rattle.image.specs.Patches.{Slim, mappingPut}
+use Rattle.image.specs.Layout.{imageLen, imageOf, fieldWidths, usedField}
+use Rattle.image.specs.Load.{registersIn, storable, loadCall}
+use Rattle.image.specs.Patches.{fields, front, Mapped, Slim, usedPut, mappingPut}
 use Rattle.image.specs.declared.Loaded.{Loaded}
 use Rattle.in_place.proofs.Fine.{typed-fine}
 use Rattle.in_place.proofs.Images.{core}
 use Rattle.in_place.specs.Held.{Held}
-use Rattle.mbc.specs.Mbc.{inRange, ramLen, after}
+use Rattle.mbc.proofs.Laws.{kind-after}
+use Rattle.mbc.proofs.RegisterLaws.{registers-of-mapper}
+use Rattle.mbc.specs.Mbc.{inRange, ramLen, after, sound, registersOf}
+use Rattle.mbc.specs.declared.held.Registers.{Registers}
 use Rattle.mbc.specs.declared.mbc.Mapper.{Mapper}
 use Rattle.memory.proofs.Laws.{mapper-kept}
 use Rattle.memory.specs.Region.{regionOf}
@@ -30,7 +34,9 @@ use Rattle.mmu.proofs.Places.{holds-mapper, holds-vram, holds-wram, put-rom, pu
 use Rattle.mmu.specs.Access.{Holds, mapperPut, savePut, put}
 use Rattle.mmu.specs.PanDocs.{vramAt, wramAt}
 use Rattle.packing.specs.Packing.{Below}
+use Rattle.places.proofs.Puts.{put-own}
 use Rattle.registers.specs.Page.{writeRegister}
+use Rattle.rules.proofs.Tests.{both-true}
 use Rattle.savelog.specs.Log.{useInRange}
 use Rattle.put_bytes.specs.Left.{Left, left, worldOf, leftBy}
 use Rattle.put_bytes.specs.Puts.{Taken, coreIn, ownPut}
@@ -46,6 +52,28 @@ as-left w index b e f = rw f (ap leftBy e)
 -- a write to the mapper, wherever it goes
 pub mapper-storable : (m : Memory) → storable m ≡ true → (index b : ℕ) → storable (mapperPut m index b) ≡ true
 mapper-storable m h index b = let p = parts m h in joins (mapperPut m index b) (mapper-kept m (p .0) index b) (p .1)
+
+-- an image whose mapper is in range
+module _ (l : List ℕ) (m : Mapped l) where
+  pub mapped-sound : sound (registersIn (fields l)) ≡ true
+  mapped-sound = both-true (sound (registersIn (fields l))) _ (m .mapper) .0
+
+  pub mapped-range : inRange (coreIn l .cartridge) (coreIn l .mapper) ≡ true
+  mapped-range = both-true (sound (registersIn (fields l))) _ (m .mapper) .1
+
+  pub mapped-kind : (at v : ℕ) → registersOf (after (coreIn l .cartridge) (coreIn l .mapper) at v) .kind ≡ registersIn (fields l) .kind
+  mapped-kind at v =
+      kind-after (coreIn l .cartridge) (coreIn l .mapper) at v
+      ∙ ap (λ (r : Registers). r .kind) (registers-of-mapper (registersIn (fields l)) mapped-sound)
+
+  -- its own mapper and use, put again
+  pub mapped-kept : Below 256 l → {p : Mapper} {u : ℕ} → p ≡ coreIn l .mapper → u ≡ coreIn l .used → l ≡ mappingPut l p u
+  unfolding usedPut
+  mapped-kept b {p} {u} e f =
+      sym
+      (mapping-kept l b p u e mapped-sound
+      ∙ ap (usedPut l) f
+      ∙ put-own l b front fieldWidths (usedField ∷ []) [])
 
 module _ {i v w s l : List ℕ} (t : Taken i v w s l) where
   taken-storable : storable (loadCall i .state) ≡ true
@@ -67,6 +95,9 @@ module _ {i v w s l : List ℕ} (t : Taken i v w s l) where
 
   pub taken-held : Held i
   taken-held = (t .bytes, t .number)
+
+  pub taken-mapped : Mapped i
+  taken-mapped = load-mapped i (t .bytes) (t .number)
 
   pub taken-length : length i ≡ imageLen
   taken-length = load-length i (t .number)

@@ -7,7 +7,7 @@ ghost use Prim.Native.Nat.{_-_, _/_, _%_, _<_, _≤_};
 ghost use lib.ListN.{length};
 ghost use Rattle.image.specs.Layout.{imageLen, imageOf};
 ghost use Rattle.image.specs.Load.{loadCall};
-ghost use Rattle.image.specs.Patches.{Slim, mappingPut};
+ghost use Rattle.image.specs.Patches.{Mapped, Slim, mappingPut};
 ghost use Rattle.in_place.specs.Held.{Held};
 ghost use Rattle.mbc.specs.Mbc.{inRange, ramLen, after};
 ghost use Rattle.memory.specs.World.{world, withMapper, withUsed};
@@ -21,27 +21,41 @@ ghost use Rattle.put_bytes.specs.Puts.{Taken, coreIn, ownPut};
 use memory::Region;
 use mmu::regions::Mapping;
 
-// Below 8000: the mapper's registers.
-fn put_mapper(image: &mut [u8], at: u16, value: u8)
-    requires { ⌜ (length (now image) ≡ imageLen) × ((at < 0x8000) × ((inRange (coreIn (now image) .cartridge) (coreIn (now image) .mapper) ≡ true) × Slim (after (coreIn (now image) .cartridge) (coreIn (now image) .mapper) at value))) ⌝ }
+// The mapper's registers after a write.
+pub fn put_mapper(image: &mut [u8], at: u16, value: u8)
+    requires { ⌜ Mapped (now image) × Slim (after (coreIn (now image) .cartridge) (coreIn (now image) .mapper) at value) ⌝ }
     ensures { λ _. ⌜ now (image .exit) ≡ mappingPut (now (image .entry)) (after (coreIn (now (image .entry)) .cartridge) (coreIn (now (image .entry)) .mapper) at value) (coreIn (now (image .entry)) .used) ⌝ }
 {
     let cartridge = image::cartridge_at(image);
     let mapper = image::mapper_at(image);
-    let used = image::used_at(image);
-    let written = mapper.write(cartridge, at, value);
-    let next = written.mapper;
-    image::put_mapping(image, next, used);
+    let next = mapper.after(cartridge, at, value);
+    image::put_registers(image, next);
 }
 
-// A000..BFFF: the save, its log, and the mapper with the log's use, which it gives.
+// A000..BFFF: the save, its log, and the mapper with the log's use, which it gives. Where the mapper's registers stay and the log has room, the use is all
+// that the image changes.
 fn put_save(image: &mut [u8], save: &mut [u8], log: &mut [u8], at: u16, value: u8) -> Mapping
-    requires { ⌜ ((length (now image) ≡ imageLen) × (Slim (coreIn (now image) .mapper) × Slim (after (coreIn (now image) .cartridge) (coreIn (now image) .mapper) at value))) × (((0xA000 ≤ at) × (at < 0xC000)) × ((inRange (coreIn (now image) .cartridge) (coreIn (now image) .mapper) ≡ true) × ((length (now save) ≡ ramLen (coreIn (now image) .cartridge) (coreIn (now image) .mapper)) × (length (now log) ≤ logLimit)))) ⌝ }
+    requires { ⌜ (Mapped (now image) × (Slim (coreIn (now image) .mapper) × Slim (after (coreIn (now image) .cartridge) (coreIn (now image) .mapper) at value))) × (((0xA000 ≤ at) × (at < 0xC000)) × ((inRange (coreIn (now image) .cartridge) (coreIn (now image) .mapper) ≡ true) × ((length (now save) ≡ ramLen (coreIn (now image) .cartridge) (coreIn (now image) .mapper)) × (length (now log) ≤ logLimit)))) ⌝ }
     ensures { λ r. ⌜ (now (image .exit) ≡ mappingPut (now (image .entry)) (r .mapper) (r .used)) × ((m : Memory) → m .core .cartridge ≡ coreIn (now (image .entry)) .cartridge → m .core .mapper ≡ coreIn (now (image .entry)) .mapper → m .core .used ≡ coreIn (now (image .entry)) .used → world (withUsed (withMapper m (r .mapper)) (r .used)) [] [] (now (save .exit)) (now (log .exit)) ≡ savePut (world m [] [] (now (save .entry)) (now (log .entry))) at value) ⌝ }
 {
+    let used = image::used_at(image);
+    if savelog::full(log.len(), used, 1) {
+        return Mapping {
+            mapper: image::mapper_at(image),
+            used: used,
+        };
+    }
     let cartridge = image::cartridge_at(image);
     let mapper = image::mapper_at(image);
-    let used = image::used_at(image);
+    if mapper.keeps(at) {
+        let answer = mapper.answer(cartridge, at, value);
+        let more = mmu::regions::store_answer(answer, used, save, log);
+        image::put_used(image, more);
+        return Mapping {
+            mapper: mapper,
+            used: more,
+        };
+    }
     let mapping = mmu::regions::store_save(cartridge, mapper, used, save, log, at, value);
     let next = mapping.mapper;
     image::put_mapping(image, next, mapping.used);
@@ -113,7 +127,7 @@ fn put_apart(
     put_byte(image, vram, wram, save, log, index, value);
 }
 
-// As `put_byte`, and small enough to be put in place where it is called: a byte of video or work memory or of OAM goes there at once.
+// As `put_byte`, and small enough to be put in place where it is called: a byte of video or work memory or of OAM, or for the mapper, goes there at once.
 pub fn put_here(
     image: &mut [u8],
     vram: &mut [u8],
@@ -136,6 +150,7 @@ pub fn put_here(
             mmu::regions::write_cgb_wram(wram, banks.wram, index, value);
         }
         Region::Oam => put_own(image, index, value),
+        Region::Rom => put_mapper(image, index, value),
         _ => put_apart(image, vram, wram, save, log, index, value),
     }
 }

@@ -1,7 +1,7 @@
 -- By the region: one law for each; elsewhere `put_byte`.
 use mathlib.Core.Path.{sym, _∙_}
 use Rattle.memory.proofs.Regions.{within}
-use Rattle.put_bytes.proofs.PutLaws.{taken-length, taken-core, taken-vram, taken-wram, left-vram, left-wram, left-oam}
+use Rattle.put_bytes.proofs.PutLaws.{taken-mapped, taken-length, taken-core, taken-vram, taken-wram, after-slim, left-rom, left-vram, left-wram, left-oam}
 use borrow.Author.Needs.{needs}
 use Rattle.put_bytes.proofs.put_here.Statement.{statement}
 use Rattle.put_bytes.proofs.put_here.Tie as tie
@@ -33,6 +33,12 @@ enum-told-3 c = search needs
 put-own-requires : tie.Need-put-own-requires
 put-own-requires c κs = (taken-length (c .before .before .before .before .before .before .before .before .before .pre), within _ (sym (c .before .before .before .region-of .ensures) ∙ c .before .enum-told3 .given .1) .0)
 
+enum-told-4 : tie.Need-enum-told-4
+enum-told-4 c = search needs
+
+put-mapper-requires : tie.Need-put-mapper-requires
+put-mapper-requires c κs = let P = c .before .before .before .before .before .before .before .before .before .pre in (taken-mapped P, after-slim P (taken-core P) _ _)
+
 put-apart-requires : tie.Need-put-apart-requires
 put-apart-requires c κs = c .before .before .before .before .before .before .before .before .before .before .before .before .pre
 
@@ -63,6 +69,9 @@ returns-3 c = let P = c .before .before .before .before .before .before .before 
 same-length-6 : tie.Need-same-length-6
 same-length-6 c = search needs
 
+returns-4 : tie.Need-returns-4
+returns-4 c = let P = c .before .before .before .before .before .before .before .before .before .before .before .before .pre in left-rom P (taken-core P) _ _ (sym (c .before .before .before .before .before .before .region-of .ensures) ∙ c .before .before .before .before .enum-told4 .given .1) (c .before .before .put-mapper .ensures)
+
 same-length-7 : tie.Need-same-length-7
 same-length-7 c = search needs
 
@@ -75,8 +84,11 @@ same-length-9 c = search needs
 same-length-10 : tie.Need-same-length-10
 same-length-10 c = search needs
 
-returns-4 : tie.Need-returns-4
-returns-4 c = c .before .before .before .before .before .before .before .before .before .before .put-apart .ensures
+same-length-11 : tie.Need-same-length-11
+same-length-11 c = search needs
+
+returns-5 : tie.Need-returns-5
+returns-5 c = c .before .before .before .before .before .before .before .before .before .before .put-apart .ensures
 
 pub put-here-spec : {M : Type 1} → statement M
 put-here-spec =
@@ -91,6 +103,8 @@ put-here-spec =
     write-cgb-wram-requires
     enum-told-3
     put-own-requires
+    enum-told-4
+    put-mapper-requires
     put-apart-requires
     same-length
     same-length-2
@@ -101,8 +115,10 @@ put-here-spec =
     same-length-5
     returns-3
     same-length-6
+    returns-4
     same-length-7
     same-length-8
     same-length-9
     same-length-10
-    returns-4)
+    same-length-11
+    returns-5)

@@ -1,6 +1,6 @@
--- What the mapper writes goes to the image.
+-- The registers that the mapper has after the write; its kind stays, so they are put as one number.
 use mathlib.Core.Path.{_∙_}
-use Rattle.mbc.proofs.Laws.{mapped-rom}
+use Rattle.put_bytes.proofs.PutLaws.{mapped-range, mapped-kind}
 use borrow.Author.Needs.{needs}
 use Rattle.put_bytes.proofs.put_mapper.Statement.{statement}
 use Rattle.put_bytes.proofs.put_mapper.Tie as tie
@@ -11,20 +11,17 @@ cartridge-at-requires c κs = search needs
 mapper-at-requires : tie.Need-mapper-at-requires
 mapper-at-requires c κs = search needs
 
-used-at-requires : tie.Need-used-at-requires
-used-at-requires c κs = search needs
+after-requires : tie.Need-after-requires
+after-requires c κs = rw (c .mapper-at .ensures, c .before .before .cartridge-at .ensures) (mapped-range _ (c .before .before .before .before .before .pre .0))
 
-write-requires : tie.Need-write-requires
-write-requires c κs = (rw (c .before .before .mapper-at .ensures, c .before .before .before .before .cartridge-at .ensures) (c .before .before .before .before .before .before .before .pre .1 .1 .0), mapped-rom _ (c .before .before .before .before .before .before .before .pre .1 .0))
-
-put-mapping-requires : tie.Need-put-mapping-requires
-put-mapping-requires c κs = (c .before .before .before .before .before .before .before .before .before .pre .0, rw (c .before .write .ensures, c .before .before .before .before .mapper-at .ensures, c .before .before .before .before .before .before .cartridge-at .ensures) (c .before .before .before .before .before .before .before .before .before .pre .1 .1 .1))
+put-registers-requires : tie.Need-put-registers-requires
+put-registers-requires c κs = let P = c .before .before .before .before .before .before .before .pre in (P .0 .size, (rw (c .before .after .ensures, c .before .before .mapper-at .ensures, c .before .before .before .before .cartridge-at .ensures) (P .1), rw (c .before .after .ensures, c .before .before .mapper-at .ensures, c .before .before .before .before .cartridge-at .ensures) (mapped-kind _ (P .0) _ _)))
 
 same-length : tie.Need-same-length
 same-length c = search needs
 
 returns : tie.Need-returns
-returns c = c .before .before .put-mapping .ensures ∙ rw (c .before .before .before .before .write .ensures, c .before .before .before .before .before .before .before .mapper-at .ensures, c .before .before .before .before .before .before .before .before .before .cartridge-at .ensures, c .before .before .before .before .before .used-at .ensures)
+returns c = c .before .before .put-registers .ensures ∙ rw (c .before .before .before .before .after .ensures, c .before .before .before .before .before .mapper-at .ensures, c .before .before .before .before .before .before .before .cartridge-at .ensures)
 
 pub put-mapper-spec : {M : Type 1} → statement M
 put-mapper-spec =
@@ -32,8 +29,7 @@ put-mapper-spec =
     (tie.spec
     cartridge-at-requires
     mapper-at-requires
-    used-at-requires
-    write-requires
-    put-mapping-requires
+    after-requires
+    put-registers-requires
     same-length
     returns)

@@ -1,27 +1,51 @@
--- What `store_save` gives goes to the image.
+-- A log without room; a mapper that keeps its registers: then the use alone is put (`mapping-kept`); any other, by `store_save`.
 use mathlib.Core.Path.{sym, _∙_}
+use Rattle.image.proofs.PatchLaws.{mapping-kept}
+use Rattle.mmu.proofs.Places.{answer-lands, save-full, save-done}
+use Rattle.savelog.proofs.Use.{has-room}
+use Rattle.put_bytes.proofs.PutLaws.{mapped-sound, mapped-kept}
 use Rattle.put_bytes.proofs.Typed.{mapping-slim}
 use borrow.Author.Needs.{needs}
 use Rattle.put_bytes.proofs.put_save.Statement.{statement}
 use Rattle.put_bytes.proofs.put_save.Tie as tie
 
-cartridge-at-requires : tie.Need-cartridge-at-requires
-cartridge-at-requires c κs = search needs
+used-at-requires : tie.Need-used-at-requires
+used-at-requires c κs = search needs
+
+full-requires : tie.Need-full-requires
+full-requires c κs = search needs
 
 mapper-at-requires : tie.Need-mapper-at-requires
 mapper-at-requires c κs = search needs
 
-used-at-requires : tie.Need-used-at-requires
-used-at-requires c κs = search needs
-
-store-save-requires : tie.Need-store-save-requires
-store-save-requires c κs = rw (c .before .before .before .before .mapper-at .ensures, c .before .before .before .before .before .before .cartridge-at .ensures) (c .before .before .before .before .before .before .before .before .before .before .before .pre .1)
-
-put-mapping-requires : tie.Need-put-mapping-requires
-put-mapping-requires c κs = (c .before .before .before .before .before .before .before .before .before .before .before .before .before .before .before .before .before .pre .0 .0, mapping-slim _ _ _ _ (c .before .before .before .before .before .store-save .ensures) (rw (c .before .before .before .before .before .before .before .before .before .before .mapper-at .ensures) (c .before .before .before .before .before .before .before .before .before .before .before .before .before .before .before .before .before .pre .0 .1 .0)) (rw (c .before .before .before .before .before .before .before .before .before .before .mapper-at .ensures, c .before .before .before .before .before .before .before .before .before .before .before .before .cartridge-at .ensures) (c .before .before .before .before .before .before .before .before .before .before .before .before .before .before .before .before .before .pre .0 .1 .1)))
-
 same-length : tie.Need-same-length
 same-length c = search needs
+
+returns : tie.Need-returns
+returns c =
+    (mapped-kept _ (c .before .before .before .before .before .before .before .before .before .pre .0 .0) (λ k. c .before .before .before .before .before .before .before .before .slice-known .given k .fits) (c .mapper-at .ensures) (c .before .before .before .before .used-at .ensures),
+    λ m p q e. save-full m p (q ∙ sym (c .mapper-at .ensures)) (e ∙ sym (c .before .before .before .before .used-at .ensures)) _ _ _ _ (sym (c .before .before .before .full .ensures) ∙ c .before .before .if1 .taken))
+
+cartridge-at-requires : tie.Need-cartridge-at-requires
+cartridge-at-requires c κs = search needs
+
+mapper-at-requires-2 : tie.Need-mapper-at-requires-2
+mapper-at-requires-2 c κs = search needs
+
+keeps-requires : tie.Need-keeps-requires
+keeps-requires c κs = search needs
+
+answer-requires : tie.Need-answer-requires
+answer-requires c κs = search needs
+
+store-answer-requires : tie.Need-store-answer-requires
+store-answer-requires c κs =
+    let P = c .before .before .before .before .before .before .before .before .before .before .before .before .before .before .before .before .pre in
+    (answer-lands _ _ _ _ (c .before .before .before .before .before .before .before .before .before .before .before .before .before .before .before .before .fits .value .fits) (c .before .before .answer .ensures) (rw (c .before .before .before .before .before .mapper-at2 .ensures, c .before .before .before .before .before .before .before .cartridge-at .ensures) (P .1 .1 .1 .0)),
+    (has-room _ _ 1 (sym (c .before .before .before .before .before .before .before .before .before .before .full .ensures) ∙ c .before .before .before .before .before .before .before .before .before .if1 .left), P .1 .1 .1 .1))
+
+put-used-requires : tie.Need-put-used-requires
+put-used-requires c κs = search needs
 
 same-length-2 : tie.Need-same-length-2
 same-length-2 c = search needs
@@ -29,19 +53,59 @@ same-length-2 c = search needs
 same-length-3 : tie.Need-same-length-3
 same-length-3 c = search needs
 
-returns : tie.Need-returns
-returns c = (c .before .before .put-mapping .ensures, λ m p q r. c .before .before .before .before .before .before .before .before .store-save .ensures m (p ∙ sym (c .before .before .before .before .before .before .before .before .before .before .before .before .before .before .before .cartridge-at .ensures)) (q ∙ sym (c .before .before .before .before .before .before .before .before .before .before .before .before .before .mapper-at .ensures)) (r ∙ sym (c .before .before .before .before .before .before .before .before .before .before .before .used-at .ensures)))
+same-length-4 : tie.Need-same-length-4
+same-length-4 c = search needs
+
+returns-2 : tie.Need-returns-2
+returns-2 c =
+    (c .before .before .put-used .ensures ∙ sym (mapping-kept _ (λ k. c .before .before .before .before .before .before .before .before .before .before .before .before .before .before .before .before .before .before .before .before .before .before .before .before .slice-known .given k .fits) _ _ (c .before .before .before .before .before .before .before .before .before .before .before .before .before .before .mapper-at2 .ensures) (mapped-sound _ (c .before .before .before .before .before .before .before .before .before .before .before .before .before .before .before .before .before .before .before .before .before .before .before .before .before .pre .0 .0))),
+    λ m p q e. save-done m (p ∙ sym (c .before .before .before .before .before .before .before .before .before .before .before .before .before .before .before .before .cartridge-at .ensures)) (q ∙ sym (c .before .before .before .before .before .before .before .before .before .before .before .before .before .before .mapper-at2 .ensures)) (e ∙ sym (c .before .before .before .before .before .before .before .before .before .before .before .before .before .before .before .before .before .before .before .before .used-at .ensures)) _ _ _ _
+    (sym (c .before .before .before .before .before .before .before .before .before .before .before .before .before .before .before .before .before .before .before .full .ensures) ∙ c .before .before .before .before .before .before .before .before .before .before .before .before .before .before .before .before .before .before .if1 .left) (sym (c .before .before .before .before .before .before .before .before .before .before .before .before .before .keeps .ensures (c .before .before .before .before .before .before .before .before .before .before .before .before .if2 .taken) _ _)) (c .before .before .before .before .before .before .before .before .before .before .before .answer .ensures) (c .before .before .before .before .before .before .before .before .store-answer .ensures))
+
+store-save-requires : tie.Need-store-save-requires
+store-save-requires c κs = rw (c .before .before .before .before .mapper-at2 .ensures, c .before .before .before .before .before .before .cartridge-at .ensures) (c .before .before .before .before .before .before .before .before .before .before .before .before .before .before .before .pre .1)
+
+put-mapping-requires : tie.Need-put-mapping-requires
+put-mapping-requires c κs =
+    let P = c .before .before .before .before .before .before .before .before .before .before .before .before .before .before .before .before .before .before .before .before .before .pre in
+    (P .0 .0 .size, mapping-slim _ _ _ _ (c .before .before .before .before .before .store-save .ensures) (rw (c .before .before .before .before .before .before .before .before .before .before .mapper-at2 .ensures) (P .0 .1 .0)) (rw (c .before .before .before .before .before .before .before .before .before .before .mapper-at2 .ensures, c .before .before .before .before .before .before .before .before .before .before .before .before .cartridge-at .ensures) (P .0 .1 .1)))
+
+same-length-5 : tie.Need-same-length-5
+same-length-5 c = search needs
+
+same-length-6 : tie.Need-same-length-6
+same-length-6 c = search needs
+
+same-length-7 : tie.Need-same-length-7
+same-length-7 c = search needs
+
+returns-3 : tie.Need-returns-3
+returns-3 c =
+    (c .before .before .put-mapping .ensures,
+    λ m p q e. c .before .before .before .before .before .before .before .before .store-save .ensures m (p ∙ sym (c .before .before .before .before .before .before .before .before .before .before .before .before .before .before .before .cartridge-at .ensures)) (q ∙ sym (c .before .before .before .before .before .before .before .before .before .before .before .before .before .mapper-at2 .ensures)) (e ∙ sym (c .before .before .before .before .before .before .before .before .before .before .before .before .before .before .before .before .before .before .before .used-at .ensures)))
 
 pub put-save-spec : {M : Type 1} → statement M
 put-save-spec =
     tie.close
     (tie.spec
-    cartridge-at-requires
-    mapper-at-requires
     used-at-requires
-    store-save-requires
-    put-mapping-requires
+    full-requires
+    mapper-at-requires
     same-length
+    returns
+    cartridge-at-requires
+    mapper-at-requires-2
+    keeps-requires
+    answer-requires
+    store-answer-requires
+    put-used-requires
     same-length-2
     same-length-3
-    returns)
+    same-length-4
+    returns-2
+    store-save-requires
+    put-mapping-requires
+    same-length-5
+    same-length-6
+    same-length-7
+    returns-3)
