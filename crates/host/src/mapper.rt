@@ -37,17 +37,6 @@ fn answer_number(answer: Answer) -> u32
     savelog::record_number(at % savelog::ADDRESS_END, value)
 }
 
-// Below 8000 nothing is stored.
-fn record_of(image: &[u8], index: u16, byte: u8) -> u32
-{
-    if index < 0x8000 {
-        return 0;
-    }
-    let mapper = image::mapper_at(image);
-    let cartridge = image::cartridge_at(image);
-    answer_number(mapper.answer(cartridge, index, byte))
-}
-
 // What the mapper answers, and its registers in the image.
 #[no_mangle]
 pub extern "C" fn pouch_mapper_write(image: &mut [u8], index: u16, byte: u8, value: &mut u32) -> u8
@@ -58,11 +47,16 @@ pub extern "C" fn pouch_mapper_write(image: &mut [u8], index: u16, byte: u8, val
         *value = 0;
         return number;
     }
-    if !mbc::is_mapped(index) {
+    let mapper = Mapper::from_registers(image::registers_at(image));
+    let cartridge = image::cartridge_at(image);
+    let written = mapper.write_byte(cartridge, index, byte);
+    if written.number != numbers::DONE {
         *value = 0;
-        return numbers::OUTSIDE;
+        return written.number;
     }
-    *value = record_of(image, index, byte);
-    put_bytes::put_mapper(image, index, byte);
-    numbers::DONE
+    let answer = written.answer;
+    *value = answer_number(answer);
+    let after = written.mapper;
+    image::put_mapping(image, after, image::used_at(image));
+    written.number
 }

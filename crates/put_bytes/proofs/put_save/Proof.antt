@@ -22,9 +22,10 @@ same-length : tie.Need-same-length
 same-length c = search needs
 
 returns : tie.Need-returns
-returns c =
-    (mapped-kept _ (c .before .before .before .before .before .before .before .before .before .pre .0 .0) (λ k. c .before .before .before .before .before .before .before .before .slice-known .given k .fits) (c .mapper-at .ensures) (c .before .before .before .before .used-at .ensures),
-    λ m p q e. save-full m p (q ∙ sym (c .mapper-at .ensures)) (e ∙ sym (c .before .before .before .before .used-at .ensures)) _ _ _ _ (sym (c .before .before .before .full .ensures) ∙ c .before .before .if1 .taken))
+returns c = (
+  mapped-kept _ (c .before .before .before .before .before .before .before .before .before .pre .0 .0) (λ k. c .before .before .before .before .before .before .before .before .slice-known .given k .fits) (c .mapper-at .ensures) (c .before .before .before .before .used-at .ensures),
+  λ m p q e. save-full m p (q ∙ sym (c .mapper-at .ensures)) (e ∙ sym (c .before .before .before .before .used-at .ensures)) _ _ _ _ (sym (c .before .before .before .full .ensures) ∙ c .before .before .if1 .taken),
+)
 
 cartridge-at-requires : tie.Need-cartridge-at-requires
 cartridge-at-requires c κs = search needs
@@ -40,9 +41,10 @@ answer-requires c κs = search needs
 
 store-answer-requires : tie.Need-store-answer-requires
 store-answer-requires c κs =
-    let P = c .before .before .before .before .before .before .before .before .before .before .before .before .before .before .before .before .pre in
-    (answer-lands _ _ _ _ (c .before .before .before .before .before .before .before .before .before .before .before .before .before .before .before .before .fits .value .fits) (c .before .before .answer .ensures) (rw (c .before .before .before .before .before .mapper-at2 .ensures, c .before .before .before .before .before .before .before .cartridge-at .ensures) (P .1 .1 .1 .0)),
-    (has-room _ _ 1 (sym (c .before .before .before .before .before .before .before .before .before .before .full .ensures) ∙ c .before .before .before .before .before .before .before .before .before .if1 .left), P .1 .1 .1 .1))
+    let P = c .before .before .before .before .before .before .before .before .before .before .before .before .before .before .before .before .pre in (
+      answer-lands _ _ _ _ (c .before .before .before .before .before .before .before .before .before .before .before .before .before .before .before .before .fits .value .fits) (c .before .before .answer .ensures) (rw (c .before .before .before .before .before .mapper-at2 .ensures, c .before .before .before .before .before .before .before .cartridge-at .ensures) (P .1 .1 .1 .0)),
+      (has-room _ _ 1 (sym (c .before .before .before .before .before .before .before .before .before .before .full .ensures) ∙ c .before .before .before .before .before .before .before .before .before .if1 .left), P .1 .1 .1 .1),
+    )
 
 put-used-requires : tie.Need-put-used-requires
 put-used-requires c κs = search needs
@@ -57,10 +59,11 @@ same-length-4 : tie.Need-same-length-4
 same-length-4 c = search needs
 
 returns-2 : tie.Need-returns-2
-returns-2 c =
-    (c .before .before .put-used .ensures ∙ sym (mapping-kept _ (λ k. c .before .before .before .before .before .before .before .before .before .before .before .before .before .before .before .before .before .before .before .before .before .before .before .before .slice-known .given k .fits) _ _ (c .before .before .before .before .before .before .before .before .before .before .before .before .before .before .mapper-at2 .ensures) (mapped-sound _ (c .before .before .before .before .before .before .before .before .before .before .before .before .before .before .before .before .before .before .before .before .before .before .before .before .before .pre .0 .0))),
-    λ m p q e. save-done m (p ∙ sym (c .before .before .before .before .before .before .before .before .before .before .before .before .before .before .before .before .cartridge-at .ensures)) (q ∙ sym (c .before .before .before .before .before .before .before .before .before .before .before .before .before .before .mapper-at2 .ensures)) (e ∙ sym (c .before .before .before .before .before .before .before .before .before .before .before .before .before .before .before .before .before .before .before .before .used-at .ensures)) _ _ _ _
-    (sym (c .before .before .before .before .before .before .before .before .before .before .before .before .before .before .before .before .before .before .before .full .ensures) ∙ c .before .before .before .before .before .before .before .before .before .before .before .before .before .before .before .before .before .before .if1 .left) (sym (c .before .before .before .before .before .before .before .before .before .before .before .before .before .keeps .ensures (c .before .before .before .before .before .before .before .before .before .before .before .before .if2 .taken) _ _)) (c .before .before .before .before .before .before .before .before .before .before .before .answer .ensures) (c .before .before .before .before .before .before .before .before .store-answer .ensures))
+returns-2 c = (
+  c .before .before .put-used .ensures ∙ sym (mapping-kept _ (λ k. c .before .before .before .before .before .before .before .before .before .before .before .before .before .before .before .before .before .before .before .before .before .before .before .before .slice-known .given k .fits) _ _ (c .before .before .before .before .before .before .before .before .before .before .before .before .before .before .mapper-at2 .ensures) (mapped-sound _ (c .before .before .before .before .before .before .before .before .before .before .before .before .before .before .before .before .before .before .before .before .before .before .before .before .before .pre .0 .0))),
+  λ m p q e. save-done m (p ∙ sym (c .before .before .before .before .before .before .before .before .before .before .before .before .before .before .before .before .cartridge-at .ensures)) (q ∙ sym (c .before .before .before .before .before .before .before .before .before .before .before .before .before .before .mapper-at2 .ensures)) (e ∙ sym (c .before .before .before .before .before .before .before .before .before .before .before .before .before .before .before .before .before .before .before .before .used-at .ensures)) _ _ _ _
+      (sym (c .before .before .before .before .before .before .before .before .before .before .before .before .before .before .before .before .before .before .before .full .ensures) ∙ c .before .before .before .before .before .before .before .before .before .before .before .before .before .before .before .before .before .before .if1 .left) (sym (c .before .before .before .before .before .before .before .before .before .before .before .before .before .keeps .ensures (c .before .before .before .before .before .before .before .before .before .before .before .before .if2 .taken) _ _)) (c .before .before .before .before .before .before .before .before .before .before .before .answer .ensures) (c .before .before .before .before .before .before .before .before .store-answer .ensures),
+)
 
 store-save-requires : tie.Need-store-save-requires
 store-save-requires c κs = rw (c .before .before .before .before .mapper-at2 .ensures, c .before .before .before .before .before .before .cartridge-at .ensures) (c .before .before .before .before .before .before .before .before .before .before .before .before .before .before .before .pre .1)
@@ -80,9 +83,10 @@ same-length-7 : tie.Need-same-length-7
 same-length-7 c = search needs
 
 returns-3 : tie.Need-returns-3
-returns-3 c =
-    (c .before .before .put-mapping .ensures,
-    λ m p q e. c .before .before .before .before .before .before .before .before .store-save .ensures m (p ∙ sym (c .before .before .before .before .before .before .before .before .before .before .before .before .before .before .before .cartridge-at .ensures)) (q ∙ sym (c .before .before .before .before .before .before .before .before .before .before .before .before .before .mapper-at2 .ensures)) (e ∙ sym (c .before .before .before .before .before .before .before .before .before .before .before .before .before .before .before .before .before .before .before .used-at .ensures)))
+returns-3 c = (
+  c .before .before .put-mapping .ensures,
+  λ m p q e. c .before .before .before .before .before .before .before .before .store-save .ensures m (p ∙ sym (c .before .before .before .before .before .before .before .before .before .before .before .before .before .before .before .cartridge-at .ensures)) (q ∙ sym (c .before .before .before .before .before .before .before .before .before .before .before .before .before .mapper-at2 .ensures)) (e ∙ sym (c .before .before .before .before .before .before .before .before .before .before .before .before .before .before .before .before .before .before .before .used-at .ensures)),
+)
 
 pub put-save-spec : {M : Type 1} → statement M
 put-save-spec =
