@@ -1,5 +1,4 @@
 -- A state of the code's types stays one under the calls on the state alone: by the laws of the crate in_place for the parts and the registers.
-use mathlib.Core.Path.{_≡_, _∙_}
 use Prim.Native.Nat.{ℕ, _%_, _<_}
 use native.Mathlib.Omega.{arith}
 use lib.Dec.{eqb, lit<}

@@ -6,9 +6,8 @@ use Prim.Native.Nat.{ℕ, _+_}
 use lib.ListN.{take, set, getD, replicate}
 use Rattle.mbc.specs.Mbc.{romBank}
 use Rattle.memory.specs.Start.{black}
-use Rattle.memory.specs.World.{World}
 use Rattle.palette.specs.declared.Color.{Color}
-use Rattle.corners.specs.Rows.{Lent, bytes, Description, Act, read, write, cycle, press, poll, block, Line, does, gives, shows, Row, Every}
+use Rattle.corners.specs.Rows.{Lent, bytes, Description, read, write, cycle, press, poll, block, Line, does, gives, shows, Row, Every}
 
 abbrev monochrome : List Bool
 monochrome = false ∷ []

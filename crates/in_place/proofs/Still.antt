@@ -2,7 +2,7 @@
 -- The joypad's, with no mark: the state alone, or nothing.
 use mathlib.Core.Bool.{false}
 use mathlib.Core.List.{List}
-use mathlib.Core.Path.{_≡_, refl, sym, ap, _∙_}
+use mathlib.Core.Path.{_≡_, sym, ap, _∙_}
 use Prim.Native.Nat.{ℕ, _+_, _*_, _/_, _%_, _<_, _≤_}
 use native.Mathlib.Omega.{arith}
 use lib.ListN.{getD, set}
@@ -13,14 +13,12 @@ use Rattle.image.specs.Layout.{imageOf}
 use Rattle.image.specs.Load.{clockOf}
 use Rattle.image.specs.Patches.{fields, put, joypadFields, clockPut}
 use Rattle.joypad.proofs.Laws.{unmarked-polled}
-use Rattle.joypad.specs.Joypad.{withState, marked, polled}
+use Rattle.joypad.specs.Joypad.{withState, marked}
 use Rattle.joypad.specs.declared.Controller.{Controller}
-use Rattle.joypad.specs.declared.Polled.{Polled}
 use Rattle.memory.proofs.Laws.{range-clock}
-use Rattle.memory.specs.World.{withClock, withJoypad}
+use Rattle.memory.specs.World.{withClock}
 use Rattle.memory.specs.declared.Clock.{Clock}
 use Rattle.memory.specs.declared.Core.{Core}
-use Rattle.memory.specs.declared.Memory.{Memory}
 use Rattle.registers.specs.State.{loaded, timerOf, withTimer, withController, polledIn}
 use Rattle.timer.proofs.Laws.{call-done, still-updated, update-ready}
 use Rattle.timer.specs.Overflow.{cyclesLeft, leftOf}

@@ -1,7 +1,7 @@
 -- Lengths of the lent memories (document 01, "Cartridge and buffers") and ranges of the state (document 01, "State ranges").
-use mathlib.Core.Bool.{Bool, true, false, cond, not, _&&_, _||_}
+use mathlib.Core.Bool.{Bool, cond, not, _&&_, _||_}
 use Prim.Native.Nat.{ℕ, _%_}
-use lib.Dec.{eqb, ltb, leb}
+use lib.Dec.{eqb, leb}
 use Rattle.hdma.specs.declared.Hdma.{Hdma}
 use Rattle.mbc.specs.Mbc as mbc
 use Rattle.palette.specs.Palette.{colorsInRange}

@@ -1,5 +1,4 @@
 -- The bus with what is lent to it. A call is a function on worlds; what is lent for reading alone stands apart.
-use mathlib.Core.Bool.{Bool}
 use mathlib.Core.List.{List}
 use Prim.Native.Nat.{ℕ}
 use Rattle.hdma.specs.declared.Hdma.{Hdma}

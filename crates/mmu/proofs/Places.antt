@@ -10,7 +10,7 @@ use types.Run.{OneOf, miss}
 use lib.Dec.{ltb, lit≤}
 use lib.ListN.{length, set}
 use borrow.Author.Tests.{ltb-true, ltb-false}
-use Rattle.rules.proofs.Tests.{by-cond, cond-both, cond-false, cond-true, neither}
+use Rattle.rules.proofs.Tests.{by-cond, cond-both, cond-false, cond-true}
 use Rattle.mbc.proofs.Laws.{mapped-rom, mapped-ram, stored-within}
 use Rattle.mbc.specs.Mbc.{mapped, readAt, after, answer, inRange, ramLen}
 use Rattle.mbc.specs.declared.cartridge.Cartridge.{Cartridge}
@@ -144,13 +144,6 @@ module _ (m : Memory) {c : Cartridge} {t : Mapper} {used : ℕ} (p : m .core .ca
       let n : o ≡ after (m .core .cartridge) (m .core .mapper) i v = rw (p, q) f in
       let d : k ≡ answer (m .core .cartridge) (m .core .mapper) i v = rw (p, q) g in
       h (withMapper m o) e ∙ rw (n, d) (sym (cond-false _ _ _ b))
-
-  -- the registers are kept
-  pub save-kept : {k : Answer} {r : ℕ} {y z : List ℕ} → full (length l) used 1 ≡ false → after c t i v ≡ t → k ≡ answer c t i v
-      → ((n : Memory) → n .core .used ≡ used → world (withUsed n r) [] [] y z ≡ saved k (world n [] [] s l))
-      → world (withUsed m r) [] [] y z ≡ savePut (world m [] [] s l) i v
-  save-kept {k} {r} {y} {z} a f g h =
-      rw (← q) at (save-done {o = t} a (sym f) g h)
 
 -- the state, the save and the log of one world, with the memories of another
 abbrev beside : World → World → World

@@ -2,7 +2,7 @@
 use mathlib.Core.Bool.{Bool, false, cond, _||_}
 use Prim.Native.Nat.{ℕ, zero, suc, _+_, _/_, _%_}
 use lib.Dec.{eqb}
-use Rattle.memory.specs.World.{World, world, Fixed}
+use Rattle.memory.specs.World.{World, Fixed}
 use Rattle.registers.specs.Transfers.{copyOf, finished}
 use Rattle.registers.specs.declared.transfers.Copy.{Copy}
 use Rattle.mmu.specs.Access.{readIn, put, inState}

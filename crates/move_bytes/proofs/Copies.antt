@@ -2,20 +2,19 @@
 -- no byte is read behind its own place: of a block of 16 that begins at a multiple of 16, and of OAM DMA, whose source is never OAM.
 use mathlib.Core.List.{List}
 use mathlib.Core.Path.{_≡_, refl, sym, ap, _∙_}
-use Prim.Native.Nat.{ℕ, zero, suc, _+_, _*_, _-_, _%_, _<_, _≤_}
+use Prim.Native.Nat.{ℕ, zero, suc, _+_, _-_, _%_, _<_, _≤_}
 use native.Mathlib.Nat.{add-zero, add-suc}
 use native.Mathlib.Omega.{arith}
 use lib.ListN.{length, getD, set}
-use lib.Seq.{paste, paste-zero, paste-suc, length-paste, getD-set-other}
+use lib.Seq.{paste, paste-zero, paste-suc, getD-set-other}
 use Rattle.memory.proofs.Regions.{Within, within, region-at}
 use Rattle.memory.specs.Region.{regionOf}
-use Rattle.memory.specs.World.{World, world, Fixed, withOam}
-use Rattle.memory.specs.declared.Memory.{Memory}
+use Rattle.memory.specs.World.{World, Fixed, withOam}
 use Rattle.memory.specs.declared.region.Region.{Region}
 use Rattle.memory.specs.declared.region.Region.the-variants.{Rom, Vram, Save, Wram, Oam, Page}
 use Rattle.mmu.proofs.Laws.{write-plain}
 use Rattle.mmu.proofs.Places.{put-by}
-use Rattle.mmu.specs.Access.{byteIn, readByte, readIn, inState, inVram, put}
+use Rattle.mmu.specs.Access.{byteIn, readIn, inState, inVram}
 use Rattle.mmu.specs.PanDocs.{vramAt}
 use Rattle.mmu.specs.Write.{copyBy, writeAt}
 

@@ -2,7 +2,7 @@
 use mathlib.Core.Bool.{Bool, true, false}
 use mathlib.Core.List.{List}
 use mathlib.Core.Path.{_≡_, refl, sym, ap, subst, _∙_}
-use Prim.Native.Nat.{ℕ, zero, suc, _+_, _%_, _<_, _≤_}
+use Prim.Native.Nat.{ℕ, zero, suc, _+_, _<_, _≤_}
 use native.Mathlib.Omega.{arith}
 use lib.Dec.{eqb}
 use lib.ListN.{length, getD, set}
@@ -16,8 +16,8 @@ use Rattle.image.proofs.PatchLaws.{image-put, oam-image, page-image, typed-byte
 use Rattle.image.specs.Laws.{Typed}
 use Rattle.image.specs.Layout.{imageLen, bit, imageOf}
 use Rattle.image.specs.Load.{storable}
-use Rattle.image.specs.Patches.{put, Fits, hdmaFields}
-use Rattle.memory.specs.World.{withOam, withHdma, withCore, hdmaIn}
+use Rattle.image.specs.Patches.{put, hdmaFields}
+use Rattle.memory.specs.World.{withOam, withHdma, hdmaIn}
 use Rattle.memory.specs.declared.Memory.{Memory}
 use Rattle.registers.specs.State.{stored}
 use Rattle.registers.specs.Transfers.{transferPut, withEnded}

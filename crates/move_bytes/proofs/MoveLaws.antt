@@ -1,6 +1,6 @@
 -- What the parts of src/ leave is what the transfer of crates/mmu leaves: its bytes by proofs/Copies.antt, its registers by proofs/ImageLaws.antt.
-use mathlib.Core.Bool.{Bool, true, cond}
-use mathlib.Core.List.{List, []}
+use mathlib.Core.Bool.{true}
+use mathlib.Core.List.{List}
 use mathlib.Core.Logic.{_⊎_, inl, inr, ⊎-elim}
 use mathlib.Core.Path.{_≡_, refl, sym, ap, subst, _∙_}
 use Prim.Native.Nat.{ℕ, _+_, _*_, _-_, _%_, _<_, _≤_, min}
@@ -18,11 +18,11 @@ use Rattle.image.proofs.OpenLaws.{load-length, load-image, load-page}
 use Rattle.image.specs.Laws.{Typed}
 use Rattle.image.specs.Layout.{imageLen, imageOf}
 use Rattle.image.specs.Load.{storable, loadCall}
-use Rattle.memory.specs.World.{World, world, Fixed}
+use Rattle.memory.specs.World.{World, Fixed}
 use Rattle.memory.specs.declared.Core.{Core}
 use Rattle.memory.specs.declared.Memory.{Memory}
 use Rattle.mmu.proofs.Laws.{copy-none}
-use Rattle.mmu.specs.Access.{readByte, readIn, inState}
+use Rattle.mmu.specs.Access.{readByte, inState}
 use Rattle.mmu.specs.PanDocs.{vramAt}
 use Rattle.mmu.specs.Write.{copyBy, writeAt}
 use Rattle.packing.specs.Packing.{Below}

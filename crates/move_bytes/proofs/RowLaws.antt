@@ -1,6 +1,6 @@
 -- Bytes within 256 from a multiple of 256: one region has all of them, and those of video and of work memory stand in a row. Then the byte of an image.
 use mathlib.Core.Bool.{Bool, true, false, cond}
-use mathlib.Core.List.{List, []}
+use mathlib.Core.List.{List}
 use mathlib.Core.Path.{_≡_, refl, sym, ap, _∙_}
 use Prim.Native.Nat.{ℕ, _+_, _*_, _-_, _%_, _<_, _≤_}
 use native.Mathlib.Omega.{arith}
@@ -15,14 +15,13 @@ use Rattle.image.specs.Patches.{fields}
 use Rattle.mbc.specs.PanDocs.{romAddress, romPlace}
 use Rattle.memory.proofs.Regions.{within, region-at}
 use Rattle.memory.specs.Region.{regionOf}
-use Rattle.memory.specs.World.{world, Fixed}
+use Rattle.memory.specs.World.{Fixed}
 use Rattle.memory.specs.declared.Core.{Core}
 use Rattle.memory.specs.declared.Memory.{Memory}
 use Rattle.memory.specs.declared.region.Region.the-variants.{Rom, Vram, Wram, Oam, Page}
 use Rattle.mmu.proofs.Places.{ready-reaches, read-by, echo-within, wram-below}
-use Rattle.mmu.specs.Access.{Ready, Reaches, readByte}
+use Rattle.mmu.specs.Access.{Reaches, readByte}
 use Rattle.mmu.specs.PanDocs.{echo, vramAt, wramAt}
-use Rattle.packing.specs.Packing.{Below}
 use Rattle.take_bytes.proofs.ByteLaws.{byte-rom, rom-place-below, byte-oam, byte-page}
 use Rattle.registers.specs.Page.{plainRead, shownAs}
 use Rattle.rules.proofs.Tests.{by-cond}

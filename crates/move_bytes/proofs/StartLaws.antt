@@ -1,8 +1,8 @@
 -- The writes of FF46 and FF55: the image after the byte is one that is taken, of the state after it, and the transfer starts from there.
-use mathlib.Core.Bool.{Bool, true, false, not, cond, _&&_}
+use mathlib.Core.Bool.{Bool, true, false}
 use mathlib.Core.List.{List, []}
 use mathlib.Core.Path.{_≡_, refl, sym, ap, subst, _∙_}
-use Prim.Native.Nat.{ℕ, _+_, _-_, _*_, _/_, _%_, _<_, _≤_}
+use Prim.Native.Nat.{ℕ, _-_, _<_}
 use native.Mathlib.Omega.{arith}
 use lib.ListN.{set}
 use Rattle.hdma.proofs.Laws.{by-start}
@@ -18,18 +18,17 @@ use Rattle.image.specs.Laws.{Typed}
 use Rattle.image.specs.Layout.{imageOf}
 use Rattle.image.specs.Load.{storable, loadCall}
 use Rattle.image.specs.declared.Loaded.{Loaded}
-use Rattle.memory.proofs.Laws.{HdmaParts, hdma-parts, parts-hdma, range-hdma, transfer-range}
-use Rattle.memory.specs.World.{World, world, Fixed}
+use Rattle.memory.proofs.Laws.{hdma-parts, parts-hdma, range-hdma, transfer-range}
+use Rattle.memory.specs.World.{world, Fixed}
 use Rattle.memory.specs.declared.Core.{Core}
 use Rattle.memory.specs.declared.Memory.{Memory}
 use Rattle.mmu.proofs.Laws.{kept-stays, stays-ready, write-transfer}
 use Rattle.mmu.specs.Access.{Ready, inState}
 use Rattle.mmu.specs.Write.{copyBy, transferred, starting, writeAt}
-use Rattle.packing.specs.Packing.{Below}
 use Rattle.registers.proofs.Kept as state
 use Rattle.registers.specs.Register.{registerOf, byteAs}
 use Rattle.registers.specs.State.{stored}
-use Rattle.registers.specs.Transfers.{transferPut, nothing, oamCopy, blockCopy, generalCopy, startedBy, started, startPut, startCopy, copyOf, finished}
+use Rattle.registers.specs.Transfers.{transferPut, nothing, oamCopy, blockCopy, generalCopy, startedBy, started, copyOf, finished}
 use Rattle.registers.specs.declared.transfers.Copy.{Copy}
 use Rattle.registers.specs.declared.transfers.Started.{Started}
 use Rattle.rules.proofs.Tests.{cond-true, cond-false}

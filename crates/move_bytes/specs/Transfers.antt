@@ -8,10 +8,9 @@ use lib.ListN.{length, getD, set}
 use Rattle.hdma.specs.declared.Ended.{Ended}
 use Rattle.hdma.specs.declared.Hdma.{Hdma}
 use Rattle.hdma.specs.declared.Written.{Written}
-use Rattle.image.specs.Layout.{imageOf}
 use Rattle.image.specs.Load.{loadCall}
 use Rattle.image.specs.Patches.{put, hdmaFields}
-use Rattle.memory.specs.World.{World, world, Fixed}
+use Rattle.memory.specs.World.{Fixed}
 use Rattle.memory.specs.declared.Core.{Core}
 use Rattle.mmu.specs.Access.{Ready, readByte}
 use Rattle.mmu.specs.Write.{copyBy, transferred, writeAt}

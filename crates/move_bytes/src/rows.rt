@@ -3,11 +3,9 @@
 ghost use mathlib.Core.Path.{_≡_};
 ghost use Prim.Native.Nat.{ℕ, _+_, _<_, _≤_};
 ghost use lib.ListN.{length, getD};
-ghost use Rattle.image.specs.Load.{loadCall};
 ghost use Rattle.memory.specs.Region.{regionOf};
 ghost use Rattle.memory.specs.World.{fixed};
 ghost use Rattle.memory.specs.declared.region.Region.the-variants.{Oam};
-ghost use Rattle.mmu.specs.Access.{readByte};
 ghost use Rattle.move_bytes.specs.Transfers.{Own, Row, Read};
 use in_place::colour::banks_at;
 use memory::Region;

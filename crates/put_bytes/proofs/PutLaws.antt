@@ -25,13 +25,13 @@ use Rattle.mbc.specs.declared.held.Registers.{Registers}
 use Rattle.mbc.specs.declared.mbc.Mapper.{Mapper}
 use Rattle.memory.proofs.Laws.{mapper-kept}
 use Rattle.memory.specs.Region.{regionOf}
-use Rattle.memory.specs.World.{World, world, withMapper, withUsed}
+use Rattle.memory.specs.World.{World, world}
 use Rattle.memory.specs.declared.Core.{Core}
 use Rattle.memory.specs.declared.Memory.{Memory}
 use Rattle.memory.specs.declared.region.Region.the-variants.{Rom, Vram, Save, Wram, Oam, Page}
 use Rattle.mmu.proofs.Laws.{Stays, put-stays}
-use Rattle.mmu.proofs.Places.{holds-mapper, holds-vram, holds-wram, put-rom, put-vram, put-save, put-wram, put-register}
-use Rattle.mmu.specs.Access.{Holds, mapperPut, savePut, put}
+use Rattle.mmu.proofs.Places.{holds-vram, holds-wram, put-rom, put-vram, put-save, put-wram, put-register}
+use Rattle.mmu.specs.Access.{Holds, mapperPut, put}
 use Rattle.mmu.specs.PanDocs.{vramAt, wramAt}
 use Rattle.packing.specs.Packing.{Below}
 use Rattle.places.proofs.Puts.{put-own}
@@ -39,7 +39,7 @@ use Rattle.registers.specs.Page.{writeRegister}
 use Rattle.rules.proofs.Tests.{both-true}
 use Rattle.savelog.specs.Log.{useInRange}
 use Rattle.put_bytes.specs.Left.{Left, left, worldOf, leftBy}
-use Rattle.put_bytes.specs.Puts.{Taken, coreIn, ownPut}
+use Rattle.put_bytes.specs.Puts.{Taken, coreIn, ownPut, Saved}
 use Rattle.put_bytes.proofs.Storable.{parts, joins, stays-storable}
 use Rattle.put_bytes.proofs.Typed.{put-typed, own-oam}
 use Rattle.put_bytes.proofs.Whole.{Whole}
@@ -107,12 +107,6 @@ module _ {i v w s l : List ℕ} (t : Taken i v w s l) where
 
   -- what the parts ask for, of the state without its arrays
   module _ {c : Core} (e : c ≡ loadCall i .state .core) where
-    pub taken-mapper : inRange (c .cartridge) (c .mapper) ≡ true
-    taken-mapper = rw e (holds-mapper (t .holds))
-
-    pub taken-slim : Slim (c .mapper)
-    taken-slim = rw e (slim (loadCall i .state) taken-storable)
-
     pub after-slim : (k b : ℕ) → Slim (after (c .cartridge) (c .mapper) k b)
     after-slim k b = rw e (slim (mapperPut (loadCall i .state) k b) (mapper-storable (loadCall i .state) taken-storable k b))
 
@@ -142,15 +136,13 @@ module _ {i v w s l : List ℕ} (t : Taken i v w s l) where
       left-vram q f =
           as-left (worldOf i v w s l) index b (put-vram (worldOf i v w s l) index b q (f ∙ ap (λ (d : Core). set v (vramAt (d .banks .vram) index) b) e)) taken-image
 
-      pub left-save : regionOf index ≡ Save → {p : Mapper} {r : ℕ} {j s' l' : List ℕ} → j ≡ mappingPut i p r
-          → ((m : Memory) → m .core .cartridge ≡ c .cartridge → m .core .mapper ≡ c .mapper → m .core .used ≡ c .used
-          → world (withUsed (withMapper m p) r) [] [] s' l' ≡ savePut (world m [] [] s l) index b)
-          → left 0 0 j v w s' l' ≡ leftBy (put (worldOf i v w s l) index b)
-      left-save q {p} {r} f n =
+      pub left-save : regionOf index ≡ Save → {j s' l' : List ℕ} → Saved i s l index b j s' l' → left 0 0 j v w s' l' ≡ leftBy (put (worldOf i v w s l) index b)
+      left-save q n =
           let m = loadCall i .state in
+          let f = sym taken-core in
           let y = put-save (worldOf i v w s l) index b q
-          (n m (sym (ap (λ (d : Core). d .cartridge) e)) (sym (ap (λ (d : Core). d .mapper) e)) (sym (ap (λ (d : Core). d .used) e))) in
-          as-left (worldOf i v w s l) index b y (f ∙ loaded-mapping i (t .bytes) (t .number) p r (left-storable index b y))
+          (n .saved m (ap (λ (d : Core). d .cartridge) f) (ap (λ (d : Core). d .mapper) f) (ap (λ (d : Core). d .used) f)) in
+          as-left (worldOf i v w s l) index b y (n .image ∙ loaded-mapping i (t .bytes) (t .number) (n .mapper) (n .used) (left-storable index b y))
 
       pub left-wram : regionOf index ≡ Wram → {j : List ℕ} → j ≡ set w (wramAt (c .banks .wram) index) b
           → left 0 0 i v j s l ≡ leftBy (put (worldOf i v w s l) index b)

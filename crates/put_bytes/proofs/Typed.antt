@@ -1,33 +1,27 @@
 -- A byte put: what it leaves is a state in range with the types of one, and the image changed in place is that state's.
-use mathlib.Core.Bool.{Bool, true, false}
-use mathlib.Core.List.{List, []}
-use mathlib.Core.Path.{_≡_, refl, sym, ap, subst, _∙_}
-use Prim.Native.Nat.{ℕ, _+_, _-_, _<_, _≤_}
+use mathlib.Core.Bool.{true}
+use mathlib.Core.List.{List}
+use mathlib.Core.Path.{_≡_, refl, sym}
+use Prim.Native.Nat.{ℕ, _+_, _-_, _<_}
 use native.Mathlib.Omega.{arith}
-use lib.Dec.{eqb}
 use lib.ListN.{length, set}
-use borrow.Author.Tests.{eqb-false}
 use Rattle.image.proofs.PatchLaws.{joypad-bytes, div-byte, typed-with, typed-bytes, bytes-set, oam-image}
 use Rattle.image.specs.Laws.{Typed}
 use Rattle.image.specs.Layout.{imageOf}
 use Rattle.image.specs.Load.{storable}
-use Rattle.image.specs.Patches.{Slim}
 use Rattle.in_place.proofs.Fine.{typed-fine, fine-typed, write-fine}
 use Rattle.mbc.specs.Mbc.{after, answer}
-use Rattle.mbc.specs.declared.cartridge.Cartridge.{Cartridge}
 use Rattle.mbc.specs.declared.mbc.Answer.{Answer}
 use Rattle.mbc.specs.declared.mbc.Answer.the-variants.{Stored, NotStored}
-use Rattle.mbc.specs.declared.mbc.Mapper.{Mapper}
 use Rattle.memory.proofs.Regions.{within}
 use Rattle.memory.specs.Ranges.{stateInRange}
 use Rattle.memory.specs.Region.{regionOf}
-use Rattle.memory.specs.Start.{zeroed}
-use Rattle.memory.specs.World.{World, world, Fixed, coreOf, withOam, withCore, withMapper, withUsed}
+use Rattle.memory.specs.World.{World, withOam}
 use Rattle.memory.specs.declared.Memory.{Memory}
 use Rattle.memory.specs.declared.region.Region.{Region}
 use Rattle.memory.specs.declared.region.Region.the-variants.{Rom, Vram, Save, Wram, Oam, Page}
 use Rattle.mmu.proofs.Places.{put-by}
-use Rattle.mmu.specs.Access.{Holds, mapperPut, savedState, saved, savePut, inState, putIn, put}
+use Rattle.mmu.specs.Access.{mapperPut, saved, savePut, inState, putIn, put}
 use Rattle.registers.specs.Page.{writeRegister}
 use Rattle.rules.proofs.Tests.{cond-both}
 use Rattle.savelog.specs.Log.{width, full}
@@ -72,27 +66,6 @@ module _ (w : World) (t : Typed (w .state)) (i v : ℕ) (hv : v < 256) where
 
 pub put-typed : (w : World) → Typed (w .state) → stateInRange (w .state) ≡ true → (index v : ℕ) → v < 256 → Typed (put w index v .state)
 put-typed w t h index v hv = put-in-typed w t index v hv (regionOf index) h
-
--- The mapper that a write in A000..BFFF leaves goes to the image: it is the one before or the one after
-module _ (w : World) (i v : ℕ) (a : Slim (w .state .core .mapper)) (b : Slim (after (w .state .core .cartridge) (w .state .core .mapper) i v)) where
-  saved-slim : (k : Answer) → Slim (saved k (inState w (mapperPut (w .state) i v)) .state .core .mapper)
-  saved-slim (Stored at u) = b
-  saved-slim NotStored = b
-
-  save-slim : Slim (savePut w i v .state .core .mapper)
-  unfolding savePut
-  save-slim =
-      cond-both (λ (u : World). Slim (u .state .core .mapper)) (full (length (w .log)) (w .state .core .used) 1) a
-      (saved-slim (answer (w .state .core .cartridge) (w .state .core .mapper) i v))
-
-pub mapping-slim : {c : Cartridge} {t : Mapper} {used : ℕ} (s l : List ℕ) (i v : ℕ) {p : Mapper} {u : ℕ} {y z : List ℕ}
-    → ((m : Memory) → m .core .cartridge ≡ c → m .core .mapper ≡ t → m .core .used ≡ used
-    → world (withUsed (withMapper m p) u) [] [] y z ≡ savePut (world m [] [] s l) i v)
-    → Slim t → Slim (after c t i v) → Slim p
-mapping-slim {c} {t} {used} s l i v n a b =
-    let k = zeroed .core in
-    let m : Memory = withUsed (withCore zeroed (coreOf (k .banks) (k .lcd) (k .hdma) (k .joypad) c t)) used in
-    subst Slim (sym (ap (λ (w : World). w .state .core .mapper) (n m refl refl refl))) (save-slim (world m [] [] s l) i v a b)
 
 -- A byte of OAM or a register in the image: what a write leaves, as the world with another state, and that the image j is its
 pub record Own (w : World) (index v : ℕ) (j : List ℕ) : Type 0 where

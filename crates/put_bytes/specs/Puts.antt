@@ -1,14 +1,17 @@
 -- What a byte put on an image needs of it and of what is lent. Nothing here need be believed: the contracts of the entries cite specs/Entry.antt of crate
 -- entry alone.
 use mathlib.Core.Bool.{true}
-use mathlib.Core.List.{List}
+use mathlib.Core.List.{List, []}
 use mathlib.Core.Path.{_≡_}
 use Prim.Native.Nat.{ℕ, _-_}
 use lib.ListN.{length, set}
 use Rattle.image.specs.Load.{coreFrom, loadCall}
-use Rattle.image.specs.Patches.{fields}
+use Rattle.image.specs.Patches.{fields, mappingPut}
+use Rattle.mbc.specs.declared.mbc.Mapper.{Mapper}
+use Rattle.memory.specs.World.{world, withMapper, withUsed}
 use Rattle.memory.specs.declared.Core.{Core}
-use Rattle.mmu.specs.Access.{Holds}
+use Rattle.memory.specs.declared.Memory.{Memory}
+use Rattle.mmu.specs.Access.{Holds, savePut}
 use Rattle.numbers.specs.Numbers.{done}
 use Rattle.packing.specs.Packing.{Below}
 use Rattle.savelog.specs.Log.{useInRange}
@@ -28,3 +31,11 @@ coreIn i = coreFrom (fields i)
 -- OAM is the first 256 bytes of an image
 abbrev pub ownPut : List ℕ → ℕ → ℕ → List ℕ
 ownPut i at v = set i (at - 0xFE00) v
+
+-- a save write: the mapper and the log's use that the image then has, with the save and the log, are those of a save write by value (j, y, z are what is left)
+pub record Saved (i s l : List ℕ) (k v : ℕ) (j y z : List ℕ) : Type 0 where
+  pub mapper : Mapper
+  pub used : ℕ
+  pub image : j ≡ mappingPut i mapper used
+  pub saved : (m : Memory) → m .core .cartridge ≡ coreIn i .cartridge → m .core .mapper ≡ coreIn i .mapper → m .core .used ≡ coreIn i .used
+      → world (withUsed (withMapper m mapper) used) [] [] y z ≡ savePut (world m [] [] s l) k v

@@ -1,7 +1,5 @@
 // A byte put into an image or what is lent beside it, by its region: a write that nothing refuses, without the copying that it may start. It takes of the
 // image what it needs, and changes it in place.
-ghost use mathlib.Core.Bool.{true};
-ghost use mathlib.Core.List.{[]};
 ghost use mathlib.Core.Path.{_≡_};
 ghost use Prim.Native.Nat.{_-_, _/_, _%_, _<_, _≤_};
 ghost use lib.ListN.{length};
@@ -9,17 +7,14 @@ ghost use Rattle.image.specs.Layout.{imageLen, imageOf};
 ghost use Rattle.image.specs.Load.{loadCall};
 ghost use Rattle.image.specs.Patches.{Mapped, Slim, mappingPut};
 ghost use Rattle.in_place.specs.Held.{Held};
-ghost use Rattle.mbc.specs.Mbc.{inRange, ramLen, after};
-ghost use Rattle.memory.specs.World.{world, withMapper, withUsed};
-ghost use Rattle.memory.specs.declared.Memory.{Memory};
-ghost use Rattle.mmu.specs.Access.{savePut, put};
+ghost use Rattle.mbc.specs.Mbc.{ramLen, after};
+ghost use Rattle.mmu.specs.Access.{put};
 ghost use Rattle.refusals.specs.Refusal.{nextIndex};
 ghost use Rattle.registers.specs.Page.{writeRegister};
 ghost use Rattle.savelog.specs.Log.{logLimit};
 ghost use Rattle.put_bytes.specs.Left.{left, worldOf, leftBy};
-ghost use Rattle.put_bytes.specs.Puts.{Taken, coreIn, ownPut};
+ghost use Rattle.put_bytes.specs.Puts.{Taken, coreIn, ownPut, Saved};
 use memory::Region;
-use mmu::regions::Mapping;
 
 // The mapper's registers after a write.
 pub fn put_mapper(image: &mut [u8], at: u16, value: u8)
@@ -32,34 +27,25 @@ pub fn put_mapper(image: &mut [u8], at: u16, value: u8)
     image::put_registers(image, next);
 }
 
-// A000..BFFF: the save, its log, and the mapper with the log's use, which it gives. Where the mapper's registers stay and the log has room, the use is all
-// that the image changes.
-fn put_save(image: &mut [u8], save: &mut [u8], log: &mut [u8], at: u16, value: u8) -> Mapping
-    requires { ⌜ (Mapped (now image) × (Slim (coreIn (now image) .mapper) × Slim (after (coreIn (now image) .cartridge) (coreIn (now image) .mapper) at value))) × (((0xA000 ≤ at) × (at < 0xC000)) × ((inRange (coreIn (now image) .cartridge) (coreIn (now image) .mapper) ≡ true) × ((length (now save) ≡ ramLen (coreIn (now image) .cartridge) (coreIn (now image) .mapper)) × (length (now log) ≤ logLimit)))) ⌝ }
-    ensures { λ r. ⌜ (now (image .exit) ≡ mappingPut (now (image .entry)) (r .mapper) (r .used)) × ((m : Memory) → m .core .cartridge ≡ coreIn (now (image .entry)) .cartridge → m .core .mapper ≡ coreIn (now (image .entry)) .mapper → m .core .used ≡ coreIn (now (image .entry)) .used → world (withUsed (withMapper m (r .mapper)) (r .used)) [] [] (now (save .exit)) (now (log .exit)) ≡ savePut (world m [] [] (now (save .entry)) (now (log .entry))) at value) ⌝ }
+// A000..BFFF: the save, its log, the log's use, and the mapper where it does not keep its registers. A log without room records nothing, and nothing changes.
+fn put_save(image: &mut [u8], save: &mut [u8], log: &mut [u8], at: u16, value: u8)
+    requires { ⌜ (Mapped (now image) × Slim (after (coreIn (now image) .cartridge) (coreIn (now image) .mapper) at value)) × (((0xA000 ≤ at) × (at < 0xC000)) × ((length (now save) ≡ ramLen (coreIn (now image) .cartridge) (coreIn (now image) .mapper)) × (length (now log) ≤ logLimit))) ⌝ }
+    ensures { λ _. ⌜ Saved (now (image .entry)) (now (save .entry)) (now (log .entry)) at value (now (image .exit)) (now (save .exit)) (now (log .exit)) ⌝ }
 {
     let used = image::used_at(image);
     if savelog::full(log.len(), used, 1) {
-        return Mapping {
-            mapper: image::mapper_at(image),
-            used: used,
-        };
+        return;
     }
     let cartridge = image::cartridge_at(image);
     let mapper = image::mapper_at(image);
+    let answer = mapper.answer(cartridge, at, value);
+    let more = mmu::regions::store_answer(answer, used, save, log);
     if mapper.keeps(at) {
-        let answer = mapper.answer(cartridge, at, value);
-        let more = mmu::regions::store_answer(answer, used, save, log);
         image::put_used(image, more);
-        return Mapping {
-            mapper: mapper,
-            used: more,
-        };
+        return;
     }
-    let mapping = mmu::regions::store_save(cartridge, mapper, used, save, log, at, value);
-    let next = mapping.mapper;
-    image::put_mapping(image, next, mapping.used);
-    mapping
+    put_mapper(image, at, value);
+    image::put_used(image, more);
 }
 
 // A byte of OAM.
@@ -99,9 +85,7 @@ pub fn put_byte(
             let banks = image::banks_at(image);
             mmu::regions::write_cgb_lcd_ram(vram, banks.vram, index, value);
         }
-        Region::Save => {
-            put_save(image, save, log, index, value);
-        }
+        Region::Save => put_save(image, save, log, index, value),
         Region::Wram => {
             let banks = image::banks_at(image);
             mmu::regions::write_cgb_wram(wram, banks.wram, index, value);

@@ -1,5 +1,5 @@
 -- A block of reads: the list filled byte by byte, and what the entry answers.
-use mathlib.Core.List.{List, [], _∷_, _++_}
+use mathlib.Core.List.{List, []}
 use mathlib.Core.Path.{_≡_, refl, sym, ap, _∙_}
 use Prim.Native.Nat.{ℕ, zero, suc, _+_, _%_, _<_, _≤_}
 use native.Mathlib.Numerals.{add-one}
@@ -7,8 +7,7 @@ use native.Mathlib.Omega.{arith}
 use lib.ListN.{length, take, set}
 use lib.Seq.{take-suc-set, take-all}
 use borrow.Author.Tests.{ne-eqb, le-leb, lt-leb}
-use Rattle.dispatch.specs.declared.Call.the-variants.{ReadByte}
-use Rattle.entry.specs.Entry.{Given, readEntry}
+use Rattle.entry.specs.Entry.{Given}
 use Rattle.entry.specs.Host.{blockLimit, listOf, blockEntry}
 use Rattle.image.specs.Load.{stored, loadCall}
 use Rattle.memory.specs.World.{world, Fixed}

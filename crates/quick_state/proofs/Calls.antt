@@ -1,12 +1,11 @@
 -- A call on the state made on the image itself. Its number refuses an image that is not taken; the state of one that is taken is in range, so that the call is
 -- refused by its own number alone; and where none is due, the image of the call's next state is the entry's (`state-done`, `own-done`).
-use mathlib.Core.Bool.{Bool, true, false, cond, not}
+use mathlib.Core.Bool.{Bool, true, false, cond}
 use mathlib.Core.List.{List}
 use mathlib.Core.Path.{_≡_, refl, sym, ap, _∙_}
 use Prim.Native.Nat.{ℕ, _%_, _<_, _≤_}
 use native.Mathlib.Omega.{arith}
-use lib.Dec.{eqb, leb, ltb}
-use lib.ListN.{getD}
+use lib.Dec.{leb, ltb}
 use borrow.Author.Tests.{ne-eqb}
 use Rattle.dispatch.specs.Step.{stateStep, performed, performedDone, performedFlag, flagNumber, pendingNumber}
 use Rattle.dispatch.specs.declared.StateCall.{StateCall}

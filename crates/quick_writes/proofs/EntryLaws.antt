@@ -1,12 +1,10 @@
 -- How the entries answer: by the image's number, the lengths', or by what the transfer leaves.
 use mathlib.Core.Bool.{Bool, true, false, cond}
-use mathlib.Core.List.{List, []}
+use mathlib.Core.List.{List}
 use mathlib.Core.Path.{_≡_, refl, sym, ap, _∙_}
-use Prim.Native.Nat.{ℕ, _<_, _≤_}
-use native.Mathlib.Omega.{arith}
+use Prim.Native.Nat.{ℕ}
 use lib.Dec.{eqb, ltb}
-use lib.ListN.{length}
-use borrow.Author.Tests.{eq-eqb, eqb-true, eqb-false, ne-eqb, le-ltb}
+use borrow.Author.Tests.{eqb-true, eqb-false, ne-eqb}
 use Rattle.bus.proofs.Passes.{write-passes}
 use Rattle.bus.specs.Calls.{outcome, unless}
 use Rattle.dispatch.specs.Step.{step}

@@ -1,6 +1,6 @@
 -- A state in range, as an image gives it, is refused by the lent lengths and the log's use alone.
 use mathlib.Core.Bool.{true}
-use mathlib.Core.Path.{_≡_, refl, ap}
+use mathlib.Core.Path.{_≡_}
 use Prim.Native.Nat.{ℕ}
 use Rattle.memory.specs.Ranges.{inRange}
 use Rattle.memory.specs.declared.Memory.{Memory}

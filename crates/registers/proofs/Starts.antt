@@ -1,9 +1,7 @@
 -- What a byte write copies is one of four things.
-use mathlib.Core.Bool.{cond}
 use Prim.Native.Nat.{ℕ}
 use lib.Dec.{eqb}
 use Rattle.hdma.proofs.Laws.{by-start}
-use Rattle.hdma.specs.Hdma.{starts}
 use Rattle.hdma.specs.declared.Start.{Start}
 use Rattle.memory.specs.declared.Memory.{Memory}
 use Rattle.rules.proofs.Tests.{cond-both}

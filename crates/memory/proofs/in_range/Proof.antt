@@ -1,5 +1,4 @@
 -- All but the colours, and then the colours.
-use mathlib.Core.Path.{_∙_}
 use Rattle.memory.proofs.Laws.{core-colors}
 use Rattle.rules.proofs.Tests.{denied, granted}
 use borrow.Author.Needs.{needs}

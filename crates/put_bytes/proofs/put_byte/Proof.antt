@@ -1,7 +1,7 @@
 -- By the region: one law for each (`left-rom` ..).
 use mathlib.Core.Path.{sym, _∙_}
 use Rattle.memory.proofs.Regions.{within}
-use Rattle.put_bytes.proofs.PutLaws.{taken-held, taken-mapped, taken-length, taken-core, taken-mapper, taken-slim, taken-save, taken-vram, taken-wram, after-slim, left-rom, left-vram, left-save, left-wram, left-oam, left-page}
+use Rattle.put_bytes.proofs.PutLaws.{taken-held, taken-mapped, taken-length, taken-core, taken-save, taken-vram, taken-wram, after-slim, left-rom, left-vram, left-save, left-wram, left-oam, left-page}
 use borrow.Author.Needs.{needs}
 use Rattle.put_bytes.proofs.put_byte.Statement.{statement}
 use Rattle.put_bytes.proofs.put_byte.Tie as tie
@@ -28,7 +28,7 @@ enum-told-3 : tie.Need-enum-told-3
 enum-told-3 c = search needs
 
 put-save-requires : tie.Need-put-save-requires
-put-save-requires c κs = let P = c .before .before .before .before .before .before .before .before .before .before .before .pre in ((taken-mapped P, (taken-slim P (taken-core P), after-slim P (taken-core P) _ _)), (within _ (sym (c .before .before .before .before .before .region-of .ensures) ∙ c .before .before .before .enum-told3 .given .1), (taken-mapper P (taken-core P), (taken-save P (taken-core P), P .holds .log))))
+put-save-requires c κs = let P = c .before .before .before .before .before .before .before .before .before .before .before .pre in ((taken-mapped P, after-slim P (taken-core P) _ _), (within _ (sym (c .before .before .before .before .before .region-of .ensures) ∙ c .before .before .before .enum-told3 .given .1), (taken-save P (taken-core P), P .holds .log)))
 
 enum-told-4 : tie.Need-enum-told-4
 enum-told-4 c = search needs
@@ -76,7 +76,7 @@ same-length-6 : tie.Need-same-length-6
 same-length-6 c = search needs
 
 returns-3 : tie.Need-returns-3
-returns-3 c = let P = c .before .before .before .before .before .before .before .before .before .before .before .before .before .before .before .before .before .before .pre in left-save P (taken-core P) _ _ (sym (c .before .before .before .before .before .before .before .before .before .before .before .before .region-of .ensures) ∙ c .before .before .before .before .before .before .before .before .before .before .enum-told3 .given .1) (c .before .before .before .before .before .before .put-save .ensures .0) (c .before .before .before .before .before .before .put-save .ensures .1)
+returns-3 c = let P = c .before .before .before .before .before .before .before .before .before .before .before .before .before .before .before .before .before .before .pre in left-save P (taken-core P) _ _ (sym (c .before .before .before .before .before .before .before .before .before .before .before .before .region-of .ensures) ∙ c .before .before .before .before .before .before .before .before .before .before .enum-told3 .given .1) (c .before .before .before .before .before .before .put-save .ensures)
 
 same-length-7 : tie.Need-same-length-7
 same-length-7 c = search needs

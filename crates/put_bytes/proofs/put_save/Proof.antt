@@ -1,10 +1,13 @@
--- A log without room; a mapper that keeps its registers: then the use alone is put (`mapping-kept`); any other, by `store_save`.
-use mathlib.Core.Path.{sym, _∙_}
-use Rattle.image.proofs.PatchLaws.{mapping-kept}
+-- A log without room; a mapper that keeps its registers: then the use alone is put (`mapping-kept`); one that does not: the use over it (`used-over`).
+use denote.Ref.{now}
+use mathlib.Core.Path.{refl, sym, _∙_}
+use native.Mathlib.Omega.{arith}
+use Rattle.image.proofs.PatchLaws.{mapping-kept, used-over}
+use Rattle.mbc.specs.Mbc.{after}
 use Rattle.mmu.proofs.Places.{answer-lands, save-full, save-done}
 use Rattle.savelog.proofs.Use.{has-room}
 use Rattle.put_bytes.proofs.PutLaws.{mapped-sound, mapped-kept}
-use Rattle.put_bytes.proofs.Typed.{mapping-slim}
+use Rattle.put_bytes.specs.Puts.{coreIn}
 use borrow.Author.Needs.{needs}
 use Rattle.put_bytes.proofs.put_save.Statement.{statement}
 use Rattle.put_bytes.proofs.put_save.Tie as tie
@@ -15,36 +18,37 @@ used-at-requires c κs = search needs
 full-requires : tie.Need-full-requires
 full-requires c κs = search needs
 
-mapper-at-requires : tie.Need-mapper-at-requires
-mapper-at-requires c κs = search needs
-
 same-length : tie.Need-same-length
 same-length c = search needs
 
 returns : tie.Need-returns
-returns c = (
-  mapped-kept _ (c .before .before .before .before .before .before .before .before .before .pre .0 .0) (λ k. c .before .before .before .before .before .before .before .before .slice-known .given k .fits) (c .mapper-at .ensures) (c .before .before .before .before .used-at .ensures),
-  λ m p q e. save-full m p (q ∙ sym (c .mapper-at .ensures)) (e ∙ sym (c .before .before .before .before .used-at .ensures)) _ _ _ _ (sym (c .before .before .before .full .ensures) ∙ c .before .before .if1 .taken),
-)
+returns c =
+    let P = c .before .before .before .before .before .before .before .pre in
+    record {
+      mapper = _;
+      used = _;
+      image = mapped-kept _ (P .0 .0) (λ k. c .before .before .before .before .before .before .slice-known .given k .fits) refl (c .before .before .used-at .ensures);
+      saved = λ m p q e. save-full m p q (e ∙ sym (c .before .before .used-at .ensures)) _ _ _ _ (sym (c .before .full .ensures) ∙ c .if1 .taken);
+    }
 
 cartridge-at-requires : tie.Need-cartridge-at-requires
 cartridge-at-requires c κs = search needs
 
-mapper-at-requires-2 : tie.Need-mapper-at-requires-2
-mapper-at-requires-2 c κs = search needs
-
-keeps-requires : tie.Need-keeps-requires
-keeps-requires c κs = search needs
+mapper-at-requires : tie.Need-mapper-at-requires
+mapper-at-requires c κs = search needs
 
 answer-requires : tie.Need-answer-requires
 answer-requires c κs = search needs
 
 store-answer-requires : tie.Need-store-answer-requires
 store-answer-requires c κs =
-    let P = c .before .before .before .before .before .before .before .before .before .before .before .before .before .before .before .before .pre in (
-      answer-lands _ _ _ _ (c .before .before .before .before .before .before .before .before .before .before .before .before .before .before .before .before .fits .value .fits) (c .before .before .answer .ensures) (rw (c .before .before .before .before .before .mapper-at2 .ensures, c .before .before .before .before .before .before .before .cartridge-at .ensures) (P .1 .1 .1 .0)),
-      (has-room _ _ 1 (sym (c .before .before .before .before .before .before .before .before .before .before .full .ensures) ∙ c .before .before .before .before .before .before .before .before .before .if1 .left), P .1 .1 .1 .1),
+    let P = c .before .before .before .before .before .before .before .before .before .before .before .before .before .before .pre in (
+      answer-lands _ _ _ _ (c .before .before .before .before .before .before .before .before .before .before .before .before .before .before .fits .value .fits) (c .before .before .answer .ensures) (rw (c .before .before .before .mapper-at .ensures, c .before .before .before .before .before .cartridge-at .ensures) (P .1 .1 .0)),
+      (has-room _ _ 1 (sym (c .before .before .before .before .before .before .before .before .full .ensures) ∙ c .before .before .before .before .before .before .before .if1 .left), P .1 .1 .1),
     )
+
+keeps-requires : tie.Need-keeps-requires
+keeps-requires c κs = search needs
 
 put-used-requires : tie.Need-put-used-requires
 put-used-requires c κs = search needs
@@ -59,19 +63,21 @@ same-length-4 : tie.Need-same-length-4
 same-length-4 c = search needs
 
 returns-2 : tie.Need-returns-2
-returns-2 c = (
-  c .before .before .put-used .ensures ∙ sym (mapping-kept _ (λ k. c .before .before .before .before .before .before .before .before .before .before .before .before .before .before .before .before .before .before .before .before .before .before .before .before .slice-known .given k .fits) _ _ (c .before .before .before .before .before .before .before .before .before .before .before .before .before .before .mapper-at2 .ensures) (mapped-sound _ (c .before .before .before .before .before .before .before .before .before .before .before .before .before .before .before .before .before .before .before .before .before .before .before .before .before .pre .0 .0))),
-  λ m p q e. save-done m (p ∙ sym (c .before .before .before .before .before .before .before .before .before .before .before .before .before .before .before .before .cartridge-at .ensures)) (q ∙ sym (c .before .before .before .before .before .before .before .before .before .before .before .before .before .before .mapper-at2 .ensures)) (e ∙ sym (c .before .before .before .before .before .before .before .before .before .before .before .before .before .before .before .before .before .before .before .before .used-at .ensures)) _ _ _ _
-      (sym (c .before .before .before .before .before .before .before .before .before .before .before .before .before .before .before .before .before .before .before .full .ensures) ∙ c .before .before .before .before .before .before .before .before .before .before .before .before .before .before .before .before .before .before .if1 .left) (sym (c .before .before .before .before .before .before .before .before .before .before .before .before .before .keeps .ensures (c .before .before .before .before .before .before .before .before .before .before .before .before .if2 .taken) _ _)) (c .before .before .before .before .before .before .before .before .before .before .before .answer .ensures) (c .before .before .before .before .before .before .before .before .store-answer .ensures),
-)
+returns-2 c =
+    let P = c .before .before .before .before .before .before .before .before .before .before .before .before .before .before .before .before .before .before .before .before .before .before .before .before .before .pre in
+    record {
+      mapper = _;
+      used = _;
+      image = c .before .before .put-used .ensures ∙ sym (mapping-kept _ (λ k. c .before .before .before .before .before .before .before .before .before .before .before .before .before .before .before .before .before .before .before .before .before .before .before .before .slice-known .given k .fits) _ _ (c .before .before .before .before .before .before .before .before .before .before .before .before .before .before .mapper-at .ensures) (mapped-sound _ (P .0 .0)));
+      saved = λ m p q e. save-done m (p ∙ sym (c .before .before .before .before .before .before .before .before .before .before .before .before .before .before .before .before .cartridge-at .ensures)) (q ∙ sym (c .before .before .before .before .before .before .before .before .before .before .before .before .before .before .mapper-at .ensures)) (e ∙ sym (c .before .before .before .before .before .before .before .before .before .before .before .before .before .before .before .before .before .before .before .before .used-at .ensures)) _ _ _ _
+          (sym (c .before .before .before .before .before .before .before .before .before .before .before .before .before .before .before .before .before .before .before .full .ensures) ∙ c .before .before .before .before .before .before .before .before .before .before .before .before .before .before .before .before .before .before .if1 .left) (sym (c .before .before .before .before .before .keeps .ensures (c .before .before .before .before .if2 .taken) _ _)) (c .before .before .before .before .before .before .before .before .before .before .before .before .before .answer .ensures) (c .before .before .before .before .before .before .before .before .before .before .store-answer .ensures);
+    }
 
-store-save-requires : tie.Need-store-save-requires
-store-save-requires c κs = rw (c .before .before .before .before .mapper-at2 .ensures, c .before .before .before .before .before .before .cartridge-at .ensures) (c .before .before .before .before .before .before .before .before .before .before .before .before .before .before .before .pre .1)
+put-mapper-requires : tie.Need-put-mapper-requires
+put-mapper-requires c κs = search needs
 
-put-mapping-requires : tie.Need-put-mapping-requires
-put-mapping-requires c κs =
-    let P = c .before .before .before .before .before .before .before .before .before .before .before .before .before .before .before .before .before .before .before .before .before .pre in
-    (P .0 .0 .size, mapping-slim _ _ _ _ (c .before .before .before .before .before .store-save .ensures) (rw (c .before .before .before .before .before .before .before .before .before .before .mapper-at2 .ensures) (P .0 .1 .0)) (rw (c .before .before .before .before .before .before .before .before .before .before .mapper-at2 .ensures, c .before .before .before .before .before .before .before .before .before .before .before .before .cartridge-at .ensures) (P .0 .1 .1)))
+put-used-requires-2 : tie.Need-put-used-requires-2
+put-used-requires-2 c κs = let size = c .before .before .before .before .before .before .before .before .before .before .before .before .before .before .before .before .before .before .before .before .before .before .before .before .before .before .pre .0 .0 .size in omega arith
 
 same-length-5 : tie.Need-same-length-5
 same-length-5 c = search needs
@@ -83,10 +89,16 @@ same-length-7 : tie.Need-same-length-7
 same-length-7 c = search needs
 
 returns-3 : tie.Need-returns-3
-returns-3 c = (
-  c .before .before .put-mapping .ensures,
-  λ m p q e. c .before .before .before .before .before .before .before .before .store-save .ensures m (p ∙ sym (c .before .before .before .before .before .before .before .before .before .before .before .before .before .before .before .cartridge-at .ensures)) (q ∙ sym (c .before .before .before .before .before .before .before .before .before .before .before .before .before .mapper-at2 .ensures)) (e ∙ sym (c .before .before .before .before .before .before .before .before .before .before .before .before .before .before .before .before .before .before .before .used-at .ensures)),
-)
+returns-3 c =
+    let P = c .before .before .before .before .before .before .before .before .before .before .before .before .before .before .before .before .before .before .before .before .before .before .before .before .before .before .before .before .before .pre in
+    let a = c .before .before .before .before .before .before .before .before .before .before .before .before .before .before .before .before .before .before .before .before .before .before .before .before .before .before .before .before .before .args in
+    record {
+      mapper = after (coreIn (now (a .image)) .cartridge) (coreIn (now (a .image)) .mapper) (a .at) (a .value);
+      used = c .before .before .before .before .before .before .before .before .before .before .before .before .before .before .store-answer .result;
+      image = c .before .before .put-used2 .ensures ∙ rw (c .before .before .before .before .before .before .put-mapper .ensures) (used-over _ (λ k. c .before .before .before .before .before .before .before .before .before .before .before .before .before .before .before .before .before .before .before .before .before .before .before .before .before .before .before .before .slice-known .given k .fits) (P .0 .0 .size) _ _ _);
+      saved = λ m p q e. save-done m (p ∙ sym (c .before .before .before .before .before .before .before .before .before .before .before .before .before .before .before .before .before .before .before .before .cartridge-at .ensures)) (q ∙ sym (c .before .before .before .before .before .before .before .before .before .before .before .before .before .before .before .before .before .before .mapper-at .ensures)) (e ∙ sym (c .before .before .before .before .before .before .before .before .before .before .before .before .before .before .before .before .before .before .before .before .before .before .before .before .used-at .ensures)) _ _ _ _
+          (sym (c .before .before .before .before .before .before .before .before .before .before .before .before .before .before .before .before .before .before .before .before .before .before .before .full .ensures) ∙ c .before .before .before .before .before .before .before .before .before .before .before .before .before .before .before .before .before .before .before .before .before .before .if1 .left) (rw (c .before .before .before .before .before .before .before .before .before .before .before .before .before .before .before .before .before .before .mapper-at .ensures, c .before .before .before .before .before .before .before .before .before .before .before .before .before .before .before .before .before .before .before .before .cartridge-at .ensures)) (c .before .before .before .before .before .before .before .before .before .before .before .before .before .before .before .before .before .answer .ensures) (c .before .before .before .before .before .before .before .before .before .before .before .before .before .before .store-answer .ensures);
+    }
 
 pub put-save-spec : {M : Type 1} → statement M
 put-save-spec =
@@ -94,21 +106,20 @@ put-save-spec =
     (tie.spec
     used-at-requires
     full-requires
-    mapper-at-requires
     same-length
     returns
     cartridge-at-requires
-    mapper-at-requires-2
-    keeps-requires
+    mapper-at-requires
     answer-requires
     store-answer-requires
+    keeps-requires
     put-used-requires
     same-length-2
     same-length-3
     same-length-4
     returns-2
-    store-save-requires
-    put-mapping-requires
+    put-mapper-requires
+    put-used-requires-2
     same-length-5
     same-length-6
     same-length-7

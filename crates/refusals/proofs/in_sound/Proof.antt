@@ -1,6 +1,6 @@
 -- By both ends.
 use Rattle.refusals.specs.Refusal.{inSound}
-use borrow.Author.Tests.{lt-ltb, le-ltb, lt-leb, le-leb}
+use borrow.Author.Tests.{lt-leb, le-leb}
 use Rattle.refusals.proofs.in_sound.Statement.{statement}
 use Rattle.refusals.proofs.in_sound.Tie as tie
 

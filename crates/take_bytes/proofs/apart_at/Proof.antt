@@ -1,5 +1,4 @@
 -- As `other_at`.
-use borrow.Author.Needs.{needs}
 use Rattle.take_bytes.proofs.apart_at.Statement.{statement}
 use Rattle.take_bytes.proofs.apart_at.Tie as tie
 

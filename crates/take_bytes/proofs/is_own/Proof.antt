@@ -2,7 +2,6 @@
 use mathlib.Core.Logic.{inl, inr}
 use borrow.Author.Tests.{ltb-true}
 use Rattle.rules.proofs.Tests.{untrue}
-use borrow.Author.Needs.{needs}
 use Rattle.take_bytes.proofs.is_own.Statement.{statement}
 use Rattle.take_bytes.proofs.is_own.Tie as tie
 

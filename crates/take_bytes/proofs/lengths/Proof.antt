@@ -1,7 +1,6 @@
 -- By the groups that the lengths follow.
 use mathlib.Core.Path.{sym, ap, _∙_}
 use mathlib.Core.Bool.{Bool, cond}
-use Prim.Native.Nat.{ℕ}
 use Rattle.image.proofs.OpenLaws.{load-length}
 use Rattle.take_bytes.proofs.ByteLaws.{lengths-by}
 use borrow.Author.Needs.{needs}

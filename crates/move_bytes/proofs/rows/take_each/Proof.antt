@@ -1,13 +1,13 @@
 -- The invariant: the bytes so far are those of the bus. The measure is what is left of them.
-use mathlib.Core.Path.{_≡_, refl, _∙_}
-use Prim.Native.Nat.{ℕ, _+_, _-_, _≤_, _<_}
+use mathlib.Core.Path.{_≡_, _∙_}
+use Prim.Native.Nat.{_+_, _-_, _≤_, _<_}
 use native.Mathlib.Omega.{arith}
 use denote.Ref.{now}
 use lib.ListN.{length, length-set}
 use Rattle.image.specs.Load.{loadCall}
 use Rattle.memory.specs.World.{fixed}
 use Rattle.mmu.specs.Access.{readByte}
-use Rattle.move_bytes.proofs.RowLaws.{Filled, filled-none, filled-more, filled-all}
+use Rattle.move_bytes.proofs.RowLaws.{Filled, filled-more, filled-all}
 use borrow.Author.Needs.{needs}
 use Rattle.move_bytes.proofs.rows.take_each.Statement.{statement}
 use Rattle.move_bytes.proofs.rows.take_each.Tie as tie

@@ -1,6 +1,5 @@
 -- Refused by the image or the lengths, or too long, or the list.
 use mathlib.Core.Path.{sym, _∙_}
-use native.Mathlib.Omega.{arith}
 use Rattle.refusals.proofs.Answers.{both-pass}
 use Rattle.quick_reads.proofs.BlockLaws.{block-refused, block-long, block-done}
 use Rattle.quick_reads.proofs.ReadLaws.{read-ready}

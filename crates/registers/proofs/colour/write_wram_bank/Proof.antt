@@ -1,6 +1,6 @@
 -- In colour the bank is selected, else the byte is stored.
 use mathlib.Core.Path.{sym, _∙_}
-use Rattle.rules.proofs.Tests.{cond-true, cond-false}
+use Rattle.rules.proofs.Tests.{cond-false}
 use Rattle.registers.specs.Colour.{wramBankPut}
 use borrow.Author.Needs.{needs}
 use Rattle.registers.proofs.colour.write_wram_bank.Statement.{statement}

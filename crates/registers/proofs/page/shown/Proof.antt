@@ -1,7 +1,6 @@
 -- A named register by its own arm; the rest of the page by the laws of proofs/Rest.antt.
 use Rattle.registers.proofs.Rest.{rest-read, low-read, sound-read, high-read, offset-fits, offset-below}
 use Rattle.registers.specs.Page.{shownAs}
-use denote.Ref.{now}
 use mathlib.Core.Path.{sym, _∙_}
 use borrow.Author.Needs.{needs}
 use Rattle.registers.proofs.page.shown.Statement.{statement}
