@@ -1,5 +1,11 @@
 // Entries for a mapper's own two calls, on the mapper that the image holds. They touch neither save nor log.
+ghost use mathlib.Core.Bool.{true};
 ghost use mathlib.Core.Path.{_≡_};
+ghost use lib.ListN.{length};
+ghost use Rattle.image.specs.Layout.{imageLen};
+ghost use Rattle.image.specs.Load.{cartridgeOf, registersIn};
+ghost use Rattle.image.specs.Patches.{fields};
+ghost use Rattle.mbc.specs.Mbc as mbc;
 ghost use Rattle.entry.specs.Entry.{given, mapperReadEntry, answerNumber, mapped, mapperWriteEntry};
 use mbc::Answer;
 use mbc::Mapper;
@@ -37,6 +43,19 @@ fn answer_number(answer: Answer) -> u32
     savelog::record_number(at % savelog::ADDRESS_END, value)
 }
 
+// The record of what the image's mapper answers. Below 8000 nothing is stored.
+fn record_of(image: &[u8], index: u16, byte: u8) -> u32
+    requires { ⌜ (length (now image) ≡ imageLen) × (mbc.mapped index ≡ true) ⌝ }
+    ensures { λ r. ⌜ r ≡ answerNumber (mbc.answer (cartridgeOf (fields (now (image .entry)))) (mbc.mapperOf (registersIn (fields (now (image .entry))))) index byte) ⌝ }
+{
+    if index < 0x8000 {
+        return 0;
+    }
+    let mapper = image::mapper_at(image);
+    let cartridge = image::cartridge_at(image);
+    answer_number(mapper.answer(cartridge, index, byte))
+}
+
 // What the mapper answers, and its registers in the image.
 #[no_mangle]
 pub extern "C" fn pouch_mapper_write(image: &mut [u8], index: u16, byte: u8, value: &mut u32) -> u8
@@ -47,16 +66,11 @@ pub extern "C" fn pouch_mapper_write(image: &mut [u8], index: u16, byte: u8, val
         *value = 0;
         return number;
     }
-    let mapper = Mapper::from_registers(image::registers_at(image));
-    let cartridge = image::cartridge_at(image);
-    let written = mapper.write_byte(cartridge, index, byte);
-    if written.number != numbers::DONE {
+    if !mbc::is_mapped(index) {
         *value = 0;
-        return written.number;
+        return numbers::OUTSIDE;
     }
-    let answer = written.answer;
-    *value = answer_number(answer);
-    let after = written.mapper;
-    image::put_mapping(image, after, image::used_at(image));
-    written.number
+    *value = record_of(image, index, byte);
+    put_bytes::put_mapper(image, index, byte);
+    numbers::DONE
 }
