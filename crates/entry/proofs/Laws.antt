@@ -1,9 +1,8 @@
--- What an entry needs: an image that was loaded has its length and a state in range, and every call leaves a state in range.
-use mathlib.Core.Bool.{Bool, true, not}
+-- What an entry needs: every call leaves a state in range.
+use mathlib.Core.Bool.{Bool, true}
 use mathlib.Core.List.{List}
 use mathlib.Core.Path.{_≡_, refl, sym, ap, _∙_}
 use Prim.Native.Nat.{ℕ}
-use native.Mathlib.Omega.{arith}
 use lib.Dec.{eqb}
 use lib.ListN.{length}
 use Rattle.bus.proofs.Passes.{write-passes}
@@ -19,18 +18,10 @@ use Rattle.dispatch.specs.declared.Call.{Call}
 use Rattle.dispatch.specs.declared.Call.the-variants as call
 use Rattle.dispatch.specs.declared.Performed.{Performed}
 use Rattle.dispatch.specs.declared.StateCall.{StateCall}
-use Rattle.image.proofs.OpenLaws.{load-length, load-storable}
-use Rattle.image.specs.Layout.{imageLen}
-use Rattle.image.specs.Load.{storable, loadCall}
-use Rattle.image.specs.declared.Loaded.{Loaded}
-use Rattle.mbc.specs.Mbc as mbc
-use Rattle.mbc.specs.declared.cartridge.Cartridge.{Cartridge}
-use Rattle.mbc.specs.declared.mbc.Answer.the-variants.{NotStored}
-use Rattle.mbc.specs.declared.mbc.Mapper.{Mapper}
-use Rattle.mbc.specs.declared.mbc.WriteByte.{WriteByte}
-use Rattle.memory.proofs.Laws.{used-range, mapper-kept}
+use Rattle.image.specs.Load.{storable}
+use Rattle.memory.proofs.Laws.{used-range}
 use Rattle.memory.specs.Ranges.{stateInRange, inRange}
-use Rattle.memory.specs.World.{World, Fixed, withUsed, withMapper}
+use Rattle.memory.specs.World.{World, Fixed, withUsed}
 use Rattle.memory.specs.declared.Memory.{Memory}
 use Rattle.mmu.proofs.Laws.{write-stays, word-stays, transfer-stays}
 use Rattle.mmu.specs.Access.{Ready}
@@ -44,12 +35,6 @@ use Rattle.registers.specs.Transfers.{oamCopy, blockCopy}
 use Rattle.rules.proofs.Tests.{both-true, by-cond}
 use Rattle.savelog.proofs.Use.{use-wider}
 use Rattle.savelog.specs.Log.{logLimit, useInRange}
-
--- an image that was loaded
-pub loaded-right : (l : List ℕ) {d : Loaded} → d ≡ loadCall l → d .number ≡ 0 → (length l ≡ imageLen) × (storable (d .state) ≡ true)
-loaded-right l {d} e z =
-    let h = sym (ap (λ (a : Loaded). a .number) e) ∙ z in
-    (load-length l h, ap (λ (a : Loaded). storable (a .state)) e ∙ load-storable l h)
 
 kept-storable : {m n : Memory} → Kept m n → storable m ≡ true → storable n ≡ true
 kept-storable {m} {n} k h = let p = parts m h in joins n (k .range (p .0)) (rw (k .used) (p .1))
@@ -101,24 +86,6 @@ module _ (x : Fixed) (w : World) (h : storable (w .state) ≡ true) where
   step-storable call.DoHdma =
       by-unless Fine _ w _ (λ e. stays-storable w (in-log e) _ (transfer-stays x w (ready e .holds) 1 (blockCopy (w .state)) 0)) (λ f. h)
   step-storable (call.State c) = state-storable (w .state) c h
-
--- a mapper's own write that is done
-mapper-after : (c : Cartridge) (m : Mapper) (k v : ℕ) → mbc.writeByte c m k v .number ≡ 0 → mbc.writeByte c m k v .mapper ≡ mbc.after c m k v
-unfolding mbc.writeByte
-mapper-after c m k v =
-    by-cond (λ (w : WriteByte). w .number ≡ 0 → w .mapper ≡ mbc.after c m k v) (not (mbc.inRange c m)) (mbc.wroteAs 3 m NotStored) _
-    (λ t e. let z : _≡_ {A = ℕ} 3 0 = e in absurd (omega arith))
-    (λ t.
-    by-cond (λ (w : WriteByte). w .number ≡ 0 → w .mapper ≡ mbc.after c m k v) (not (mbc.mapped k)) (mbc.wroteAs 7 m NotStored) _
-    (λ s e. let z : _≡_ {A = ℕ} 7 0 = e in absurd (omega arith)) (λ s e. refl))
-
-pub mapper-storable : (m : Memory) (k v : ℕ) {b : WriteByte} {n : Memory} → b ≡ mbc.writeByte (m .core .cartridge) (m .core .mapper) k v → b .number ≡ 0
-    → n ≡ withMapper m (b .mapper) → storable m ≡ true → storable n ≡ true
-mapper-storable m k v {b} {n} e z f h =
-    let p = parts m h in
-    let a = mapper-after (m .core .cartridge) (m .core .mapper) k v (sym (ap (λ (w : WriteByte). w .number) e) ∙ z) in
-    let q : b .mapper ≡ mbc.after (m .core .cartridge) (m .core .mapper) k v = ap (λ (w : WriteByte). w .mapper) e ∙ a in
-    rw (f, q) (joins (withMapper m (mbc.after (m .core .cartridge) (m .core .mapper) k v)) (mapper-kept m (p .0) k v) (p .1))
 
 -- a fresh bus that was begun
 pub fresh-storable : (kind banks code : ℕ) (colour : Bool) (rom v w save log sound : List ℕ) {b : Begun}

@@ -1,5 +1,4 @@
 -- Each part of a result is read off the outcome.
-use mathlib.Core.List.{List}
 use mathlib.Core.Path.{_≡_, ap, sym, _∙_}
 use Rattle.image.specs.Load.{Stored}
 use Rattle.entry.specs.Entry.{Changed, Given, Left, Fresh, Mapped}
