@@ -93,6 +93,9 @@ pub fn with_used(memory: Memory, used: u16) -> Memory
     next
 }
 
+// The bytes of the sound window.
+pub const SOUND_LEN: usize = 48;
+
 // Bytes of video memory.
 pub fn vram_len(colour: bool) -> usize
     ensures { λ r. ⌜ r ≡ vramLen colour ⌝ }

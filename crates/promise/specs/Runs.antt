@@ -6,7 +6,7 @@ use mathlib.Core.Path.{_≡_}
 use Prim.Native.Nat.{ℕ, _≤_}
 use lib.ListN.{length, take}
 use Rattle.mbc.specs.Mbc.{romLen, ramLen, known, described, cartridgeOf, start as mapperOf}
-use Rattle.memory.specs.Ranges.{vramLen, wramLen}
+use Rattle.memory.specs.Ranges.{vramLen, wramLen, soundLen}
 use Rattle.memory.specs.World.{World, Fixed}
 use Rattle.savelog.specs.Log.{logLimit}
 use Rattle.savelog.specs.declared.Rec.{Rec}
@@ -22,7 +22,7 @@ pub record Fitting (l : Lent) : Type 0 where
   pub wram : length (l .wram) ≡ wramLen (l .colour)
   pub image : length (l .image) ≡ ramLen (cartridgeOf (l .banks) (l .code)) (mapperOf (l .kind))
   pub log : length (l .log) ≤ logLimit
-  pub sound : length (l .sound) ≡ 48
+  pub sound : length (l .sound) ≡ soundLen
 
 -- "any list of bus calls, refused ones too, each on the state and buffers the last one left". Each call is lent its own ROM and sound window for reading,
 -- of any bytes and any length: the host changes the window when it pays a sound write, and a wrong length is refused by 4.

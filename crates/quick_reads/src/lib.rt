@@ -105,7 +105,7 @@ pub fn read_byte(
 {
     if image::mapper_surely_fits(image, rom.len(), save.len()) {
         if image::rest_surely_fits(image, vram.len(), wram.len()) {
-            if sound.len() == 48 {
+            if sound.len() == memory::SOUND_LEN {
                 match memory::region_of(index) {
                     Region::Rom | Region::Vram | Region::Wram => {
                         let byte = lent_at(image, rom, vram, wram, index);
@@ -150,7 +150,7 @@ pub fn read_word(
 {
     if image::mapper_surely_fits(image, rom.len(), save.len()) {
         if image::rest_surely_fits(image, vram.len(), wram.len()) {
-            if sound.len() == 48 {
+            if sound.len() == memory::SOUND_LEN {
                 let low = byte_at(image, rom, vram, wram, save, sound, index);
                 let above = std::num::wrapping_add_u16(index, 1);
                 let high = byte_at(image, rom, vram, wram, save, sound, above);

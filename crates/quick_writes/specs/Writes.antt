@@ -8,6 +8,7 @@ use lib.Dec.{eqb}
 use Rattle.image.specs.Layout.{usedField}
 use Rattle.image.specs.Load.{at}
 use Rattle.image.specs.Patches.{fields}
+use Rattle.memory.specs.Ranges.{soundLen}
 use Rattle.savelog.specs.Log.{logLimit, useInRange}
 
 -- an index whose write starts no transfer
@@ -16,6 +17,6 @@ quick at = cond (eqb at 0xFF46) false (cond (eqb at 0xFF55) false true)
 
 -- what the test of what is lent beside the image says
 pub record LogFits (i : List ℕ) (m n : ℕ) : Type 0 where
-  pub sound : m ≡ 48
+  pub sound : m ≡ soundLen
   pub log : n ≤ logLimit
   pub used : useInRange (at (fields i) usedField) n ≡ true

@@ -39,7 +39,7 @@ fn log_fits(image: &[u8], sound: usize, log: usize) -> bool
     requires { ⌜ length (now image) ≡ imageLen ⌝ }
     ensures { λ r. ⌜ (r ≡ true → LogFits (now (image .entry)) sound log) ⌝ }
 {
-    if sound != 48 {
+    if sound != memory::SOUND_LEN {
         return false;
     }
     if savelog::LOG_LIMIT < log {

@@ -107,7 +107,7 @@ pub fn lengths_are(
     if save != mapper.ram_len(cartridge) {
         return false;
     }
-    sound == 48
+    sound == memory::SOUND_LEN
 }
 
 fn lengths_fit(core: Core, rom: usize, vram: usize, wram: usize, save: usize, sound: usize) -> bool

@@ -22,7 +22,7 @@ use Rattle.mbc.specs.Mbc.{mapperOf, romBank, romLen, ramLen, ramSource, byteOf,
 use Rattle.mbc.specs.PanDocs.{romPlace}
 use Rattle.memory.proofs.Laws.{range-mapper}
 use Rattle.memory.proofs.Regions.{within, region-at}
-use Rattle.memory.specs.Ranges.{stateInRange}
+use Rattle.memory.specs.Ranges.{soundLen, stateInRange}
 use Rattle.memory.specs.Region.{regionOf}
 use Rattle.memory.specs.World.{world, Fixed}
 use Rattle.memory.specs.declared.Core.{Core}
@@ -171,7 +171,7 @@ module _ (i : List ℕ) (z : loadCall i .number ≡ 0) (b : Below 256 i) where
 -- the tests that are enough
 
 module _ (x : Fixed) (i v w s : List ℕ) (b : Below 256 i)
-    (p : MapperFits i (length (x .rom)) (length s)) (q : RestFits i (length v) (length w)) (h : length (x .sound) ≡ 48) where
+    (p : MapperFits i (length (x .rom)) (length s)) (q : RestFits i (length v) (length w)) (h : length (x .sound) ≡ soundLen) where
   pub surely-loaded : loadCall i .number ≡ 0
   surely-loaded = surely-loads i b p q
 

@@ -7,6 +7,7 @@ use lib.ListN.{length}
 use Rattle.image.specs.Load.{loadCall, banksOf}
 use Rattle.image.specs.Patches.{fields}
 use Rattle.mbc.specs.Mbc.{romLen, ramLen}
+use Rattle.memory.specs.Ranges.{soundLen}
 use Rattle.memory.specs.declared.region.Region.{Region}
 use Rattle.memory.specs.declared.region.Region.the-variants.{Rom, Vram, Save, Wram, Oam, Page}
 use Rattle.numbers.specs.Numbers.{done}
@@ -15,7 +16,7 @@ use Rattle.numbers.specs.Numbers.{done}
 pub record Lent (i s x : List ℕ) : Type 0 where
   pub number : loadCall i .number ≡ done
   pub save : length s ≡ ramLen (loadCall i .state .core .cartridge) (loadCall i .state .core .mapper)
-  pub sound : 48 ≤ length x
+  pub sound : soundLen ≤ length x
 
 -- an image that is taken, with what lengths the banks that it selects ask for
 pub record Reached (i m v w : List ℕ) : Type 0 where
