@@ -34,6 +34,13 @@ module _ (l : List ℕ) (bit w v : ℕ) where
       ap (λ (i : ℕ). packed (eights i) (putAt l bit w v)) put-length
       ∙ pack-unpack (eights (length l)) n (subst (λ (x : ℕ). n < 2 ^ x) (sym (bits-eights (length l))) k)
 
+pub puts-length : (bit : ℕ) (ws : List ℕ) (ps : List (ℕ × ℕ)) (l : List ℕ) → length (putFields bit ws ps l) ≡ length l
+puts-length bit ws [] l = refl
+puts-length bit ws (p ∷ ps) l =
+    let at = bit + bits (take (p .0) ws) in
+    let w = getD ws (p .0) 0 in
+    puts-length bit ws ps (putAt l at w (p .1)) ∙ put-length l at w (p .1)
+
 -- The fields of a layout
 
 around : (ws : List ℕ) (k : ℕ) → bits (take k ws) + (getD ws k 0 + bits (drop (suc k) ws)) ≡ bits ws
