@@ -10,7 +10,7 @@ use lib.ListN.{length, take, set, length-append, length-set}
 use lib.Seq.{take-at, set-append-left}
 use Rattle.packing.specs.Packing.{Below, bits, repacked, eights, fives}
 use Rattle.places.specs.Places.{putAt, setAll}
-use Rattle.places.proofs.Puts.{put-joined, own, put-own}
+use Rattle.places.proofs.Puts.{put-below, puts-length, put-joined, put-over, own, put-own}
 use Rattle.mbc.specs.Mbc.{mapperOf, registersOf, sound}
 use Rattle.mbc.specs.declared.held.Registers.{Registers}
 use Rattle.mbc.specs.declared.mbc.Mapper.{Mapper}
@@ -132,19 +132,28 @@ module _ (l : List ℕ) (below : Below 256 l) where
       ∙ put-again (20 ∷ 23 ∷ 24 ∷ 25 ∷ 26 ∷ 27 ∷ []) (usedFields u)
 
 -- the image's own kind and log use
-pub registers-put : (l : List ℕ) → Below 256 l → length l ≡ imageLen → (p : Mapper) → Slim p → registersOf p .kind ≡ registersIn (fields l) .kind
-    → put (numbersFields (registersOf p)) l ≡ mappingPut l p (at (fields l) usedField)
+pub registers-put : (l : List ℕ) → Below 256 l → length l ≡ imageLen → (r : Registers) → Fits (registersFields r) → r .kind ≡ registersIn (fields l) .kind
+    → (p : Mapper) → r ≡ registersOf p → put (numbersFields r) l ≡ mappingPut l p (at (fields l) usedField)
 unfolding mappingPut
-registers-put l below size p f e =
-    let ps = numbersFields (registersOf p) in
+registers-put l below size r f e p i =
+    let ps = numbersFields r in
     let l' = put ps l in
     let u = at (fields l) usedField in
     let o = put-in l size below ps (f .1) in
     let s : fields l' ≡ setAll ps (fields l) =
     fields-number l' (put-size l size below ps (f .1)) ∙ o .fields ∙ ap (setAll ps) (sym (fields-number l size)) in
     sym
-    (ap (λ (k : ℕ). put ((20, k) ∷ (ps ++ usedFields u)) l) e ∙ put-again l below (20 ∷ []) (ps ++ usedFields u)
+    (ap (λ (x : Registers). put (registersFields x ++ usedFields u) l) (sym i)
+    ∙ ap (λ (k : ℕ). put ((20, k) ∷ (ps ++ usedFields u)) l) e ∙ put-again l below (20 ∷ []) (ps ++ usedFields u)
     ∙ ap (λ (fs : List ℕ). put (usedFields (at fs usedField)) l') (sym s) ∙ put-again l' (o .below) (usedField ∷ []) [])
+
+-- the log use put over another
+pub used-over : (l : List ℕ) → length l ≡ imageLen → (p : Mapper) (u v : ℕ) → u < 65536 → usedPut (mappingPut l p u) v ≡ mappingPut l p v
+unfolding usedPut mappingPut
+used-over l size p u v h =
+    let ps = registersFields (registersOf p) in
+    let n : length (put ps l) ≡ imageLen = puts-length front fieldWidths ps l ∙ size in
+    put-over (put ps l) (put-below _ _ _ _) (front + bits (take usedField fieldWidths)) 16 u v (omega arith) h
 
 -- A byte of OAM or page: the first 512 bytes are these
 

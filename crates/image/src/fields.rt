@@ -19,9 +19,10 @@ ghost use mir.Val.{ofZ, toZ};
 ghost use Rattle.packing.specs.Packing.{Fit};
 ghost use Rattle.places.specs.Places.{fieldAt, putAt, Within};
 ghost use Rattle.mbc.specs.Mbc.{mapperOf, registersOf};
+ghost use Rattle.mbc.specs.declared.mbc.Mapper.{Mapper};
 ghost use Rattle.image.specs.Layout.{imageLen, fieldWidths, fieldValues, usedField};
 ghost use Rattle.image.specs.Load.{banksOf, lcdOf, hdmaOf, joypadOf, clockOf, cartridgeOf, registersIn, coreFrom, at};
-ghost use Rattle.image.specs.Patches.{fields, headFits, mapperFits, tailFits, restFits, Mapped, MapperFits, MachineFits, RestFits, put, Fits, banksFields, linesFields, lcdFields, hdmaFields, joypadFields, clockFields, cartridgeFields, numbersFields, Slim, usedPut, mappingPut, clockPut, groupsFields, coreFields};
+ghost use Rattle.image.specs.Patches.{fields, headFits, mapperFits, tailFits, restFits, Mapped, MapperFits, MachineFits, RestFits, put, Fits, banksFields, linesFields, lcdFields, hdmaFields, joypadFields, clockFields, cartridgeFields, numbersFields, registersFields, Slim, usedPut, mappingPut, clockPut, groupsFields, coreFields};
 
 pub fn banks_at(image: &[u8]) -> Banks
     requires { ⌜ length (now image) ≡ imageLen ⌝ }
@@ -387,7 +388,7 @@ fn put_numbers(image: &mut [u8], r: Registers)
         + r.mode as u16 * 8
         + r.enabled as u16 * 4
         + r.high as u16;
-    places::put_u16(image, layout::ROM_AT, layout::NUMBERS, n);
+    places::put_narrow(image, layout::ROM_AT, layout::NUMBERS, n);
 }
 
 pub fn put_used(image: &mut [u8], used: u16)
@@ -409,11 +410,10 @@ pub fn put_mapping(image: &mut [u8], mapper: Mapper, used: u16)
 }
 
 // The mapper alone, where the image has one of its kind; the log use stays.
-pub fn put_registers(image: &mut [u8], mapper: Mapper)
-    requires { ⌜ (length (now image) ≡ imageLen) × (Slim mapper × (registersOf mapper .kind ≡ registersIn (fields (now image)) .kind)) ⌝ }
-    ensures { λ _. ⌜ now (image .exit) ≡ mappingPut (now (image .entry)) mapper (at (fields (now (image .entry))) usedField) ⌝ }
+pub fn put_registers(image: &mut [u8], r: Registers)
+    requires { ⌜ (length (now image) ≡ imageLen) × (Fits (registersFields r) × (r .kind ≡ registersIn (fields (now image)) .kind)) ⌝ }
+    ensures { λ _. ⌜ ((p : Mapper) → r ≡ registersOf p → now (image .exit) ≡ mappingPut (now (image .entry)) p (at (fields (now (image .entry))) usedField)) ⌝ }
 {
-    let r = mapper.registers();
     put_numbers(image, r);
 }
 

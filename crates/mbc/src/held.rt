@@ -1,8 +1,10 @@
 // A mapper's fields as numbers, as the state image has them.
+use crate::cartridge::Cartridge;
 use crate::mbc::Mapper;
 ghost use mathlib.Core.Path.{_≡_};
+ghost use mathlib.Core.Bool.{true};
 ghost use Rattle.mbc.specs.Registers.{starting, bit};
-ghost use Rattle.mbc.specs.Mbc.{sound};
+ghost use Rattle.mbc.specs.Mbc.{inRange, mapperOf, registersOf, sound, after};
 
 // Those that the mapper lacks hold their starting values.
 pub struct Registers {
@@ -33,6 +35,16 @@ impl Registers {
             enabled: 0,
             high: 0,
         }
+    }
+
+    // The registers after a write, for who has them as numbers.
+    pub fn after(self, cartridge: Cartridge, index: u16, value: u8) -> Registers
+        requires { ⌜ inRange cartridge (mapperOf self) ≡ true ⌝ }
+        ensures { λ r. ⌜ r ≡ registersOf (after cartridge (mapperOf self) index value) ⌝ }
+    {
+        let mapper = Mapper::from_registers(self);
+        let next = mapper.after(cartridge, index, value);
+        next.registers()
     }
 
     // Whether a mapper has them.

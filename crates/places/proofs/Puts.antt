@@ -6,7 +6,7 @@ use native.Mathlib.Nat.{mod-lt, add-comm, mul-assoc, add-mul}
 use native.Mathlib.Omega.{arith}
 use lib.ListN.{length, take, drop, getD, set, length-replicate, replicate-append-replicate}
 use lib.Seq.{take-at}
-use lib.Pow.{pow-pos, pow-add, high, split, mod-mod-pow, mod-pow-add, shr-shr}
+use lib.Pow.{pow-pos, pow-add, high, low, split, mod-mod-pow, mod-pow-add, shr-shr}
 use Rattle.packing.specs.Packing.{Below, Fit, bits, packed, unpacked, repacked, eights}
 use Rattle.packing.proofs.Laws.{below-fit, fit-below, unpack-fit, unpack-pack, unpack-length, unpack-mod, unpack-append, pack-unpack, pack-unpack-mod}
 use Rattle.places.specs.Places.{number, behind, fieldAt, fieldsFrom, replaced, putAt, putFields, FitAll, setAll}
@@ -33,6 +33,13 @@ module _ (l : List ℕ) (bit w v : ℕ) where
       let k : n < 2 ^ (8 * length l) = replaced-lt (number l) (behind l bit w) w v (8 * length l) (number-lt l b) (omega arith) hv in
       ap (λ (i : ℕ). packed (eights i) (putAt l bit w v)) put-length
       ∙ pack-unpack (eights (length l)) n (subst (λ (x : ℕ). n < 2 ^ x) (sym (bits-eights (length l))) k)
+
+pub puts-length : (bit : ℕ) (ws : List ℕ) (ps : List (ℕ × ℕ)) (l : List ℕ) → length (putFields bit ws ps l) ≡ length l
+puts-length bit ws [] l = refl
+puts-length bit ws (p ∷ ps) l =
+    let at = bit + bits (take (p .0) ws) in
+    let w = getD ws (p .0) 0 in
+    puts-length bit ws ps (putAt l at w (p .1)) ∙ put-length l at w (p .1)
 
 -- The fields of a layout
 
@@ -146,6 +153,24 @@ put-joined l b bit v w hi lo h k =
     ∙ ap (λ (i : ℕ). unpacked (eights (length l)) (replaced i d w lo)) (put-number l bit v hi b (omega arith) k)
     ∙ ap (λ (i : ℕ). unpacked (eights (length l)) (replaced (replaced (number l) i v hi) d w lo)) e
     ∙ ap (unpacked (eights (length l))) (replaced-twice (number l) d w v hi lo)
+
+-- A field put twice is as it is put last
+
+replaced-over : (n b w u v : ℕ) → u < 2 ^ w → replaced (replaced n b w u) b w v ≡ replaced n b w v
+unfolding replaced
+replaced-over n b w u v h =
+    let a : replaced n b w u / 2 ^ (w + b) ≡ n / 2 ^ (w + b) = replaced-above n b w u (w + b) (omega arith) h in
+    let c : replaced n b w u % 2 ^ b ≡ n % 2 ^ b = low (n / 2 ^ (w + b) * 2 ^ w + u) b (mod-lt n (pow-pos b)) in
+    rw (a, c)
+
+pub put-over : (l : List ℕ) → Below 256 l → (bit w u v : ℕ) → bit + w ≤ 8 * length l → u < 2 ^ w → putAt (putAt l bit w u) bit w v ≡ putAt l bit w v
+unfolding putAt
+put-over l b bit w u v h k =
+    let l' = putAt l bit w u in
+    let d = behind l bit w in
+    ap (λ (i : ℕ). unpacked (eights i) (replaced (number l') (8 * i - (bit + w)) w v)) (put-length l bit w u)
+    ∙ ap (λ (i : ℕ). unpacked (eights (length l)) (replaced i d w v)) (put-number l bit w u b h k)
+    ∙ ap (unpacked (eights (length l))) (replaced-over (number l) d w u v k)
 
 -- Fields put as they are leave the bytes
 

@@ -4,7 +4,7 @@
 ghost use mathlib.Core.Bool.{cond};
 ghost use mathlib.Core.List.{[], _∷_};
 ghost use mathlib.Core.Path.{_≡_};
-ghost use Prim.Native.Nat.{_+_, _^_, _<_, _≤_};
+ghost use Prim.Native.Nat.{_+_, _*_, _/_, _^_, _<_, _≤_};
 ghost use lib.Dec.{eqb};
 ghost use lib.ListN.{length, take, drop};
 ghost use lib.Seq.{sets};
@@ -76,6 +76,14 @@ pub fn put_field(bytes: &mut [u8], bit: usize, width: usize, value: u64)
 
 pub fn put_u8(bytes: &mut [u8], bit: usize, width: usize, value: u8)
     requires { ⌜ (width ≤ 8) × ((value < 2 ^ width) × Within 16 (now bytes) bit width) ⌝ }
+    ensures { λ _. ⌜ now (bytes .exit) ≡ putAt (now (bytes .entry)) bit width value ⌝ }
+{
+    put_narrow(bytes, bit, width, value as u16);
+}
+
+// A field within two bytes.
+pub fn put_narrow(bytes: &mut [u8], bit: usize, width: usize, value: u16)
+    requires { ⌜ ((bit + width + 7) / 8 * 8 ≤ bit + 16) × ((value < 2 ^ width) × Within 16 (now bytes) bit width) ⌝ }
     ensures { λ _. ⌜ now (bytes .exit) ≡ putAt (now (bytes .entry)) bit width value ⌝ }
 {
     let end = (bit + width + 7) / 8;

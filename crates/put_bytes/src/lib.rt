@@ -22,8 +22,8 @@ pub fn put_mapper(image: &mut [u8], at: u16, value: u8)
     ensures { λ _. ⌜ now (image .exit) ≡ mappingPut (now (image .entry)) (after (coreIn (now (image .entry)) .cartridge) (coreIn (now (image .entry)) .mapper) at value) (coreIn (now (image .entry)) .used) ⌝ }
 {
     let cartridge = image::cartridge_at(image);
-    let mapper = image::mapper_at(image);
-    let next = mapper.after(cartridge, at, value);
+    let r = image::registers_at(image);
+    let next = r.after(cartridge, at, value);
     image::put_registers(image, next);
 }
 

@@ -42,14 +42,14 @@ cast-n-4 c = search needs
 add-n-4 : tie.Need-add-n-4
 add-n-4 c = search needs
 
-put-u16-requires : tie.Need-put-u16-requires
-put-u16-requires c κs = search needs
+put-narrow-requires : tie.Need-put-narrow-requires
+put-narrow-requires c κs = search needs
 
 same-length : tie.Need-same-length
 same-length c = search needs
 
 returns : tie.Need-returns
-returns c = c .before .before .put-u16 .ensures ∙ numbers-put (now (c .before .before .before .before .before .before .before .before .before .before .args .image)) (λ i. c .before .before .before .before .before .before .before .before .before .slice-known .given i .fits) (c .before .before .before .before .before .before .before .before .before .before .pre .0) (c .before .before .before .before .before .before .before .before .before .before .args .r) (c .before .before .before .before .before .before .before .before .before .before .pre .1) _ refl
+returns c = c .before .before .put-narrow .ensures ∙ numbers-put (now (c .before .before .before .before .before .before .before .before .before .before .args .image)) (λ i. c .before .before .before .before .before .before .before .before .before .slice-known .given i .fits) (c .before .before .before .before .before .before .before .before .before .before .pre .0) (c .before .before .before .before .before .before .before .before .before .before .args .r) (c .before .before .before .before .before .before .before .before .before .before .pre .1) _ refl
 
 pub put-numbers-spec : {M : Type 1} → statement M
 put-numbers-spec =
@@ -67,6 +67,6 @@ put-numbers-spec =
     add-n-3
     cast-n-4
     add-n-4
-    put-u16-requires
+    put-narrow-requires
     same-length
     returns)

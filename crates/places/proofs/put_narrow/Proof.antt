@@ -6,8 +6,8 @@ use denote.Ref.{now}
 use Rattle.places.specs.Places.{replaced}
 use Rattle.places.proofs.Laws.{put-window}
 use borrow.Author.Needs.{needs}
-use Rattle.places.proofs.put_u8.Statement.{statement}
-use Rattle.places.proofs.put_u8.Tie as tie
+use Rattle.places.proofs.put_narrow.Statement.{statement}
+use Rattle.places.proofs.put_narrow.Tie as tie
 
 add-end : tie.Need-add-end
 add-end c = search needs
@@ -52,8 +52,8 @@ returns c =
     put-window l (λ i. c .before .before .before .before .before .before .before .slice-known .given i .fits) (end - 2) 2 (omega arith) s w bit v (k .result) (omega arith) (omega arith) (omega arith) r
     (c .before .before .put-two .last .0) (c .before .before .put-two .ensures) (λ i. c .slice-known2 .given i .fits)
 
-pub put-u8-spec : {M : Type 1} → statement M
-put-u8-spec =
+pub put-narrow-spec : {M : Type 1} → statement M
+put-narrow-spec =
     tie.close
     (tie.spec
     add-end
