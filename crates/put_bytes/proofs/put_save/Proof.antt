@@ -95,7 +95,7 @@ returns-3 c =
     record {
       mapper = after (coreIn (now (a .image)) .cartridge) (coreIn (now (a .image)) .mapper) (a .at) (a .value);
       used = c .before .before .before .before .before .before .before .before .before .before .before .before .before .before .store-answer .result;
-      image = c .before .before .put-used2 .ensures ∙ rw (c .before .before .before .before .before .before .put-mapper .ensures) (used-over _ (λ k. c .before .before .before .before .before .before .before .before .before .before .before .before .before .before .before .before .before .before .before .before .before .before .before .before .before .before .before .before .slice-known .given k .fits) (P .0 .0 .size) _ _ _);
+      image = c .before .before .put-used2 .ensures ∙ rw (c .before .before .before .before .before .before .put-mapper .ensures) (used-over _ (P .0 .0 .size) _ _ _ (rw (← c .before .before .before .before .before .before .before .before .before .before .before .before .before .before .before .before .before .before .before .before .before .before .before .before .used-at .ensures) (omega arith)));
       saved = λ m p q e. save-done m (p ∙ sym (c .before .before .before .before .before .before .before .before .before .before .before .before .before .before .before .before .before .before .before .before .cartridge-at .ensures)) (q ∙ sym (c .before .before .before .before .before .before .before .before .before .before .before .before .before .before .before .before .before .before .mapper-at .ensures)) (e ∙ sym (c .before .before .before .before .before .before .before .before .before .before .before .before .before .before .before .before .before .before .before .before .before .before .before .before .used-at .ensures)) _ _ _ _
           (sym (c .before .before .before .before .before .before .before .before .before .before .before .before .before .before .before .before .before .before .before .before .before .before .before .full .ensures) ∙ c .before .before .before .before .before .before .before .before .before .before .before .before .before .before .before .before .before .before .before .before .before .before .if1 .left) (rw (c .before .before .before .before .before .before .before .before .before .before .before .before .before .before .before .before .before .before .mapper-at .ensures, c .before .before .before .before .before .before .before .before .before .before .before .before .before .before .before .before .before .before .before .before .cartridge-at .ensures)) (c .before .before .before .before .before .before .before .before .before .before .before .before .before .before .before .before .before .answer .ensures) (c .before .before .before .before .before .before .before .before .before .before .before .before .before .before .store-answer .ensures);
     }
