@@ -7,7 +7,10 @@ use Rattle.quick_writes.proofs.is_quick.Tie as tie
 
 returns : tie.Need-returns
 unfolding quick
-returns c = let below = c .if1 .taken in rw (ne-eqb _ 0xFF46 (λ e. omega arith), ne-eqb _ 0xFF55 (λ e. omega arith))
+returns c =
+    let i = c .before .args .index in
+    let below = c .if1 .taken in
+    rw (ne-eqb i 0xFF46 (λ e. omega arith), ne-eqb i 0xFF55 (λ e. omega arith))
 
 returns-2 : tie.Need-returns-2
 unfolding quick
