@@ -1,9 +1,10 @@
 /* Pouchrattle for C hosts, the short way: one struct that holds the image and what is lent, calls on it, and a journal that keeps the log safe.
  *
- *     struct pouch_bus bus = { .rom = rom, .rom_len = sizeof rom, .. };       every pointer and length of the struct, sound
+ *     struct pouch_bus bus;
+ *     pouch_bus_lend(&bus, rom, sizeof rom, vram, sizeof vram, wram, sizeof wram, save, sizeof save, save_log, sizeof save_log, sound);
  *     pouch_bus_fresh(&bus, POUCH_MBC1, 2, 2, false);
  *     pouch_bus_write(&bus, 0xA000, 0x2A);
- *     pouch_bus_keep(&bus, journal);                                          once a frame, say: the log's new bytes are in the file
+ *     pouch_bus_keep(&bus, journal);              once a frame, say: the log's new bytes are in the file
  *
  * A read gives the byte or word, any other call the number (enum pouch_number); bus.number has the number of the last call, also after a read. Nothing is
  * checked here: the library does that. Calls on the state alone need no short form: pouch_press(bus.image, sizeof bus.image, POUCH_A). */
@@ -13,6 +14,13 @@
 #include "pouchrattle.h"
 #include <sys/types.h>
 #include <unistd.h>
+
+/* A cast that C and C++ take without a warning. */
+#ifdef __cplusplus
+#define POUCH_SIZE(n) static_cast<size_t>(n)
+#else
+#define POUCH_SIZE(n) ((size_t)(n))
+#endif
 
 /* The memories belong to the host, and must outlive the bus. */
 struct pouch_bus {
@@ -29,8 +37,30 @@ struct pouch_bus {
     uint8_t *log;
     size_t log_len;
     const uint8_t *sound; /* POUCH_SOUND_LEN bytes */
-    uint16_t kept;        /* log bytes that are in the journal already */
+    size_t kept;          /* log bytes that are in the journal already */
 };
+
+/* Fills the struct: the memories, in the order of every call, and an image of zero bytes, which each call but pouch_bus_fresh refuses by 3. */
+static inline void pouch_bus_lend(
+    struct pouch_bus *bus, const uint8_t *rom, size_t rom_len, uint8_t *vram, size_t vram_len, uint8_t *wram, size_t wram_len, uint8_t *save,
+    size_t save_len, uint8_t *log, size_t log_len, const uint8_t *sound)
+{
+    for (size_t i = 0; i < sizeof bus->image; i++)
+        bus->image[i] = 0;
+    bus->number = POUCH_DONE;
+    bus->rom = rom;
+    bus->rom_len = rom_len;
+    bus->vram = vram;
+    bus->vram_len = vram_len;
+    bus->wram = wram;
+    bus->wram_len = wram_len;
+    bus->save = save;
+    bus->save_len = save_len;
+    bus->log = log;
+    bus->log_len = log_len;
+    bus->sound = sound;
+    bus->kept = 0;
+}
 
 static inline uint8_t pouch_bus_fresh(struct pouch_bus *bus, uint8_t kind, uint16_t banks, uint8_t code, bool colour)
 {
@@ -102,10 +132,10 @@ static inline bool pouch_bus_keep(struct pouch_bus *bus, int journal)
     uint16_t used;
     bus->number = pouch_log_used(bus->image, sizeof bus->image, &used);
     while (bus->kept < used) {
-        ssize_t n = write(journal, bus->log + bus->kept, (size_t)(used - bus->kept));
+        ssize_t n = write(journal, bus->log + bus->kept, used - bus->kept);
         if (n <= 0)
             return false;
-        bus->kept = (uint16_t)(bus->kept + n);
+        bus->kept += POUCH_SIZE(n);
     }
     if (bus->number == POUCH_DONE && used > bus->log_len / 2) {
         bus->number = pouch_clear_log(bus->image, sizeof bus->image);
@@ -140,5 +170,7 @@ static inline uint8_t pouch_bus_recover(uint8_t *save, size_t save_len, const ui
     } while (number == POUCH_DONE && journal_len > 0);
     return number;
 }
+
+#undef POUCH_SIZE
 
 #endif

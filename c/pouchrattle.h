@@ -90,6 +90,10 @@ enum pouch_kind {
     POUCH_MBC2 = 2      /* 2, 4, 8, 16 ROM banks, a save of 512 bytes, RAM code 0 */
 };
 
+#define POUCH_VERSION_MAJOR 0
+#define POUCH_VERSION_MINOR 2
+#define POUCH_VERSION_PATCH 0
+
 /* Lengths in bytes. */
 #define POUCH_IMAGE_LEN 665
 #define POUCH_ROM_BANK_LEN 16384

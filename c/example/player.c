@@ -98,10 +98,8 @@ int main(int count, char **words)
     require(journal >= 0, "hero.journal");
     recover(folder, journal);
 
-    struct pouch_bus bus = {
-        .rom = rom, .rom_len = sizeof rom, .vram = vram, .vram_len = sizeof vram, .wram = wram, .wram_len = sizeof wram,
-        .save = save, .save_len = sizeof save, .log = save_log, .log_len = sizeof save_log, .sound = sound,
-    };
+    struct pouch_bus bus;
+    pouch_bus_lend(&bus, rom, sizeof rom, vram, sizeof vram, wram, sizeof wram, save, sizeof save, save_log, sizeof save_log, sound);
     pouch_bus_fresh(&bus, POUCH_MBC1, 2, 2, true);
     pouch_bus_write(&bus, 0x0000, 0x0A); /* the mapper lets save writes in */
 

@@ -10,14 +10,15 @@ static uint8_t save_log[300], sound[POUCH_SOUND_LEN];
 /* Sixteen bytes from an index on, as the processor reads them. */
 static void show(struct pouch_bus *bus, uint16_t index)
 {
-    char text[17] = {0};
+    uint8_t bytes[16];
+    pouch_bus_read_block(bus, index, bytes, sizeof bytes);
     printf("  %04X ", index);
-    for (uint16_t i = 0; i < 16; i++) {
-        uint8_t byte = pouch_bus_read(bus, (uint16_t)(index + i));
-        text[i] = byte >= ' ' && byte <= '~' ? (char)byte : '.';
-        printf(" %02X", byte);
-    }
-    printf("  %s\n", text);
+    for (size_t i = 0; i < sizeof bytes; i++)
+        printf(" %02X", bytes[i]);
+    printf("  ");
+    for (size_t i = 0; i < sizeof bytes; i++)
+        putchar(bytes[i] >= ' ' && bytes[i] <= '~' ? bytes[i] : '.');
+    putchar('\n');
 }
 
 static void show_both(struct pouch_bus *bus, const char *when)
@@ -33,14 +34,13 @@ int main(void)
     uint8_t was[sizeof save];
     memcpy(was, save, sizeof save);
 
-    struct pouch_bus bus = {
-        .rom = rom, .rom_len = sizeof rom, .vram = vram, .vram_len = sizeof vram, .wram = wram, .wram_len = sizeof wram,
-        .save = save, .save_len = sizeof save, .log = save_log, .log_len = sizeof save_log, .sound = sound,
-    };
+    struct pouch_bus bus;
+    pouch_bus_lend(&bus, rom, sizeof rom, vram, sizeof vram, wram, sizeof wram, save, sizeof save, save_log, sizeof save_log, sound);
     pouch_bus_fresh(&bus, POUCH_MBC1, 2, 2, true);
     pouch_bus_write(&bus, 0x0000, 0x0A); /* the mapper lets save writes in */
-    for (uint16_t i = 0; i < 32; i++)
-        pouch_bus_write(&bus, (uint16_t)(0xC000 + i), (uint8_t)(0xE0 + i)); /* tiles */
+    uint8_t tile = 0xE0;
+    for (uint16_t index = 0xC000; index < 0xC020; index++)
+        pouch_bus_write(&bus, index, tile++);
 
     show_both(&bus, "before");
     pouch_bus_write(&bus, 0xFF51, 0xC0); /* from C000 */

@@ -55,14 +55,13 @@ static void allow(rlim_t len)
  * a byte more, so that a record is cut and the next call must go on behind it. */
 static void run(const char *path, size_t log_len, uint32_t writes, uint32_t pace, uint32_t trouble)
 {
-    struct pouch_bus bus = {
-        .rom = rom, .rom_len = sizeof rom, .vram = vram, .vram_len = sizeof vram, .wram = wram, .wram_len = sizeof wram,
-        .save = save, .save_len = sizeof save, .log = save_log, .log_len = log_len, .sound = sound,
-    };
+    struct pouch_bus bus;
+    pouch_bus_lend(&bus, rom, sizeof rom, vram, sizeof vram, wram, sizeof wram, save, sizeof save, save_log, log_len, sound);
     memset(save, 0, sizeof save);
     memset(recovered, 0, sizeof recovered);
     int file = open(path, O_RDWR | O_CREAT | O_TRUNC | O_APPEND, 0644);
     require(file >= 0, path);
+    require(pouch_bus_write(&bus, 0xC000, 1) == POUCH_OUT_OF_RANGE && !pouch_bus_keep(&bus, file), "a bus that is lent and not yet fresh is refused");
     require(pouch_bus_fresh(&bus, POUCH_MBC1, 2, 2, false) == POUCH_DONE && pouch_bus_write(&bus, 0x0000, 0x0A) == POUCH_DONE, "fresh bus");
     for (uint32_t i = 0; i < writes; i++) {
         if (write_number(&bus, i) == POUCH_NO_ROOM) {
