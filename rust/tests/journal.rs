@@ -256,6 +256,7 @@ fn torn_at_every_byte() {
 }
 
 /// pouch_journal_len of c/pouch_bus.h, word by word.
+#[allow(clippy::manual_div_ceil)]
 fn c_rule(journal: &[u8]) -> usize {
     let len = journal.len();
     let mut end = len;
