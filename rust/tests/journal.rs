@@ -358,4 +358,13 @@ fn in_a_file() {
     assert!(fs::read(&path).unwrap() == records(102).0[101 * RECORD_LEN..]);
     fs::remove_file(&path).unwrap();
     assert_eq!(Journal::open(path.join("none")).unwrap_err().kind(), ErrorKind::NotFound);
+
+    // A full disk, and then another that takes what that one did not.
+    let mut memory = bus(96);
+    (0..32).for_each(|i| write(&mut memory, &[(0xA000 + game(i).0, game(i).1)]));
+    let full = Journal::open("/dev/full").unwrap().keep(&mut memory);
+    assert_eq!(full.unwrap_err().kind(), ErrorKind::StorageFull);
+    let mut journal = Journal::new(Vec::new());
+    journal.keep(&mut memory).unwrap();
+    assert!(journal.into_inner() == records(32).0);
 }

@@ -1,5 +1,6 @@
 //! What is said of a cartridge. Reading its header is the host's.
 
+use super::memory::Bytes;
 use crate::refusal::{Expected, Grouped, Which, WrongLength};
 use std::error::Error;
 use std::fmt;
@@ -78,14 +79,10 @@ impl Cartridge {
     }
 }
 
-/// Without the ROM's bytes.
+/// Short: the ROM by its length.
 impl fmt::Debug for Cartridge {
     fn fmt(&self, f: &mut fmt::Formatter) -> fmt::Result {
-        f.debug_struct("Cartridge")
-            .field("rom", &format_args!("{} bytes", self.rom.len()))
-            .field("mbc_type", &self.mbc_type)
-            .field("ram_size", &self.ram_size)
-            .finish()
+        f.debug_struct("Cartridge").field("rom", &Bytes(&self.rom)).field("mbc_type", &self.mbc_type).field("ram_size", &self.ram_size).finish()
     }
 }
 

@@ -51,15 +51,23 @@ pub struct Memory {
     kept: usize,
 }
 
-/// Its memories by their lengths, not by their bytes.
+/// A memory, shown by its length.
+pub(super) struct Bytes<'a>(pub &'a [u8]);
+
+impl fmt::Debug for Bytes<'_> {
+    fn fmt(&self, f: &mut fmt::Formatter) -> fmt::Result {
+        write!(f, "{} bytes", self.0.len())
+    }
+}
+
+/// Short: memories by their lengths.
 impl fmt::Debug for Memory {
     fn fmt(&self, f: &mut fmt::Formatter) -> fmt::Result {
-        let bytes = |memory: &[u8]| format!("{} bytes", memory.len());
         f.debug_struct("Memory")
-            .field("rom", &format_args!("{}", bytes(&self.rom)))
-            .field("vram", &format_args!("{}", bytes(&self.vram)))
-            .field("wram", &format_args!("{}", bytes(&self.wram)))
-            .field("save", &format_args!("{}", bytes(&self.save)))
+            .field("rom", &Bytes(&self.rom))
+            .field("vram", &Bytes(&self.vram))
+            .field("wram", &Bytes(&self.wram))
+            .field("save", &Bytes(&self.save))
             .field("log", &format_args!("{} of {} bytes", self.log().len(), self.log.len()))
             .field("kept", &self.kept)
             .field("screen", &self.host_numbers())
