@@ -98,11 +98,11 @@ fn replace(folder: &Path, name: &str, bytes: &[u8]) -> Outcome<()> {
     Ok(File::open(folder)?.sync_all()?)
 }
 
-/// A file's bytes, none if it is not there.
-fn read(path: &Path) -> Outcome<Vec<u8>> {
+/// A file's bytes, if it is there.
+fn read(path: &Path) -> Outcome<Option<Vec<u8>>> {
     match fs::read(path) {
-        Err(error) if error.kind() == ErrorKind::NotFound => Ok(Vec::new()),
-        other => Ok(other?),
+        Err(error) if error.kind() == ErrorKind::NotFound => Ok(None),
+        other => Ok(Some(other?)),
     }
 }
 
@@ -110,10 +110,10 @@ fn read(path: &Path) -> Outcome<Vec<u8>> {
 fn take_up(folder: &Path, cartridge: &Cartridge) -> Outcome<Vec<u8>> {
     let journal = folder.join("hero.journal");
     let mut save = match read(&folder.join("hero.sav"))? {
-        none if none.is_empty() => vec![0; cartridge.save_len()],
-        file => cartridge.save_from_gameboy_core(&file)?.to_vec(),
+        Some(file) => cartridge.save_from_gameboy_core(&file)?.to_vec(),
+        None => vec![0; cartridge.save_len()],
     };
-    recover_journal(&mut save, &read(&journal)?)?;
+    recover_journal(&mut save, &read(&journal)?.unwrap_or_default())?;
     replace(folder, "hero.sav", &save)?;
     if journal.exists() {
         fs::remove_file(&journal)?;

@@ -9,7 +9,7 @@ use std::io::{Error, ErrorKind, Result as IoResult, Write};
 use std::path::Path;
 
 /// Keeps the log of a bus in a file, or in whatever takes bytes: every record once and in order. With the save as it was when the journal was
-/// empty, `recover_journal` brings a save up to date after a session that ended without warning.
+/// empty, `recover_journal` brings a save up to date after a session that ended without warning. A bus has one journal: what one has taken, no other gets.
 ///
 /// ```
 /// # let cartridge = pouchrattle::Cartridge { rom: vec![0; 32768], mbc_type: pouchrattle::MbcType::Mbc1, ram_size: 2 };

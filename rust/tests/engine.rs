@@ -71,5 +71,7 @@ fn refused_with_words() {
     fs::write(folder.join("hero.sav"), &kept).unwrap();
     let words = "this is a save of another cartridge: byte 9,000 is 01, which this one does not reach";
     assert_eq!(play(&folder, 0).unwrap_err().to_string(), words);
+    fs::write(folder.join("hero.sav"), []).unwrap();
+    assert_eq!(play(&folder, 0).unwrap_err().to_string(), "the save has 0 bytes, and must have 8,192");
     fs::remove_dir_all(&folder).unwrap();
 }

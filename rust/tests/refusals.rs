@@ -72,6 +72,7 @@ fn words() {
     says(built(Mbc1, 2, 5, 0), 3, "the RAM code is 5, and Mbc1 takes 0, 2 or 3");
     says(built(Mbc2, 2, 2, 512), 3, "the RAM code is 2, and Mbc2 takes 0");
     says(built(Mbc1, 2, 3, 8192), 4, "the save has 8,192 bytes, and must have 32,768");
+    says(built(Mbc1, 2, 2, 8191), 4, "the save has 8,191 bytes, and must have 8,192");
     says(built(Mbc2, 2, 0, 32768), 4, "the save has 32,768 bytes, and must have 512");
     says(Memory::with_log(cartridge(RomOnly, 2, 0), false, &[], 1_000_000).err(), 4, "the log has 1,000,000 bytes, and must have at most 65,535");
     says(recover(&mut [0; 513], &[]).err(), 4, "the save has 513 bytes, and must have 0, 512, 8,192 or 32,768");
