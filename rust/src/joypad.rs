@@ -1,18 +1,6 @@
-use crate::Memory;
+//! The joypad.
 
-/// The buttons, by their numbers.
-#[derive(Clone, Copy, Debug, PartialEq, Eq)]
-#[repr(u8)]
-pub enum Button {
-    Up = 0,
-    Down = 1,
-    Left = 2,
-    Right = 3,
-    A = 4,
-    B = 5,
-    Start = 6,
-    Select = 7,
-}
+use crate::{Button, Memory};
 
 /// What was pressed and released since the last update. In the Rust the controller holds which buttons are down, and two marks; here these
 /// are in the bus's state, which `press` and `release` are not given: they wait for `update`. Nothing reads that part of the state before.
@@ -28,21 +16,26 @@ enum Change {
 }
 
 impl Controller {
+    /// Nothing pressed or released yet.
     #[inline]
     pub const fn new() -> Controller {
         Controller { waiting: Vec::new() }
     }
 
+    /// A button goes down. The game sees it after `update`.
     #[inline]
     pub fn press(&mut self, button: Button) {
         self.waiting.push(Change::Press(button));
     }
 
+    /// A button goes up. The game sees it after `update`.
     #[inline]
     pub fn release(&mut self, button: Button) {
         self.waiting.push(Change::Release(button));
     }
 
+    /// Tells the bus what was pressed and released, in order, and shows the buttons to FF00; a new press requests its interrupt if its kind of
+    /// key answers there. Nothing refuses it.
     #[inline]
     pub fn update(&mut self, memory: &mut Memory) {
         for change in self.waiting.drain(..) {

@@ -1,9 +1,10 @@
 //! Pouchrattle for Rust: the verified memory bus of a handheld console, by the names of the crate gameboy_core, so that an engine on that
-//! crate can swap its bus. What differs from there: a write may be refused, the host takes the log off in place of a callback, and sound is
-//! a window of bytes.
+//! crate can swap its bus: where it has `mod mmu;`, `mod timer;`, `mod joypad;` and `pub mod button;`, it says
+//! `use pouchrattle::{button, joypad, mmu, timer};`. What differs from there: a write may be refused, the host takes the log off in place of a
+//! callback, sound is a window of bytes, and fields are functions.
 //!
 //! ```
-//! use pouchrattle::{Button, Cartridge, Controller, Interrupt, MbcType, Memory, Timer};
+//! use pouchrattle::{mmu, Button, Cartridge, Controller, Interrupt, MbcType, Memory, Timer};
 //!
 //! let cartridge = Cartridge { rom: vec![0; 32768], mbc_type: MbcType::Mbc1, ram_size: 2 };
 //! let save = vec![0; cartridge.save_len()];
@@ -11,7 +12,7 @@
 //!
 //! memory.write_byte(0x0000, 0x0A)?; // enables the cartridge's RAM
 //! memory.write_byte(0xA123, 0x56)?;
-//! let log = memory.take_log(); // kept on disk before anything else
+//! let log = memory.take_log(); // kept on disk before anything else; `Journal` does that
 //!
 //! let mut recovered = save;
 //! pouchrattle::recover(&mut recovered, &log)?;
@@ -21,29 +22,29 @@
 //! let mut controller = Controller::new();
 //! controller.press(Button::A);
 //! controller.update(&mut memory);
-//! memory.write_byte(0xFFFF, 0x10)?;
+//! memory.write_byte(mmu::INTERRUPT_ENABLE_INDEX, 0x10)?;
 //! assert_eq!(memory.get_interrupts(), Some(Interrupt::Joypad));
 //! # Ok::<(), pouchrattle::Refusal>(())
 //! ```
 
-#![deny(unsafe_code)]
+#![deny(unsafe_code, missing_docs)]
 
-mod cartridge;
+pub mod button;
 #[allow(unsafe_code)]
 mod entries;
-mod image;
-mod interrupt;
-mod joypad;
-mod memory;
+mod journal;
+pub mod joypad;
+pub mod mmu;
 mod refusal;
-mod savelog;
-mod timer;
+pub mod timer;
 
-pub use cartridge::{Cartridge, MbcType};
-pub use image::{CGBColor, HostNumbers, Image, IMAGE_LEN};
-pub use interrupt::Interrupt;
-pub use joypad::{Button, Controller};
-pub use memory::{Memory, LONGEST_BLOCK, LONGEST_LOG, RECORD_LEN};
-pub use refusal::{Refusal, Written};
-pub use savelog::recover;
+pub use button::Button;
+pub use journal::{journal_len, recover, recover_journal, Journal};
+pub use joypad::Controller;
+pub use mmu::cartridge::{Cartridge, MbcType, NotCut};
+pub use mmu::gpu_cycles::GpuCycles;
+pub use mmu::image::{CGBColor, HostNumbers, Image, IMAGE_LEN};
+pub use mmu::interrupt::Interrupt;
+pub use mmu::{Memory, LONGEST_BLOCK, LONGEST_LOG, RECORD_LEN};
+pub use refusal::{Damaged, Expected, OutOfRange, Refusal, Which, Written, WrongLength};
 pub use timer::Timer;

@@ -1,16 +1,20 @@
+//! The timer.
+
 use crate::{Memory, Refusal};
 
-/// Empty, as the Rust's own: its two counters are in the bus's state.
+/// DIV and TIMA. Empty, as the Rust's own: its two counters are in the bus's state.
 #[derive(Clone, Copy, Debug, Default)]
 pub struct Timer {}
 
 impl Timer {
+    /// There is nothing to say of it.
     #[inline]
     pub const fn new() -> Timer {
         Timer {}
     }
 
-    /// DIV and TIMA after so many cycles. A negative number is refused as too many.
+    /// So many cycles have passed: DIV and TIMA step, and TIMA's overflow requests its interrupt. Refused by `TooManyCycles` over 65,536, and
+    /// for a negative number.
     #[inline]
     pub fn update(&mut self, cycles: i32, memory: &mut Memory) -> Result<(), Refusal> {
         memory.update_timer(cycles as u32)

@@ -3,7 +3,9 @@
 mod common;
 
 use common::{bus, colour, monochrome, rom_byte, with_save, write};
-use pouchrattle::{Button, CGBColor, Controller, HostNumbers, Interrupt, MbcType, Memory, Refusal, Timer, Written, LONGEST_BLOCK};
+use pouchrattle::{
+    Button, CGBColor, Controller, Expected, HostNumbers, Interrupt, MbcType, Memory, Refusal, Timer, Which, Written, WrongLength, LONGEST_BLOCK,
+};
 
 fn after(mut memory: Memory, cycles: i32) -> Memory {
     Timer::new().update(cycles, &mut memory).unwrap();
@@ -194,7 +196,8 @@ fn blocks() {
         assert!(block == reads, "{index:04X}");
     }
     let mut long = vec![0xEE; LONGEST_BLOCK + 1];
-    assert_eq!(memory.read_block(0, &mut long), Err(Refusal::WrongLength));
+    let too_long = WrongLength { memory: Which::Block, found: LONGEST_BLOCK + 1, expected: Expected::AtMost(LONGEST_BLOCK) };
+    assert_eq!(memory.read_block(0, &mut long), Err(Refusal::WrongLength(too_long)));
     assert!(long.iter().all(|byte| *byte == 0xEE));
 }
 

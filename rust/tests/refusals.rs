@@ -3,7 +3,7 @@
 mod common;
 
 use common::{bus, cartridge, colour, monochrome, with_save, write};
-use pouchrattle::{MbcType, Memory, Refusal, Timer, LONGEST_LOG, RECORD_LEN};
+use pouchrattle::{recover, Expected, MbcType, Memory, OutOfRange, Refusal, Timer, Which, WrongLength, LONGEST_LOG, RECORD_LEN};
 
 /// A fresh bus over a save of so many bytes: its refusal, if any.
 fn built(mbc_type: MbcType, banks: usize, ram_size: u8, save: usize) -> Option<Refusal> {
@@ -16,37 +16,75 @@ fn descriptions_out_of_range() {
     for (mbc_type, most) in [(RomOnly, 2), (Mbc1, 128), (Mbc2, 16)] {
         let save = cartridge(mbc_type, 0, 0).save_len();
         for banks in [0, 1, 2, 3, 4, 5, 8, 15, 16, 17, 32, 64, 127, 128, 129, 256usize] {
-            let expected = (banks < 2 || banks > most || !banks.is_power_of_two()).then_some(Refusal::OutOfRange);
+            let wrong = banks < 2 || banks > most || !banks.is_power_of_two();
+            let expected = wrong.then_some(Refusal::OutOfRange(OutOfRange::Rom { mbc_type, found: banks * 16384 }));
             assert_eq!(built(mbc_type, banks, 0, save), expected, "{mbc_type:?} {banks}");
         }
     }
     for code in 0..=255 {
-        for mbc_type in [RomOnly, Mbc1] {
+        for (mbc_type, codes) in [(RomOnly, &[0, 2, 3][..]), (Mbc1, &[0, 2, 3]), (Mbc2, &[0])] {
             let save = cartridge(mbc_type, 0, code).save_len();
-            let expected = (![0, 2, 3].contains(&code)).then_some(Refusal::OutOfRange);
+            let expected = (!codes.contains(&code)).then_some(Refusal::OutOfRange(OutOfRange::RamSize { mbc_type, found: code }));
             assert_eq!(built(mbc_type, 2, code, save), expected, "{mbc_type:?} {code}");
         }
-        assert_eq!(built(Mbc2, 2, code, 512), (code != 0).then_some(Refusal::OutOfRange));
     }
+}
+
+fn wrong(memory: Which, found: usize, expected: Expected) -> Refusal {
+    Refusal::WrongLength(WrongLength { memory, found, expected })
 }
 
 #[test]
 fn wrong_lengths() {
     use MbcType::*;
-    for (mbc_type, code, right) in [(RomOnly, 0, 0), (Mbc1, 2, 8192), (Mbc1, 3, 32768), (Mbc2, 0, 512)] {
+    for (mbc_type, code, right) in [(RomOnly, 0, 0), (RomOnly, 2, 8192), (Mbc1, 2, 8192), (Mbc1, 3, 32768), (Mbc2, 0, 512)] {
         for save in [0, 1, 511, 512, 513, 8191, 8192, 8193, 32767, 32768, 32769] {
-            assert_eq!(built(mbc_type, 2, code, save), (save != right).then_some(Refusal::WrongLength), "{mbc_type:?} {save}");
+            let expected = (save != right).then_some(wrong(Which::Save, save, Expected::Exactly(right)));
+            assert_eq!(built(mbc_type, 2, code, save), expected, "{mbc_type:?} {save}");
         }
     }
     // The last byte of a bank is missing, or one is too many.
-    for (length, refusal) in [(32767, Refusal::OutOfRange), (32769, Refusal::WrongLength), (49151, Refusal::WrongLength)] {
+    let rom = |found| wrong(Which::Rom, found, Expected::Exactly(32768));
+    let few = Refusal::OutOfRange(OutOfRange::Rom { mbc_type: RomOnly, found: 32767 });
+    for (length, refusal) in [(32767, few), (32769, rom(32769)), (49151, rom(49151))] {
         let mut cartridge = cartridge(RomOnly, 0, 0);
         cartridge.rom = vec![0; length];
         assert_eq!(Memory::new(cartridge, false, &[]).err(), Some(refusal), "{length}");
     }
-    for (log, refusal) in [(0, None), (LONGEST_LOG, None), (LONGEST_LOG + 1, Some(Refusal::WrongLength)), (usize::MAX, Some(Refusal::WrongLength))] {
-        assert_eq!(Memory::with_log(cartridge(RomOnly, 2, 0), false, &[], log).err(), refusal, "{log}");
+    let log = |found| Some(wrong(Which::Log, found, Expected::AtMost(LONGEST_LOG)));
+    for (length, refusal) in [(0, None), (LONGEST_LOG, None), (LONGEST_LOG + 1, log(LONGEST_LOG + 1)), (usize::MAX, log(usize::MAX))] {
+        assert_eq!(Memory::with_log(cartridge(RomOnly, 2, 0), false, &[], length).err(), refusal, "{length}");
     }
+}
+
+/// A refusal's words, and the number that C has for it.
+fn says(refusal: Option<Refusal>, number: u8, words: &str) {
+    let refusal = refusal.expect("a refusal");
+    assert_eq!((refusal.number(), refusal.to_string().as_str()), (number, words));
+}
+
+#[test]
+fn words() {
+    use MbcType::*;
+    says(built(Mbc1, 3, 0, 0), 3, "the ROM has 49,152 bytes, and Mbc1 takes 2, 4, 8, 16, 32, 64 or 128 banks of 16,384");
+    says(built(RomOnly, 4, 0, 0), 3, "the ROM has 65,536 bytes, and RomOnly takes 2 banks of 16,384");
+    says(built(Mbc2, 0, 0, 512), 3, "the ROM has 0 bytes, and Mbc2 takes 2, 4, 8 or 16 banks of 16,384");
+    says(built(Mbc1, 2, 5, 0), 3, "the RAM code is 5, and Mbc1 takes 0, 2 or 3");
+    says(built(Mbc2, 2, 2, 512), 3, "the RAM code is 2, and Mbc2 takes 0");
+    says(built(Mbc1, 2, 3, 8192), 4, "the save has 8,192 bytes, and must have 32,768");
+    says(built(Mbc1, 2, 2, 8191), 4, "the save has 8,191 bytes, and must have 8,192");
+    says(built(Mbc2, 2, 0, 32768), 4, "the save has 32,768 bytes, and must have 512");
+    says(Memory::with_log(cartridge(RomOnly, 2, 0), false, &[], 1_000_000).err(), 4, "the log has 1,000,000 bytes, and must have at most 65,535");
+    says(recover(&mut [0; 513], &[]).err(), 4, "the save has 513 bytes, and must have 0, 512, 8,192 or 32,768");
+    says(recover(&mut [0; 512], &[0x82, 0x00, 0x0F]).err(), 6, "record 0 is damaged: 82 00 0F");
+    let mut memory = monochrome();
+    says(memory.read_block(0, &mut vec![0; 70_000]).err(), 4, "the block has 70,000 bytes, and must have at most 65,536");
+    says(memory.set_image(&[0; pouchrattle::IMAGE_LEN]).err(), 3, "the image holds no state of a bus");
+    says(memory.set_image(colour().image()).err(), 4, "the video memory has 8,192 bytes, and must have 16,384");
+    says(memory.update_timer(65537).err(), 5, "more than 65,536 cycles in one update");
+    says(memory.load(0).err(), 7, "an index below FF00, or a bank or an index outside video memory");
+    let mut full = Memory::with_log(cartridge(RomOnly, 2, 2), false, &[0; 8192], 0).unwrap();
+    says(full.write_byte(0xA000, 0).err(), 2, "the log has no room for this write: keep it, and write again");
 }
 
 #[test]
@@ -107,12 +145,21 @@ fn images() {
     let mut memory = with_save(false);
     write(&mut memory, &[(0xA000, 7)]);
     let before = memory.clone();
-    assert_eq!(memory.set_image(&[0; pouchrattle::IMAGE_LEN]), Err(Refusal::OutOfRange));
+    let no_state = Err(Refusal::OutOfRange(OutOfRange::Image));
+    assert_eq!(memory.set_image(&[0; pouchrattle::IMAGE_LEN]), no_state);
     let mut image = *memory.image();
     image[664] |= 1;
-    assert_eq!(memory.set_image(&image), Err(Refusal::OutOfRange));
-    for other in [with_save(true), bus(MbcType::Mbc1, 4, 2, false), bus(MbcType::Mbc1, 2, 3, false), bus(MbcType::Mbc2, 2, 0, false)] {
-        assert_eq!(memory.set_image(other.image()), Err(Refusal::WrongLength));
+    assert_eq!(memory.set_image(&image), no_state);
+    // Of another cartridge: which memory it would need, how long.
+    for (other, which, found, expected) in [
+        (with_save(true), Which::Vram, 8192, 16384),
+        (bus(MbcType::Mbc1, 4, 2, false), Which::Rom, 32768, 65536),
+        (bus(MbcType::Mbc1, 128, 2, false), Which::Rom, 32768, 2_097_152),
+        (bus(MbcType::Mbc1, 2, 3, false), Which::Save, 8192, 32768),
+        (bus(MbcType::Mbc1, 2, 0, false), Which::Save, 8192, 0),
+        (bus(MbcType::Mbc2, 2, 0, false), Which::Save, 8192, 512),
+    ] {
+        assert_eq!(memory.set_image(other.image()), Err(wrong(which, found, Expected::Exactly(expected))));
     }
     assert!(memory == before);
     assert_eq!(memory.set_image(before.image()), Ok(()));

@@ -3,7 +3,7 @@
 mod common;
 
 use common::{cartridge, rom_byte, with_save, write};
-use pouchrattle::{recover, MbcType, Memory, Refusal, Timer, LONGEST_LOG, RECORD_LEN};
+use pouchrattle::{recover, Damaged, Expected, MbcType, Memory, Refusal, Timer, Which, WrongLength, LONGEST_LOG, RECORD_LEN};
 
 #[test]
 fn corner_12_record() {
@@ -64,7 +64,7 @@ fn a_damaged_log_changes_nothing() {
     for damaged in [[0x00, 0x01, 0xFF], [0x82, 0x00, 0xFF]] {
         let mut save = vec![0x11; 512];
         let log = [[0x80, 0x00, 0x56], damaged].concat();
-        assert_eq!(recover(&mut save, &log), Err(Refusal::Damaged));
+        assert_eq!(recover(&mut save, &log), Err(Refusal::Damaged(Damaged { record: 1, bytes: damaged })));
         assert!(save.iter().all(|&byte| byte == 0x11));
         assert_eq!(recover(&mut save, &log[..2 * RECORD_LEN - 1]), Ok(()));
         assert_eq!(save[0], 0x56);
@@ -73,12 +73,13 @@ fn a_damaged_log_changes_nothing() {
 
 #[test]
 fn recovery_takes_the_lengths_of_saves() {
+    let wrong = |memory, found, expected| Err(Refusal::WrongLength(WrongLength { memory, found, expected }));
     for length in [0, 1, 511, 512, 513, 8191, 8192, 8193, 16384, 32767, 32768, 32769, 65536] {
-        let expected = if [0, 512, 8192, 32768].contains(&length) { Ok(()) } else { Err(Refusal::WrongLength) };
+        let expected = if [0, 512, 8192, 32768].contains(&length) { Ok(()) } else { wrong(Which::Save, length, Expected::AnySave) };
         assert_eq!(recover(&mut vec![0; length], &[]), expected, "{length}");
     }
     let log = vec![0x80; LONGEST_LOG + 1];
-    assert_eq!(recover(&mut [0; 512], &log), Err(Refusal::WrongLength));
+    assert_eq!(recover(&mut [0; 512], &log), wrong(Which::Log, LONGEST_LOG + 1, Expected::AtMost(LONGEST_LOG)));
     assert_eq!(recover(&mut [0; 512], &log[1..]), Ok(()));
 }
 

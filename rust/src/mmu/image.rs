@@ -3,30 +3,41 @@
 /// The bytes of an image: POUCH_IMAGE_LEN.
 pub const IMAGE_LEN: usize = 665;
 
-/// A state of the bus, as document 01 lays it out.
+/// A state of the bus, as document 01 lays it out. Plain data: a host may store it and put it back by `Memory::set_image`, which checks it.
 pub type Image = [u8; IMAGE_LEN];
 
 /// The numbers of the screen that the bus and the host's drawing part share. The first four are fields of the Rust's `Memory`, the others
-/// of its `GpuCycles`.
+/// of its `GpuCycles`. Any values are taken.
 #[derive(Clone, Copy, Debug, Default, PartialEq, Eq)]
 pub struct HostNumbers {
+    /// Whether the screen is off.
     pub screen_disabled: bool,
+    /// The line that is drawn, which FF44 reads.
     pub scan_line: u8,
+    /// Which sources hold the LCD interrupt's line up.
     pub irq48_signal: u8,
+    /// The screen's mode, 0 to 3.
     pub lcd_status_mode: u8,
+    /// As in `GpuCycles`.
     pub screen_enable_delay_cycles: i32,
+    /// As in `GpuCycles`.
     pub cycles_counter: i32,
+    /// As in `GpuCycles`.
     pub aux_cycles_counter: i32,
+    /// As in `GpuCycles`.
     pub window_line: i32,
 }
 
 /// The bytes of all colours: POUCH_COLORS_LEN.
 pub(crate) const COLORS_LEN: usize = 192;
 
-/// Channels of 5 bits.
+/// A colour of a palette: channels of 5 bits, 0 to 31.
 #[derive(Clone, Copy, Debug, PartialEq, Eq)]
 pub struct CGBColor {
+    /// Red.
     pub red: u8,
+    /// Green.
     pub green: u8,
+    /// Blue.
     pub blue: u8,
 }

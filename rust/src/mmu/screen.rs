@@ -1,0 +1,166 @@
+use super::gpu_cycles::GpuCycles;
+use super::image::{CGBColor, HostNumbers, COLORS_LEN};
+use super::memory::Memory;
+use crate::entries::*;
+use crate::refusal::done;
+use std::array;
+
+/// For each of the Rust's fields, the function that reads it and the one that sets it, to any value.
+macro_rules! fields {
+    ($($(#[$doc:meta])* $name:ident, $set:ident: $type:ty;)*) => {
+        /// The fields of the Rust's `Memory` and of its `gpu_cycles`, as functions. A read takes all of them from the image, as `host_numbers` does:
+        /// who wants several calls that. Nothing refuses them.
+        impl Memory {
+            $($(#[$doc])*
+            #[inline]
+            pub fn $name(&self) -> $type {
+                self.host_numbers().$name
+            }
+
+            #[doc = concat!("Sets `", stringify!($name), "`, to any value.")]
+            #[inline]
+            pub fn $set(&mut self, to: $type) {
+                self.set_host_numbers(HostNumbers { $name: to, ..self.host_numbers() });
+            })*
+        }
+    };
+}
+
+fields! {
+    /// Whether the screen is off.
+    screen_disabled, set_screen_disabled: bool;
+    /// The line that is drawn, which FF44 reads.
+    scan_line, set_scan_line: u8;
+    /// Which sources hold the LCD interrupt's line up.
+    irq48_signal, set_irq48_signal: u8;
+    /// The screen's mode, 0 to 3.
+    lcd_status_mode, set_lcd_status_mode: u8;
+    /// `gpu_cycles.screen_enable_delay_cycles`: cycles until a screen that was switched on shows something.
+    screen_enable_delay_cycles, set_screen_enable_delay_cycles: i32;
+    /// `gpu_cycles.cycles_counter`: cycles of the current mode.
+    cycles_counter, set_cycles_counter: i32;
+    /// `gpu_cycles.aux_cycles_counter`: cycles of the current line in mode 1, in which no line is drawn.
+    aux_cycles_counter, set_aux_cycles_counter: i32;
+    /// `gpu_cycles.window_line`: the line of the window that is drawn next.
+    window_line, set_window_line: i32;
+}
+
+/// The screen. The host draws; nothing refuses these.
+impl Memory {
+    /// The eight numbers that the bus and the host's drawing part share, by one call.
+    #[inline]
+    pub fn host_numbers(&self) -> HostNumbers {
+        let mut numbers = HostNumbers::default();
+        let mut disabled = 0;
+        done(pouch_host_numbers(
+            &self.image,
+            &mut disabled,
+            &mut numbers.scan_line,
+            &mut numbers.irq48_signal,
+            &mut numbers.lcd_status_mode,
+            &mut numbers.screen_enable_delay_cycles,
+            &mut numbers.cycles_counter,
+            &mut numbers.aux_cycles_counter,
+            &mut numbers.window_line,
+        ));
+        HostNumbers { screen_disabled: disabled == 1, ..numbers }
+    }
+
+    /// Sets them, to any values.
+    #[inline]
+    pub fn set_host_numbers(&mut self, to: HostNumbers) {
+        done(pouch_host(
+            &mut self.image,
+            to.screen_disabled,
+            to.scan_line,
+            to.irq48_signal,
+            to.lcd_status_mode,
+            to.screen_enable_delay_cycles,
+            to.cycles_counter,
+            to.aux_cycles_counter,
+            to.window_line,
+        ));
+    }
+
+    /// The last four of them, as the Rust's field of this name has them.
+    #[inline]
+    pub fn gpu_cycles(&self) -> GpuCycles {
+        let HostNumbers { cycles_counter, aux_cycles_counter, screen_enable_delay_cycles, window_line, .. } = self.host_numbers();
+        GpuCycles { cycles_counter, aux_cycles_counter, screen_enable_delay_cycles, window_line }
+    }
+
+    /// Sets the last four of them, to any values.
+    #[inline]
+    pub fn set_gpu_cycles(&mut self, to: GpuCycles) {
+        let GpuCycles { cycles_counter, aux_cycles_counter, screen_enable_delay_cycles, window_line } = to;
+        self.set_host_numbers(HostNumbers { cycles_counter, aux_cycles_counter, screen_enable_delay_cycles, window_line, ..self.host_numbers() });
+    }
+
+    /// The background's palettes, for drawing. A game sets them by FF68 and FF69, and so does a host.
+    pub fn cgb_background_palettes(&self) -> [[CGBColor; 4]; 8] {
+        let [background, _] = self.palettes();
+        background
+    }
+
+    /// The sprites' palettes, for drawing. A game sets them by FF6A and FF6B, and so does a host.
+    pub fn cgb_sprite_palettes(&self) -> [[CGBColor; 4]; 8] {
+        let [_, sprites] = self.palettes();
+        sprites
+    }
+
+    /// The background's, then the sprites'.
+    fn palettes(&self) -> [[[CGBColor; 4]; 8]; 2] {
+        let mut colors = [0; COLORS_LEN];
+        done(pouch_colors(&self.image, &mut colors));
+        let mut colors = colors.chunks_exact(3).map(|color| CGBColor { red: color[0], green: color[1], blue: color[2] });
+        array::from_fn(|_| array::from_fn(|_| array::from_fn(|_| colors.next().unwrap())))
+    }
+
+    /// What a write of this byte does to FF40, the screen's control.
+    #[inline]
+    pub fn do_lcd_control_write(&mut self, value: u8) {
+        done(pouch_do_lcd_control_write(&mut self.image, value));
+    }
+
+    /// What a write of this byte does to FF41, the screen's status.
+    #[inline]
+    pub fn do_lcd_status_write(&mut self, value: u8) {
+        done(pouch_do_lcd_status_write(&mut self.image, value));
+    }
+
+    /// What a write of this byte does to FF44, the scan line.
+    #[inline]
+    pub fn do_scanline_write(&mut self, value: u8) {
+        done(pouch_do_scanline_write(&mut self.image, value));
+    }
+
+    /// What a write of this byte does to FF45, the line to compare with.
+    #[inline]
+    pub fn do_lyc_write(&mut self, value: u8) {
+        done(pouch_do_lyc_write(&mut self.image, value));
+    }
+
+    /// Compares the scan line with FF45, unless the screen is off; may request the LCD interrupt.
+    #[inline]
+    pub fn compare_ly_to_lyc(&mut self) {
+        done(pouch_compare_ly_to_lyc(&mut self.image));
+    }
+
+    /// A screen that is off gets its delay of 244 cycles; another stays as it is.
+    #[inline]
+    pub fn enable_screen(&mut self) {
+        done(pouch_enable_screen(&mut self.image));
+    }
+
+    /// Switches the screen off: mode, line, signal and the two cycle counters become 0, and of FF41 bits 2 to 6 stay.
+    #[inline]
+    pub fn disable_screen(&mut self) {
+        done(pouch_disable_screen(&mut self.image));
+    }
+
+    /// Window line 0 becomes 144 where the scan line is below 144 and beyond FF4A.
+    #[inline]
+    pub fn reset_window_line(&mut self) {
+        done(pouch_reset_window_line(&mut self.image));
+    }
+}

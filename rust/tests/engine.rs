@@ -1,0 +1,77 @@
+//! The example's engine, killed: its journal as a kill at each byte would leave it, and the session taken up again.
+
+#[path = "../examples/engine.rs"]
+mod engine;
+
+use engine::{game, play};
+use std::fs;
+use std::path::PathBuf;
+
+/// A folder of its own for each test.
+fn folder(name: &str) -> PathBuf {
+    let path = std::env::temp_dir().join(format!("pouchrattle-engine-{name}-{}", std::process::id()));
+    let _ = fs::remove_dir_all(&path);
+    fs::create_dir(&path).unwrap();
+    path
+}
+
+/// The save after so many of the game's save writes.
+fn save(writes: usize) -> Vec<u8> {
+    let mut save = vec![0; 8192];
+    (0..writes).map(game).for_each(|(at, value)| save[usize::from(at)] = value);
+    save
+}
+
+#[test]
+fn killed_at_every_byte() {
+    let folder = folder("killed");
+    assert_eq!(play(&folder, 1).unwrap(), 20);
+    let (before, journal) = (fs::read(folder.join("hero.sav")).unwrap(), fs::read(folder.join("hero.journal")).unwrap());
+    assert!(before == save(0) && journal.len() == 3 * 20);
+    for cut in 0..=journal.len() {
+        fs::write(folder.join("hero.sav"), &before).unwrap();
+        fs::write(folder.join("hero.journal"), &journal[..cut]).unwrap();
+        assert_eq!(play(&folder, 0).unwrap(), cut / 3);
+        assert!(fs::read(folder.join("hero.sav")).unwrap() == save(cut / 3), "{cut}");
+        // Killed between the save's file and the journal's: the journal is there still.
+        fs::write(folder.join("hero.journal"), &journal[..cut]).unwrap();
+        assert_eq!(play(&folder, 1).unwrap(), cut / 3 + 20);
+        assert_eq!(play(&folder, 0).unwrap(), cut / 3 + 20);
+        assert!(fs::read(folder.join("hero.sav")).unwrap() == save(cut / 3 + 20), "{cut}");
+    }
+    fs::remove_dir_all(&folder).unwrap();
+}
+
+#[test]
+fn goes_on_in_any_pass() {
+    let folder = folder("passes");
+    for writes in [1, 8191, 8192, 8193, 3 * 8192 + 100, 255 * 8192] {
+        fs::write(folder.join("hero.sav"), save(writes)).unwrap();
+        assert_eq!(play(&folder, 0).unwrap(), writes);
+    }
+    fs::remove_dir_all(&folder).unwrap();
+}
+
+#[test]
+fn refused_with_words() {
+    let folder = folder("refused");
+    // A damaged journal: nothing is touched.
+    fs::write(folder.join("hero.sav"), save(7)).unwrap();
+    fs::write(folder.join("hero.journal"), [0x80, 0x00, 0x01, 0x7F, 0x00, 0x01]).unwrap();
+    assert_eq!(play(&folder, 1).unwrap_err().to_string(), "record 1 is damaged: 7F 00 01");
+    assert!(fs::read(folder.join("hero.sav")).unwrap() == save(7) && fs::read(folder.join("hero.journal")).unwrap().len() == 6);
+    fs::remove_file(folder.join("hero.journal")).unwrap();
+    // A save that gameboy_core kept is cut; one of another cartridge is not.
+    let mut kept = save(7);
+    kept.resize(32768, 0xFF);
+    fs::write(folder.join("hero.sav"), &kept).unwrap();
+    assert_eq!(play(&folder, 0).unwrap(), 7);
+    assert!(fs::read(folder.join("hero.sav")).unwrap() == save(7));
+    kept[9000] = 1;
+    fs::write(folder.join("hero.sav"), &kept).unwrap();
+    let words = "this is a save of another cartridge: byte 9,000 is 01, which this one does not reach";
+    assert_eq!(play(&folder, 0).unwrap_err().to_string(), words);
+    fs::write(folder.join("hero.sav"), []).unwrap();
+    assert_eq!(play(&folder, 0).unwrap_err().to_string(), "the save has 0 bytes, and must have 8,192");
+    fs::remove_dir_all(&folder).unwrap();
+}
