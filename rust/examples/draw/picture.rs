@@ -186,7 +186,11 @@ fn on_line(oam: &[u8; 160], control: u8, is_cgb: bool, y: u8) -> Vec<[u8; 4]> {
 }
 
 fn height(control: u8) -> u8 {
-    if control & 4 != 0 { 16 } else { 8 }
+    if control & 4 != 0 {
+        16
+    } else {
+        8
+    }
 }
 
 /// Two bits of a tile's row.
