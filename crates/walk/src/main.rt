@@ -3,7 +3,7 @@
 ghost use Prim.Native.Nat.{_+_, _≤_};
 ghost use mathlib.Core.Path.{_≡_};
 ghost use lib.ListN.{length};
-ghost use mathlib.Core.Bool.{false};
+ghost use mathlib.Core.Bool.{true, false};
 ghost use Rattle.bus.specs.Fresh.{startedBy};
 ghost use Rattle.lines.specs.Contents.{Filled};
 ghost use Rattle.lines.specs.Reader.{Inside};
@@ -118,9 +118,10 @@ fn shown(used: usize, reader: Reader, out: &[u8]) -> Waiting
     }
 }
 
-// One step of the reader.
+// One step of the reader. Answers that are lost end the walk: nobody hears them, so no more is read.
 fn step(
     state: State,
+    waiting: Waiting,
     buf: &mut [u8],
     out: &mut [u8],
     rom: &[u8],
@@ -130,19 +131,17 @@ fn step(
     log: &mut [u8],
     sound: &[u8],
 ) -> State
-    requires { ⌜ Inside (length (now buf)) (state .reader) × ((state .kept .used ≤ length (now out)) × (10 ≤ length (now out))) ⌝ }
-    ensures { λ r. ⌜ Inside (length (now (buf .exit))) (r .reader) × (r .kept .used ≤ length (now (out .exit))) ⌝ }
+    requires { ⌜ Inside (length (now buf)) (state .reader) × (waiting .used + 10 ≤ length (now out)) ⌝ }
+    ensures { λ r. ⌜ Inside (length (now (buf .exit))) (r .reader) × ((r .kept .used ≤ length (now (out .exit))) × (waiting .lost ≡ true → r .more ≡ false)) ⌝ }
 {
     let before = state.kept;
     let reader = state.reader;
     let long = state.long;
     let memory = before.memory;
-    let waiting = shown(before.used, reader, out);
     let kept = Kept {
         memory: memory,
         used: waiting.used,
     };
-    // Nobody hears the answers any more, so no more is read.
     if waiting.lost {
         return State {
             kept: kept,
@@ -224,7 +223,21 @@ fn walk(
     let mut state = start(memory);
     let mut turns = u64::MAX;
     while turns > 0 && state.more {
-        state = step(state, &mut buf, &mut out, rom, vram, wram, save, log, sound);
+        let kept = state.kept;
+        let reader = state.reader;
+        let waiting = shown(kept.used, reader, &out);
+        state = step(
+            state,
+            waiting,
+            &mut buf,
+            &mut out,
+            rom,
+            vram,
+            wram,
+            save,
+            log,
+            sound,
+        );
         turns -= 1;
     }
     let kept = state.kept;
