@@ -1,14 +1,15 @@
 // walk: the bus walk. Reads commands from standard input to its end, a line each, makes their calls on one bus, and prints a line for each
-// (document 01, "Corners that decide", the last paragraph).
-ghost use Prim.Native.Nat.{_≤_};
+// (document 01, "Corners that decide", the last paragraph). It takes no argument, and ends early where its answers cannot be written.
+ghost use Prim.Native.Nat.{_+_, _≤_};
 ghost use mathlib.Core.Path.{_≡_};
 ghost use lib.ListN.{length};
-ghost use mathlib.Core.Bool.{false};
+ghost use mathlib.Core.Bool.{true, false};
 ghost use Rattle.bus.specs.Fresh.{startedBy};
 ghost use Rattle.lines.specs.Contents.{Filled};
 ghost use Rattle.lines.specs.Reader.{Inside};
 ghost use Rattle.walk.specs.Line.{romByte};
 use commands::text;
+use libc::STDERR_FILENO;
 use lines::reader;
 use lines::reader::Found;
 use lines::reader::Reader;
@@ -31,8 +32,14 @@ struct State {
     more: bool,
 }
 
+// How many bytes wait to be printed, with room for a line more behind them. What could not be written is lost.
+struct Waiting {
+    used: usize,
+    lost: bool,
+}
+
 fn strange(kept: Kept, out: &mut [u8]) -> Kept
-    requires { ⌜ (kept .used ≤ length (now out)) × (10 ≤ length (now out)) ⌝ }
+    requires { ⌜ kept .used + 10 ≤ length (now out) ⌝ }
     ensures { λ r. ⌜ r .used ≤ length (now (out .exit)) ⌝ }
 {
     let memory = kept.memory;
@@ -56,7 +63,7 @@ fn line(
     log: &mut [u8],
     sound: &[u8],
 ) -> Kept
-    requires { ⌜ (kept .used ≤ length (now out)) × (10 ≤ length (now out)) ⌝ }
+    requires { ⌜ kept .used + 10 ≤ length (now out) ⌝ }
     ensures { λ r. ⌜ r .used ≤ length (now (out .exit)) ⌝ }
 {
     if long {
@@ -74,7 +81,7 @@ fn line(
 
 // The input's end: it ends a line that did not fit the buffer.
 fn end(kept: Kept, long: bool, out: &mut [u8]) -> Kept
-    requires { ⌜ (kept .used ≤ length (now out)) × (10 ≤ length (now out)) ⌝ }
+    requires { ⌜ kept .used + 10 ≤ length (now out) ⌝ }
     ensures { λ r. ⌜ r .used ≤ length (now (out .exit)) ⌝ }
 {
     if long {
@@ -83,25 +90,38 @@ fn end(kept: Kept, long: bool, out: &mut [u8]) -> Kept
     kept
 }
 
-// Where every line that was read is answered, the answers are printed before more is waited for.
-fn shown(kept: Kept, reader: Reader, out: &[u8]) -> Kept
-    requires { ⌜ kept .used ≤ length (now out) ⌝ }
-    ensures { λ r. ⌜ r .used ≤ length (now (out .entry)) ⌝ }
+// Prints what waits.
+fn printed(used: usize, out: &[u8]) -> Waiting
+    requires { ⌜ used ≤ length (now out) ⌝ }
+    ensures { λ r. ⌜ r .used ≡ 0 ⌝ }
 {
-    if reader.at < reader.end {
-        return kept;
-    }
-    out::flush(out, kept.used);
-    let memory = kept.memory;
-    Kept {
-        memory: memory,
+    Waiting {
         used: 0,
+        lost: !out::flush(out, used),
     }
 }
 
-// One step of the reader.
+// The answers are printed where every line that was read is answered, before more is waited for, and where there is no room for a line more, of ten bytes.
+fn shown(used: usize, reader: Reader, out: &[u8]) -> Waiting
+    requires { ⌜ (used ≤ length (now out)) × (10 ≤ length (now out)) ⌝ }
+    ensures { λ r. ⌜ r .used + 10 ≤ length (now (out .entry)) ⌝ }
+{
+    if reader.end <= reader.at {
+        return printed(used, out);
+    }
+    if out.len() - used < 10 {
+        return printed(used, out);
+    }
+    Waiting {
+        used: used,
+        lost: false,
+    }
+}
+
+// One step of the reader. Answers that are lost end the walk: nobody hears them, so no more is read.
 fn step(
     state: State,
+    waiting: Waiting,
     buf: &mut [u8],
     out: &mut [u8],
     rom: &[u8],
@@ -111,13 +131,25 @@ fn step(
     log: &mut [u8],
     sound: &[u8],
 ) -> State
-    requires { ⌜ Inside (length (now buf)) (state .reader) × ((state .kept .used ≤ length (now out)) × (10 ≤ length (now out))) ⌝ }
-    ensures { λ r. ⌜ Inside (length (now (buf .exit))) (r .reader) × (r .kept .used ≤ length (now (out .exit))) ⌝ }
+    requires { ⌜ Inside (length (now buf)) (state .reader) × (waiting .used + 10 ≤ length (now out)) ⌝ }
+    ensures { λ r. ⌜ Inside (length (now (buf .exit))) (r .reader) × ((r .kept .used ≤ length (now (out .exit))) × (waiting .lost ≡ true → r .more ≡ false)) ⌝ }
 {
     let before = state.kept;
     let reader = state.reader;
     let long = state.long;
-    let kept = shown(before, reader, out);
+    let memory = before.memory;
+    let kept = Kept {
+        memory: memory,
+        used: waiting.used,
+    };
+    if waiting.lost {
+        return State {
+            kept: kept,
+            reader: reader,
+            long: long,
+            more: false,
+        };
+    }
     let read = reader::next(buf, reader);
     let from = read.from;
     let to = read.to;
@@ -191,7 +223,21 @@ fn walk(
     let mut state = start(memory);
     let mut turns = u64::MAX;
     while turns > 0 && state.more {
-        state = step(state, &mut buf, &mut out, rom, vram, wram, save, log, sound);
+        let kept = state.kept;
+        let reader = state.reader;
+        let waiting = shown(kept.used, reader, &out);
+        state = step(
+            state,
+            waiting,
+            &mut buf,
+            &mut out,
+            rom,
+            vram,
+            wram,
+            save,
+            log,
+            sound,
+        );
         turns -= 1;
     }
     let kept = state.kept;
@@ -224,7 +270,18 @@ fn begin(
     begun.memory
 }
 
+fn usage() {
+    io::write_all(
+        STDERR_FILENO,
+        b"usage: walk <LINES, where a line is R index, W index value or T cycles\n",
+    );
+}
+
 fn main() {
+    if os::arg_count() > 1 {
+        usage();
+        return;
+    }
     let mut rom = [0u8; 32768];
     fill_rom(&mut rom);
     let mut vram = [0u8; 8192];

@@ -1,4 +1,4 @@
-// What is printed stands in a buffer that the caller lends, and is written when the buffer has no room for one line more.
+// What is printed stands in a buffer that the caller lends, until it is written.
 ghost use Prim.Native.Nat.{_+_, _≤_};
 ghost use mathlib.Core.Path.{_≡_};
 ghost use mathlib.Core.List.{_++_};
@@ -7,25 +7,15 @@ use commands::text::Text;
 use libc::STDERR_FILENO;
 use libc::STDOUT_FILENO;
 
-// Writes the first `used` bytes. A program has no exit status: a failed write is told on standard error.
-pub fn flush(out: &[u8], used: usize)
+// Writes the first `used` bytes: whether they are written. A program has no exit status: a failed write is told on standard error.
+pub fn flush(out: &[u8], used: usize) -> bool
     requires { ⌜ used ≤ length (now out) ⌝ }
 {
-    if !io::write_all(STDOUT_FILENO, &out[..used]) {
-        io::write_all(STDERR_FILENO, b"the answers could not be written\n");
+    if io::write_all(STDOUT_FILENO, &out[..used]) {
+        return true;
     }
-}
-
-// How many bytes are used, once there is room for a line.
-fn room(out: &[u8], used: usize) -> usize
-    requires { ⌜ (used ≤ length (now out)) × (10 ≤ length (now out)) ⌝ }
-    ensures { λ r. ⌜ r + 10 ≤ length (now (out .entry)) ⌝ }
-{
-    if out.len() - used < 10 {
-        flush(out, used);
-        return 0;
-    }
-    used
+    io::write_all(STDERR_FILENO, b"the answers could not be written\n");
+    false
 }
 
 // `size` bytes of a text, behind what is there.
@@ -38,10 +28,9 @@ fn append(out: &mut [u8], used: usize, all: [u8; 10], size: usize) -> usize
 }
 
 pub fn put(out: &mut [u8], used: usize, text: Text) -> usize
-    requires { ⌜ (used ≤ length (now out)) × ((10 ≤ length (now out)) × (text .size ≤ 10)) ⌝ }
+    requires { ⌜ (used + 10 ≤ length (now out)) × (text .size ≤ 10) ⌝ }
     ensures { λ r. ⌜ r ≤ length (now (out .exit)) ⌝ }
 {
-    let at = room(out, used);
     let all = text.bytes;
-    append(out, at, all, text.size)
+    append(out, used, all, text.size)
 }

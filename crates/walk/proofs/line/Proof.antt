@@ -18,12 +18,8 @@ line-requires c κs = search needs
 put-requires : tie.Need-put-requires
 put-requires c κs = (
   c .before .before .before .before .before .before .before .before .before .before .before .before .before .before .before .before .before
-      .before .before .before .before .before .before .before .before .before .pre .0,
-  (
-    c .before .before .before .before .before .before .before .before .before .before .before .before .before .before .before .before .before
-        .before .before .before .before .before .before .before .before .before .pre .1,
-    c .before .before .before .before .before .before .before .before .before .before .before .line .ensures .1,
-  ),
+      .before .before .before .before .before .before .before .before .before .pre,
+  c .before .before .before .before .before .before .before .before .before .before .before .line .ensures .1,
 )
 
 same-length-2 : tie.Need-same-length-2

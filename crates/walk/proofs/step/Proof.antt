@@ -1,10 +1,12 @@
--- What the reader gives lies within its buffer, what waits to be printed within the other.
+-- What the reader gives lies within its buffer, what waits to be printed within the other. Only where nothing is lost is there more.
+use mathlib.Core.Path.{refl, sym, _∙_}
+use native.Mathlib.Omega.{arith}
 use borrow.Author.Needs.{needs}
 use Rattle.walk.proofs.step.Statement.{statement}
 use Rattle.walk.proofs.step.Tie as tie
 
-shown-requires : tie.Need-shown-requires
-shown-requires c κs = search needs
+returns : tie.Need-returns
+returns c = (c .before .before .before .before .before .before .before .before .before .before .before .before .pre .0, (omega (arith, c .before .before .before .before .before .before .before .before .before .before .before .before .pre .1), λ _. refl))
 
 next-requires : tie.Need-next-requires
 next-requires c κs = search needs
@@ -22,11 +24,7 @@ part-line-end : tie.Need-part-line-end
 part-line-end c = search needs
 
 line-requires : tie.Need-line-requires
-line-requires c κs = (
-  c .before .before .before .before .before .before .before .before .before .before .before .before .before .before .shown .ensures,
-  c .before .before .before .before .before .before .before .before .before .before .before .before .before .before .before .before .before
-      .before .before .before .before .before .before .before .before .before .pre .1 .1,
-)
+line-requires c κs = search needs
 
 enum-told-2 : tie.Need-enum-told-2
 enum-told-2 c = search needs
@@ -38,11 +36,7 @@ enum-told-4 : tie.Need-enum-told-4
 enum-told-4 c = search needs
 
 end-requires : tie.Need-end-requires
-end-requires c κs = (
-  c .before .before .before .before .before .before .before .before .shown .ensures,
-  c .before .before .before .before .before .before .before .before .before .before .before .before .before .before .before .before .before
-      .before .before .before .pre .1 .1,
-)
+end-requires c κs = search needs
 
 same-length : tie.Need-same-length
 same-length c = search needs
@@ -62,21 +56,20 @@ same-length-5 c = search needs
 same-length-6 : tie.Need-same-length-6
 same-length-6 c = search needs
 
-returns : tie.Need-returns
-returns c = (
-  c .before .before .before .before .before .before .before .before .before .before .before .before .before .before .before .before .before
-      .before .before .before .before .before .before .next .ensures .1 .1,
-  c .before .before .before .before .before .before .before .before .before .before .line .ensures,
-)
+returns-2 : tie.Need-returns-2
+returns-2 c = (c .before .before .before .before .before .before .before .before .before .before .before .before .before .before .before .before .before .before .before .before .before .before .before .next .ensures .1 .1, (c .before .before .before .before .before .before .before .before .before .before .line .ensures, λ h. sym h ∙ c .before .before .before .before .before .before .before .before .before .before .before .before .before .before .before .before .before .before .before .before .before .before .before .before .before .if1 .left))
 
 same-length-7 : tie.Need-same-length-7
 same-length-7 c = search needs
 
+returns-3 : tie.Need-returns-3
+returns-3 c = (c .before .before .before .before .before .next .ensures .1 .1, (omega (arith, c .before .before .before .before .before .before .before .before .before .before .before .before .before .before .before .before .before .before .before .pre .1), λ h. sym h ∙ c .before .before .before .before .before .before .before .if1 .left))
+
 same-length-8 : tie.Need-same-length-8
 same-length-8 c = search needs
 
-returns-2 : tie.Need-returns-2
-returns-2 c = search needs
+returns-4 : tie.Need-returns-4
+returns-4 c = (c .before .before .before .before .before .next .ensures .1 .1, (omega (arith, c .before .before .before .before .before .before .before .before .before .before .before .before .before .before .before .before .before .before .before .pre .1), λ h. sym h ∙ c .before .before .before .before .before .before .before .if1 .left))
 
 same-length-9 : tie.Need-same-length-9
 same-length-9 c = search needs
@@ -84,23 +77,14 @@ same-length-9 c = search needs
 same-length-10 : tie.Need-same-length-10
 same-length-10 c = search needs
 
-returns-3 : tie.Need-returns-3
-returns-3 c = search needs
-
-same-length-11 : tie.Need-same-length-11
-same-length-11 c = search needs
-
-same-length-12 : tie.Need-same-length-12
-same-length-12 c = search needs
-
-returns-4 : tie.Need-returns-4
-returns-4 c = search needs
+returns-5 : tie.Need-returns-5
+returns-5 c = (c .before .before .before .before .before .before .before .before .before .next .ensures .1 .1, (c .before .before .end .ensures, λ _. refl))
 
 pub step-spec : {M : Type 1} → statement M
 step-spec =
     tie.close
     (tie.spec
-    shown-requires
+    returns
     next-requires
     enum-told
     sub-line
@@ -117,13 +101,11 @@ step-spec =
     same-length-4
     same-length-5
     same-length-6
-    returns
-    same-length-7
-    same-length-8
     returns-2
+    same-length-7
+    returns-3
+    same-length-8
+    returns-4
     same-length-9
     same-length-10
-    returns-3
-    same-length-11
-    same-length-12
-    returns-4)
+    returns-5)

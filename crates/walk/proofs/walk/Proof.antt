@@ -1,6 +1,7 @@
 -- The buffers keep their lengths, reader and answers stand within their own; the turns that are left fall.
 use mathlib.Core.Path.{_≡_}
 use Prim.Native.Nat.{_≤_}
+use native.Mathlib.Omega.{arith}
 use lib.ListN.{length}
 use borrow.Author.Needs.{needs}
 use Rattle.lines.specs.Reader.{Inside}
@@ -31,6 +32,12 @@ start-requires c κs = search needs
 loop-holds : tie.Need-loop-holds Inv-loop μ-loop
 loop-holds c = search needs
 
+slice-aggregate-shown : tie.Need-slice-aggregate-shown Inv-loop μ-loop
+slice-aggregate-shown c = search needs
+
+shown-requires : tie.Need-shown-requires Inv-loop μ-loop
+shown-requires c κs = search needs
+
 slice-aggregate-step : tie.Need-slice-aggregate-step Inv-loop μ-loop
 slice-aggregate-step c = search needs
 
@@ -41,10 +48,10 @@ step-requires : tie.Need-step-requires Inv-loop μ-loop
 step-requires c κs = search needs
 
 sub-turns : tie.Need-sub-turns Inv-loop μ-loop
-sub-turns c = search needs
+sub-turns c = omega (arith, c .before .before .before .before .before .before .before .before .before .before .before .before .before .before .before .before .before .before .before .before .before .before .loop-test .taken)
 
 loop-less : tie.Need-loop-less Inv-loop μ-loop
-loop-less c = search needs
+loop-less c = omega (arith, c .before .before .before .before .before .before .before .before .before .before .before .before .before .before .before .before .before .before .before .before .before .before .loop-test .taken)
 
 loop-again : tie.Need-loop-again Inv-loop μ-loop
 loop-again c =
@@ -52,8 +59,7 @@ loop-again c =
       needs,
       c .before .before .before .before .before .before .before .before .before .before .step .kept,
       c .before .before .before .before .before .before .before .before .before .before .step .ensures,
-      c .before .before .before .before .before .before .before .before .before .before .before .before .before .before .before .before .before
-          .before .before .loop .inv,
+      c .before .before .before .before .before .before .before .before .before .before .before .before .before .before .before .before .before .before .before .before .before .before .before .loop .inv,
     )
 
 slice-aggregate-flush : tie.Need-slice-aggregate-flush Inv-loop μ-loop
@@ -87,6 +93,8 @@ walk-spec =
     large-buffer-requires-2
     start-requires
     loop-holds
+    slice-aggregate-shown
+    shown-requires
     slice-aggregate-step
     slice-aggregate-step-2
     step-requires
