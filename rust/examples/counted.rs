@@ -1,7 +1,7 @@
 //! The binding's calls, one after another, its name on a line before each, for bench/binding to count between the two marks and to hold beside the C
 //! entry that it wraps. The bus is as in bench/counted: Mbc1 with two banks and 8,192 bytes of RAM, colour, RAM enabled, the timer on.
 
-use pouchrattle::{Button, Cartridge, Interrupt, MbcType, Memory, Timer};
+use pouchrattle::{Button, Cartridge, HostNumbers, Interrupt, MbcType, Memory, Timer};
 use std::hint::black_box;
 
 /// bench/instructions finds the marks by their names; two functions alike would become one.
@@ -58,7 +58,11 @@ fn main() {
         press: |memory| memory.press(Button::A);
         update_joypad: |memory| memory.update_joypad();
         is_hdma_enabled: |memory| memory.is_hdma_enabled();
+        cycles_to_overflow: |memory| memory.cycles_to_overflow();
+        remove_interrupt: |memory| memory.remove_interrupt(Interrupt::Timer);
+        host: |memory| memory.set_host_numbers(HostNumbers { scan_line: 5, lcd_status_mode: 2, cycles_counter: 4, ..HostNumbers::default() });
         host_numbers: |memory| memory.host_numbers();
+        compare_ly_to_lyc: |memory| memory.compare_ly_to_lyc();
         read_cgb_lcd_ram: |memory| memory.read_cgb_lcd_ram(0x9800, 1);
     }
 }

@@ -43,7 +43,7 @@ pub use journal::{journal_len, recover, recover_journal, Journal};
 pub use joypad::Controller;
 pub use mmu::cartridge::{Cartridge, MbcType, NotCut};
 pub use mmu::gpu_cycles::GpuCycles;
-pub use mmu::image::{CGBColor, HostNumbers, Image, IMAGE_LEN};
+pub use mmu::image::{CGBColor, HostNumbers, Image, IMAGE_LEN, OAM_LEN};
 pub use mmu::interrupt::Interrupt;
 pub use mmu::{Memory, LONGEST_BLOCK, LONGEST_LOG, RECORD_LEN};
 pub use refusal::{Damaged, Expected, OutOfRange, Refusal, Which, Written, WrongLength};

@@ -94,6 +94,29 @@ fn fields() {
     assert_eq!(memory.host_numbers(), HostNumbers { window_line: -7, ..COUNTED });
 }
 
+#[test]
+fn sprites() {
+    let mut memory = colour();
+    for k in 0..=0xFF {
+        write(&mut memory, &[(0xFE00 + k, !(k as u8))]);
+    }
+    assert!(memory.oam().iter().enumerate().all(|(k, byte)| *byte == !(k as u8)) && memory.oam().len() == 160);
+}
+
+/// A bus may be built on one thread and played on another.
+#[test]
+fn threads() {
+    let memory = with_save(false);
+    let read = std::thread::spawn(move || (memory.read_byte(0xA000), memory));
+    let (byte, memory) = read.join().unwrap();
+    let shared = &memory;
+    std::thread::scope(|scope| {
+        for _ in 0..2 {
+            scope.spawn(move || assert_eq!(shared.read_byte(0xA000), byte));
+        }
+    });
+}
+
 /// What gameboy_core keeps for a cartridge: a save, and FF behind it.
 fn kept(save: &[u8]) -> Vec<u8> {
     let mut ram = vec![0xFF; 32768];

@@ -12,11 +12,11 @@ pub type Image = [u8; IMAGE_LEN];
 pub struct HostNumbers {
     /// Whether the screen is off.
     pub screen_disabled: bool,
-    /// The line that is drawn, which FF44 reads.
+    /// The line that is drawn, 0 to 153, which FF44 reads.
     pub scan_line: u8,
-    /// Which sources hold the LCD interrupt's line up.
+    /// Which sources of the LCD interrupt hold now: bits 0, 1, 2 the modes, bit 3 the line that FF45 names.
     pub irq48_signal: u8,
-    /// The screen's mode, 0 to 3.
+    /// The screen's mode: 0 at a line's end, 1 between frames, 2 while sprites are searched, 3 while the line is drawn.
     pub lcd_status_mode: u8,
     /// As in `GpuCycles`.
     pub screen_enable_delay_cycles: i32,
@@ -30,6 +30,9 @@ pub struct HostNumbers {
 
 /// The bytes of all colours: POUCH_COLORS_LEN.
 pub(crate) const COLORS_LEN: usize = 192;
+
+/// The bytes of all sprites: POUCH_OAM_LEN.
+pub const OAM_LEN: usize = 160;
 
 /// A colour of a palette: channels of 5 bits, 0 to 31.
 #[derive(Clone, Copy, Debug, PartialEq, Eq)]

@@ -168,7 +168,8 @@ impl Memory {
         &self.log[..usize::from(self.ask(pouch_log_used))]
     }
 
-    /// Copies the log's used bytes off and clears the log. The host keeps them before anything else. `Journal` does both.
+    /// Copies the log's used bytes off, with those that a journal has already, and clears the log. The host keeps them before anything else. `Journal`
+    /// does both.
     #[must_use = "the log's bytes are gone from the bus: keep them"]
     pub fn take_log(&mut self) -> Vec<u8> {
         let used = self.log().to_vec();

@@ -1,15 +1,16 @@
 use super::gpu_cycles::GpuCycles;
-use super::image::{CGBColor, HostNumbers, COLORS_LEN};
+use super::image::{CGBColor, HostNumbers, COLORS_LEN, OAM_LEN};
 use super::memory::Memory;
+use super::SPRITES_START_INDEX;
 use crate::entries::*;
 use crate::refusal::done;
 use std::array;
 
-/// For each of the Rust's fields, the function that reads it and the one that sets it, to any value.
+/// For each of the Rust's fields, the function that reads it and the one that sets it.
 macro_rules! fields {
-    ($($(#[$doc:meta])* $name:ident, $set:ident: $type:ty;)*) => {
+    ($($(#[$doc:meta])* $name:ident: $type:ty, $set:ident;)*) => {
         /// The fields of the Rust's `Memory` and of its `gpu_cycles`, as functions. A read takes all of them from the image, as `host_numbers` does:
-        /// who wants several calls that. Nothing refuses them.
+        /// who wants several calls that. Any value is taken, and nothing refuses these.
         impl Memory {
             $($(#[$doc])*
             #[inline]
@@ -17,7 +18,7 @@ macro_rules! fields {
                 self.host_numbers().$name
             }
 
-            #[doc = concat!("Sets `", stringify!($name), "`, to any value.")]
+            #[doc = concat!("Sets `", stringify!($name), "`, and nothing else.")]
             #[inline]
             pub fn $set(&mut self, to: $type) {
                 self.set_host_numbers(HostNumbers { $name: to, ..self.host_numbers() });
@@ -27,22 +28,22 @@ macro_rules! fields {
 }
 
 fields! {
-    /// Whether the screen is off.
-    screen_disabled, set_screen_disabled: bool;
-    /// The line that is drawn, which FF44 reads.
-    scan_line, set_scan_line: u8;
-    /// Which sources hold the LCD interrupt's line up.
-    irq48_signal, set_irq48_signal: u8;
-    /// The screen's mode, 0 to 3.
-    lcd_status_mode, set_lcd_status_mode: u8;
+    /// Whether the screen is off. The game switches it off by FF40; the host switches it on when its delay is over.
+    screen_disabled: bool, set_screen_disabled;
+    /// The line that is drawn, 0 to 153, which FF44 reads.
+    scan_line: u8, set_scan_line;
+    /// Which sources of the LCD interrupt hold now: bits 0, 1, 2 the modes, bit 3 the line that FF45 names.
+    irq48_signal: u8, set_irq48_signal;
+    /// The screen's mode: 0 at a line's end, 1 between frames, 2 while sprites are searched, 3 while the line is drawn.
+    lcd_status_mode: u8, set_lcd_status_mode;
     /// `gpu_cycles.screen_enable_delay_cycles`: cycles until a screen that was switched on shows something.
-    screen_enable_delay_cycles, set_screen_enable_delay_cycles: i32;
+    screen_enable_delay_cycles: i32, set_screen_enable_delay_cycles;
     /// `gpu_cycles.cycles_counter`: cycles of the current mode.
-    cycles_counter, set_cycles_counter: i32;
+    cycles_counter: i32, set_cycles_counter;
     /// `gpu_cycles.aux_cycles_counter`: cycles of the current line in mode 1, in which no line is drawn.
-    aux_cycles_counter, set_aux_cycles_counter: i32;
+    aux_cycles_counter: i32, set_aux_cycles_counter;
     /// `gpu_cycles.window_line`: the line of the window that is drawn next.
-    window_line, set_window_line: i32;
+    window_line: i32, set_window_line;
 }
 
 /// The screen. The host draws; nothing refuses these.
@@ -66,7 +67,8 @@ impl Memory {
         HostNumbers { screen_disabled: disabled == 1, ..numbers }
     }
 
-    /// Sets them, to any values.
+    /// Sets all eight, to any values. A host that keeps copies of them over a write of the game's would undo with old ones what that has changed, a screen
+    /// switched off for one: take them again after a write to FF40, FF41, FF44 or FF45, or set one by one.
     #[inline]
     pub fn set_host_numbers(&mut self, to: HostNumbers) {
         done(pouch_host(
@@ -89,11 +91,19 @@ impl Memory {
         GpuCycles { cycles_counter, aux_cycles_counter, screen_enable_delay_cycles, window_line }
     }
 
-    /// Sets the last four of them, to any values.
+    /// Sets the last four of them, to any values; the others stay.
     #[inline]
     pub fn set_gpu_cycles(&mut self, to: GpuCycles) {
         let GpuCycles { cycles_counter, aux_cycles_counter, screen_enable_delay_cycles, window_line } = to;
         self.set_host_numbers(HostNumbers { cycles_counter, aux_cycles_counter, screen_enable_delay_cycles, window_line, ..self.host_numbers() });
+    }
+
+    /// The sprites, FE00..FE9F, for drawing: 40 of 4 bytes.
+    #[inline]
+    pub fn oam(&self) -> [u8; OAM_LEN] {
+        let mut oam = [0; OAM_LEN];
+        done(pouch_read_block(&self.image, &self.rom, &self.vram, &self.wram, &self.save, &self.sound, SPRITES_START_INDEX, &mut oam));
+        oam
     }
 
     /// The background's palettes, for drawing. A game sets them by FF68 and FF69, and so does a host.
