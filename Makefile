@@ -17,7 +17,7 @@ MANDIR = $(PREFIX)/share/man
 ifeq ($(TARGET),x86_64)
 into = build
 test = c/test
-program = $(if $(wildcard c/pouch-recover),build/recover)
+program = build/recover
 else ifeq ($(TARGET),aarch64)
 into = build/aarch64
 test = c/test-aarch64

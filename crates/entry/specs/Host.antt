@@ -2,20 +2,25 @@
 -- by us besides: .. C boundary"). A refusal changes no lent byte and gives 0.
 use mathlib.Core.Bool.{cond}
 use mathlib.Core.List.{List, [], _∷_, _++_}
-use Prim.Native.Nat.{ℕ, zero, suc, _+_, _%_}
+use Prim.Native.Nat.{ℕ, zero, suc, _+_, _*_, _%_}
 use lib.Dec.{eqb, leb}
 use lib.IntN.{ℤ}
-use lib.ListN.{length}
+use lib.ListN.{length, take}
 use Rattle.dispatch.specs.declared.Call.the-variants.{ReadByte}
-use Rattle.image.specs.Layout.{bit, channels, imageOf}
+use Rattle.dispatch.specs.declared.StateCall.the-variants.{Host}
+use Rattle.image.specs.Layout.{bit, channels, imageLen, imageOf}
 use Rattle.image.specs.Load.{Stored, stored, loadCall}
+use Rattle.lcd.specs.Lcd.{numbersOf}
 use Rattle.lcd.specs.declared.Lcd.{Lcd}
 use Rattle.memory.specs.World.{Fixed, withUsed}
 use Rattle.numbers.specs.Numbers.{done, outOfRange, wrongLength}
+use Rattle.registers.specs.PanDocs.{oamBytes}
 use Rattle.registers.specs.State.{timerOf}
-use Rattle.savelog.specs.Log.{logLimit, useInRange}
+use Rattle.savelog.specs.Log.{width, logLimit, useInRange}
 use Rattle.timer.specs.Overflow.{leftOf}
-use Rattle.entry.specs.Entry.{Changed, changed, Given, given, readEntry}
+use Rattle.entry.specs.Entry.{Changed, changed, stateEntry, Given, given, readEntry}
+use Rattle.entry.specs.declared.HostNumber.{HostNumber}
+use Rattle.entry.specs.declared.HostNumber.the-variants as one
 
 -- The eight numbers that the host sets, screen disabled as 1 or 0; a refused image gives those of the all-zero state
 
@@ -40,6 +45,21 @@ shownOf n l = shown n (bit (l .disabled)) (l .line) (l .signal) (l .mode) (l .de
 abbrev pub numbersEntry : List ℕ → Shown
 numbersEntry i = shownOf (loadCall i .number) (loadCall i .state .core .lcd)
 
+-- One of the eight set: the host's call, with the other seven as they stand
+
+abbrev pub withNumber : Lcd → HostNumber → Lcd
+withNumber l (one.Disabled x) = numbersOf x (l .line) (l .signal) (l .mode) (l .delay) (l .counter) (l .aux) (l .window)
+withNumber l (one.Line x) = numbersOf (l .disabled) x (l .signal) (l .mode) (l .delay) (l .counter) (l .aux) (l .window)
+withNumber l (one.Signal x) = numbersOf (l .disabled) (l .line) x (l .mode) (l .delay) (l .counter) (l .aux) (l .window)
+withNumber l (one.Mode x) = numbersOf (l .disabled) (l .line) (l .signal) x (l .delay) (l .counter) (l .aux) (l .window)
+withNumber l (one.Delay x) = numbersOf (l .disabled) (l .line) (l .signal) (l .mode) x (l .counter) (l .aux) (l .window)
+withNumber l (one.Counter x) = numbersOf (l .disabled) (l .line) (l .signal) (l .mode) (l .delay) x (l .aux) (l .window)
+withNumber l (one.Aux x) = numbersOf (l .disabled) (l .line) (l .signal) (l .mode) (l .delay) (l .counter) x (l .window)
+withNumber l (one.Window x) = numbersOf (l .disabled) (l .line) (l .signal) (l .mode) (l .delay) (l .counter) (l .aux) x
+
+unfoldable pub setEntry : List ℕ → HostNumber → Changed
+setEntry i n = stateEntry i (Host (withNumber (loadCall i .state .core .lcd) n))
+
 -- All colours, into as many lent bytes: red, green, blue of the background's 32, then of the sprites'
 
 abbrev pub colorsLen : ℕ
@@ -50,6 +70,14 @@ colorsEntry i l =
     cond (eqb (loadCall i .number) done)
     (cond (eqb (length l) colorsLen) (stored done (channels (loadCall i .state .background) ++ channels (loadCall i .state .sprites)))
     (stored wrongLength l))
+    (stored (loadCall i .number) l)
+
+-- OAM's 40 sprites, FE00..FE9F, into as many lent bytes
+
+unfoldable pub oamEntry : List ℕ → List ℕ → Stored
+oamEntry i l =
+    cond (eqb (loadCall i .number) done)
+    (cond (eqb (length l) oamBytes) (stored done (take oamBytes (loadCall i .state .oam))) (stored wrongLength l))
     (stored (loadCall i .number) l)
 
 -- The cycles left until TIMA overflows (crates/timer/specs/Overflow.antt); a refused image gives 0
@@ -84,3 +112,12 @@ useEntry i u =
     cond (eqb (loadCall i .number) done)
     (cond (useInRange u logLimit) (changed done (imageOf (withUsed (loadCall i .state) u))) (changed outOfRange i))
     (changed (loadCall i .number) i)
+
+-- What this library is, as one number: its version, 65,536 for each major, 256 for each minor and 1 for each patch, in bits 63..32; an image's length in
+-- bits 31..8; a record's in bits 7..0
+
+abbrev pub version : ℕ
+version = 0 * 65536 + 2 * 256 + 0
+
+abbrev pub versionNumber : ℕ
+versionNumber = version * 0x100000000 + imageLen * 256 + width

@@ -32,9 +32,13 @@ OneShown =
     (o : Shown) (n d l s m n′ d′ l′ s′ m′ : ℕ) (y c a w y′ c′ a′ w′ : ℤ) → shown n d l s m y c a w ≡ o → shown n′ d′ l′ s′ m′ y′ c′ a′ w′ ≡ o
     → (n ≡ n′) × (d ≡ d′) × (l ≡ l′) × (s ≡ s′) × (m ≡ m′) × (y ≡ y′) × (c ≡ c′) × (a ≡ a′) × (w ≡ w′)
 
--- the colours, a block of reads, and the image's store
+-- the colours, the sprites, a block of reads, and the image's store
 abbrev pub OneStored : Type 0
 OneStored = (o : Stored) (m n : ℕ) (i j : List ℕ) → stored m i ≡ o → stored n j ≡ o → (m ≡ n) × (i ≡ j)
 
+-- the version
+abbrev pub OneNumber : Type 0
+OneNumber = (o m n : ℕ) → m ≡ o → n ≡ o → m ≡ n
+
 abbrev pub OneEntry : Type 0
-OneEntry = OneChanged × OneGiven × OneLeft × OneFresh × OneMapped × OneShown × OneStored
+OneEntry = OneChanged × OneGiven × OneLeft × OneFresh × OneMapped × OneShown × OneStored × OneNumber

@@ -7,6 +7,7 @@ pub mod lent;
 pub mod mapper;
 pub mod screen;
 pub mod state;
+pub mod version;
 
 // That no second outcome fits a contract of these entries, as a contract: its proof hands the laws of specs/One.antt over.
 pub fn one_outcome()

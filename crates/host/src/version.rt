@@ -1,0 +1,18 @@
+// What this library is, as one number, for a host that was compiled against another.
+ghost use mathlib.Core.Path.{_≡_};
+ghost use Rattle.entry.specs.Host.{versionNumber};
+
+const MAJOR: u64 = 0;
+
+const MINOR: u64 = 2;
+
+const PATCH: u64 = 0;
+
+#[no_mangle]
+pub extern "C" fn pouch_version() -> u64
+    ensures { λ r. ⌜ r ≡ versionNumber ⌝ }
+{
+    let version = MAJOR * 0x1_0000 + MINOR * 0x100 + PATCH;
+    let lengths = image::LENGTH as u64 * 0x100 + savelog::RECORD_LEN as u64;
+    version * 0x1_0000_0000 + lengths
+}
