@@ -1,16 +1,33 @@
-# The library for C hosts. The Rattle kit's command rt proves it and writes the archive; the rest needs make, a C compiler and install.
+# The library and the recovery program, for C hosts. The Rattle kit's command rt proves and compiles them; the rest needs make, a C compiler and install.
 #
-#     make                  build/: the archive and the shared library
+#     make                  build/: the archive, the shared library and the recovery program
+#     make TARGET=aarch64   build/aarch64/: archive and shared library for phones (c/README.md, "Phones"); TARGET goes with check and install too
 #     make check            the tests from C: c/test
 #     make install          to PREFIX and the folders below it, all of them below DESTDIR if that is set; make uninstall takes it away again
 
+TARGET = x86_64
 PREFIX = /usr/local
 LIBDIR = $(PREFIX)/lib
 INCLUDEDIR = $(PREFIX)/include
+BINDIR = $(PREFIX)/bin
+LIBEXECDIR = $(PREFIX)/libexec
+MANDIR = $(PREFIX)/share/man
 
-# The library is for x86-64. On another processor Debian's cross compiler links it.
-ifeq ($(origin CC)$(filter x86_64,$(shell uname -m)),default)
-CC = x86_64-linux-gnu-gcc
+# The kit's programs are for x86-64 alone.
+ifeq ($(TARGET),x86_64)
+into = build
+test = c/test
+program = build/recover
+else ifeq ($(TARGET),aarch64)
+into = build/aarch64
+test = c/test-aarch64
+else
+$(error TARGET is x86_64 or aarch64)
+endif
+
+# On another processor Debian's cross compiler links the shared library.
+ifeq ($(origin CC)$(filter $(TARGET),$(shell uname -m)),default)
+CC = $(TARGET)-linux-gnu-gcc
 endif
 
 # The version is the header's.
@@ -18,55 +35,71 @@ number = $(or $(shell sed -n 's/^.define POUCH_VERSION_$(1) //p' c/pouchrattle.h
 MAJOR := $(call number,MAJOR)
 VERSION := $(MAJOR).$(call number,MINOR).$(call number,PATCH)
 
-proved = target/staticlib/libhost.a
 archive = libpouchrattle.a
 link = libpouchrattle.so
 soname = $(link).$(MAJOR)
 shared = $(link).$(VERSION)
 headers = c/pouchrattle.h c/pouch_bus.h
-cmake = pouchrattleConfig.cmake pouchrattleConfigVersion.cmake
 sources = crates.txt $(shell find crates -type f \( -name '*.rt' -o -name '*.antt' \) -not -path '*/must-fail/*')
 
-all: build/$(archive) build/$(shared)
+all: $(into)/$(archive) $(into)/$(shared) $(program)
 
 # What stands in build/ is installed without rt, also where target/ is gone.
-.SECONDARY: $(proved)
-prove = $(if $(shell command -v rt 2>/dev/null),tests/prove,$(error the Rattle kit is not here: its command rt must be on the PATH (README.md, 'Two commands')))
+.SECONDARY: target/staticlib/libhost.a target/bin/recover
+need_rt = $(if $(shell command -v rt 2>/dev/null),,$(error the Rattle kit is not here: its command rt must be on the PATH (README.md, 'Two commands')))
 
-$(proved): $(sources)
-	@$(prove) staticlib host
+target/staticlib/libhost.a: $(sources)
+	$(need_rt)@tests/prove staticlib host
 
-build/$(archive): $(proved)
+target/bin/recover: $(sources)
+	$(need_rt)@tests/prove check recover
+	@touch -c $@
+
+build/$(archive): target/staticlib/libhost.a
 	mkdir -p build
 	cp $< $@
 
-# The archive as a whole, compiled to be moved, with the entries' names alone for others to see. It needs no other library: memcpy and memset are the program's own.
-build/$(shared): build/$(archive) c/pouchrattle.h
-	printf 'POUCHRATTLE_$(MAJOR) { global: pouch_*; local: *; };\n' >build/pouchrattle.map
-	$(CC) -shared -nostdlib -Wl,-soname,$(soname) -Wl,--version-script=build/pouchrattle.map -Wl,-z,relro,-z,now,-z,noexecstack $(LDFLAGS) \
+build/recover: target/bin/recover
+	mkdir -p build
+	cp $< $@
+
+# Proves crate host too, and leaves its archive.
+build/aarch64/$(archive): $(sources) c/aarch64
+	$(need_rt)@c/aarch64
+
+# The archive as a whole, compiled to be moved, with the entries' names alone for others to see. It needs no other library: memcpy and memset are the program's.
+%/$(shared): %/$(archive) c/pouchrattle.h
+	printf 'POUCHRATTLE_$(MAJOR) { global: pouch_*; local: *; };\n' >$*/pouchrattle.map
+	$(CC) -shared -nostdlib -Wl,-soname,$(soname) -Wl,--version-script=$*/pouchrattle.map -Wl,-z,relro,-z,now,-z,noexecstack $(LDFLAGS) \
 	    -Wl,--whole-archive $< -Wl,--no-whole-archive -o $@
 
 # What is installed, without DESTDIR.
-installed = $(addprefix $(LIBDIR)/,$(archive) $(shared) $(soname) $(link) pkgconfig/pouchrattle.pc $(addprefix cmake/pouchrattle/,$(cmake))) \
-    $(addprefix $(INCLUDEDIR)/,$(notdir $(headers)))
-own = $(LIBDIR)/cmake/pouchrattle
+installed = $(addprefix $(LIBDIR)/,$(archive) $(shared) $(soname) $(link) pkgconfig/pouchrattle.pc) \
+    $(addprefix $(LIBDIR)/cmake/pouchrattle/,pouchrattleConfig.cmake pouchrattleConfigVersion.cmake) $(addprefix $(INCLUDEDIR)/,$(notdir $(headers))) \
+    $(if $(program),$(BINDIR)/pouch-recover $(LIBEXECDIR)/pouchrattle/recover $(MANDIR)/man1/pouch-recover.1)
+own = $(LIBDIR)/cmake/pouchrattle $(LIBEXECDIR)/pouchrattle
 below = $(addprefix '$(DESTDIR)',$(1))
 
 # $(call filled,FILE,TO,MODE): the file with the folders and the version in place. The CMake package finds the headers from where it stands.
 from_prefix = $(patsubst $(PREFIX)/%,$${prefix}/%,$(1))
 filled = sed -e 's|@PREFIX@|$(PREFIX)|' -e 's|@LIBDIR@|$(call from_prefix,$(LIBDIR))|' -e 's|@INCLUDEDIR@|$(call from_prefix,$(INCLUDEDIR))|' \
-    -e 's|@TO_INCLUDEDIR@|$(shell realpath -ms --relative-to=$(LIBDIR)/cmake/pouchrattle $(INCLUDEDIR))|' \
+    -e 's|@TO_INCLUDEDIR@|$(shell realpath -ms --relative-to=$(LIBDIR)/cmake/pouchrattle $(INCLUDEDIR))|' -e 's|@LIBEXECDIR@|$(LIBEXECDIR)/pouchrattle|' \
     -e 's|@VERSION@|$(VERSION)|' -e 's|@MAJOR@|$(MAJOR)|' $(1) >$(call below,$(2)) && chmod $(3) $(call below,$(2))
 
 install: all
 	install -d $(call below,$(sort $(dir $(installed))))
-	install -m 644 build/$(archive) build/$(shared) $(call below,$(LIBDIR))
+	install -m 644 $(into)/$(archive) $(into)/$(shared) $(call below,$(LIBDIR))
 	ln -sf $(shared) $(call below,$(LIBDIR)/$(soname))
 	ln -sf $(soname) $(call below,$(LIBDIR)/$(link))
 	install -m 644 $(headers) $(call below,$(INCLUDEDIR))
 	@$(call filled,c/pouchrattle.pc.in,$(LIBDIR)/pkgconfig/pouchrattle.pc,644)
 	@$(call filled,c/pouchrattleConfig.cmake.in,$(LIBDIR)/cmake/pouchrattle/pouchrattleConfig.cmake,644)
 	@$(call filled,c/pouchrattleConfigVersion.cmake.in,$(LIBDIR)/cmake/pouchrattle/pouchrattleConfigVersion.cmake,644)
+ifneq ($(program),)
+	install -m 755 $(program) $(call below,$(LIBEXECDIR)/pouchrattle)
+	@$(call filled,c/pouch-recover,$(BINDIR)/pouch-recover,755)
+	@$(call filled,c/pouch-recover.1,$(MANDIR)/man1/pouch-recover.1,644)
+endif
 	$(ldconfig)
 
 uninstall:
@@ -78,7 +111,7 @@ uninstall:
 ldconfig = $(if $(DESTDIR),,[ "$$(id -u)" != 0 ] || PATH="$$PATH:/sbin:/usr/sbin" ldconfig || true)
 
 check:
-	c/test
+	$(test)
 
 clean:
 	rm -rf build

@@ -1,218 +1,206 @@
-// recover SAVE LOG [OUT]: plays a save log back over a save file and shows each row of 16 bytes that this changed.
-// With OUT the recovered save is written there. The work is `savelog::recover`; what is read and written goes through `os` and `io`.
+// recover [--replace] [--speak] SAVE LOG [NEW]: plays a save log back over a save, shows what that changes, and writes the recovered save to NEW.
+// Everything is decided on what was read before a byte is written; SAVE and LOG are only read. What is said is crate recover_text's, recovery savelog's.
+mod files;
+mod journal;
+mod keep;
+mod place;
+mod say;
+mod show;
+mod words;
+
 ghost use mathlib.Core.Path.{_≡_};
-ghost use Prim.Native.Nat.{_+_, _≤_, _<_};
+ghost use Prim.Native.Nat.{_+_, _≤_};
 ghost use lib.ListN.{length};
 ghost use Rattle.io.specs.Counts.{Counts};
-ghost use Rattle.savelog.specs.Log.{saveLimit, outcome, recovery};
-ghost use Rattle.recover.specs.Files.{sizeOf};
-ghost use Rattle.recover.specs.Show.{shown};
-use libc::STDERR_FILENO;
-use libc::STDOUT_FILENO;
-use lines::line::hex_digit;
+ghost use Rattle.savelog.specs.Log.{saveLimit};
+ghost use Rattle.recover_text.specs.Journal.{Bounded, journalLimit};
+use files::Got;
+use keep::Kept;
+use recover_text::journal::LIMIT;
+use recover_text::journal::Scan;
+use recover_text::journal::journal_len;
+use recover_text::message::Why;
+use savelog::RECORD_LEN;
+use words::Asked;
 
-// What reading a file gave: how many bytes, or nothing after a line that says why.
-pub enum Got {
-    Bytes(usize),
-    Nothing,
-}
-
-// A byte as text.
-fn text(b: u8) -> u8
-    ensures { λ r. ⌜ r ≡ shown b ⌝ }
-{
-    if b < 32 {
-        return b'.';
-    }
-    if 126 < b {
-        return b'.';
-    }
-    b
-}
-
-// A line with its sign and address, and room for 16 bytes.
-fn blank(sign: u8, at: usize) -> [u8; 74]
-    requires { ⌜ at < 65536 ⌝ }
-{
-    let mut out = [b' '; 74];
-    out[0] = sign;
-    out[2] = hex_digit((at / 4096) as u8);
-    out[3] = hex_digit((at / 256 % 16) as u8);
-    out[4] = hex_digit((at / 16 % 16) as u8);
-    out[5] = hex_digit((at % 16) as u8);
-    out[73] = b'\n';
-    out
-}
-
-// Puts byte k of a row into its line: in hex, and as text further right.
-fn put(out: &mut [u8; 74], k: usize, b: u8)
-    requires { ⌜ k < 16 ⌝ }
-{
-    out[8 + k * 3] = hex_digit(b / 16);
-    out[9 + k * 3] = hex_digit(b % 16);
-    out[57 + k] = text(b);
-}
-
-// The line of a row of 16 bytes.
-fn line(sign: u8, at: usize, row: &[u8]) -> [u8; 74]
-    requires { ⌜ (at < 65536) × (length (now row) ≡ 16) ⌝ }
-{
-    let mut out = blank(sign, at);
-    let mut k = 0;
-    while k < row.len() {
-        put(&mut out, k, row[k]);
-        k += 1;
-    }
-    out
-}
-
-// Prints a row before and after, where it changed.
-fn show_row(at: usize, old: &[u8], new: &[u8])
-    requires { ⌜ (at < 65536) × (length (now old) ≡ 16) × (length (now new) ≡ 16) ⌝ }
-{
-    if check::same(old, new) {
-        return;
-    }
-    let before = line(b'-', at, old);
-    io::write_all(STDOUT_FILENO, &before);
-    let after = line(b'+', at, new);
-    io::write_all(STDOUT_FILENO, &after);
-}
-
-// Prints every row that changed. A save that recovery takes is whole rows.
-fn show_rows(old: &[u8], new: &[u8])
-    requires { ⌜ (length (now old) ≡ length (now new)) × (length (now old) < 65536) ⌝ }
-{
-    let mut at = 0;
-    while old.len() - at >= 16 {
-        let next = at + 16;
-        show_row(at, &old[at..next], &new[at..next]);
-        at = next;
-    }
-}
-
-fn usage() {
-    io::write_all(STDERR_FILENO, b"usage: recover SAVE LOG [OUT]\n");
-}
-
-fn say(words: &[u8]) {
-    io::write_all(STDOUT_FILENO, words);
-}
-
-// Recovers, and says what came of it; `old` is the save as it was.
-fn recover(save: &mut [u8], old: &[u8], log: &[u8]) -> u8
-    requires { ⌜ (length (now old) ≡ length (now save)) × (length (now old) < 65536) ⌝ }
-    ensures { λ r. ⌜ outcome r (now (save .exit)) ≡ recovery (now (save .entry)) (now (log .entry)) ⌝ }
-{
-    let number = savelog::recover(save, log);
-    if number == numbers::WRONG_LENGTH {
-        say(b"4: refused, a save has 0, 512, 8192 or 32768 bytes and a log at most 65535\n");
-        return number;
-    }
-    if number == numbers::DAMAGED {
-        say(b"6: refused, a record of the log is damaged; the save stays as it is\n");
-        return number;
-    }
-    show_rows(old, save);
-    say(b"0: recovered, ");
-    io::print_decimal(STDOUT_FILENO, savelog::whole_records(log) as u64);
-    say(b" records\n");
-    number
-}
-
-// Opens the file that argument i names, or says why not.
-fn open(i: usize, name: &[u8]) -> i32 {
+// Opens the file that argument i names, or tells why not.
+fn open(i: usize) -> i32 {
     let mut path = io::buffer();
-    let length = os::arg(i, &mut path);
-    if os::errno() != 0 {
-        os::fail(name);
-        return -1;
-    }
-    let fd = os::open_read(&path[..length]);
+    let n = os::arg(i, &mut path);
+    let fd = os::open_read(&path[..n]);
     if fd < 0 {
-        os::fail(&path[..length]);
+        say::failed_call(Why::Unread, i);
     }
     fd
 }
 
-// Reads the file that argument i names, as much of it as fits: a file that is too long fills `buf`.
-fn read(i: usize, name: &[u8], buf: &mut [u8]) -> Got
-    ensures { λ r. ⌜ Counts (sizeOf r) (now (buf .exit)) ⌝ }
-{
-    let fd = open(i, name);
-    if fd < 0 {
-        return Got::Nothing;
+// Measures an open file, or tells that it cannot be read.
+fn measured(fd: i32, i: usize) -> Got {
+    let size = files::measure(fd);
+    if !size.good {
+        say::failed_call(Why::Unread, i);
     }
-    let n = io::read_full(fd, buf);
-    // A short count is the file's end or a read that failed: one more read tells them apart.
-    let mut one = [0u8; 1];
-    let more = libc::read(fd, &mut one);
-    if more < 0 {
-        os::fail(name);
-        libc::close(fd);
-        return Got::Nothing;
-    }
-    libc::close(fd);
-    Got::Bytes(n)
+    size
 }
 
-// Writes the recovered save to the file that argument 3 names.
-fn write(save: &[u8]) {
-    let mut path = io::buffer();
-    let length = os::arg(3, &mut path);
-    if os::errno() != 0 {
-        os::fail(b"OUT");
-        return;
+// What recovery takes off the log's end.
+fn note_end(asked: Asked, len: usize, kept: usize) -> bool
+    requires { ⌜ kept ≤ len ⌝ }
+{
+    if kept < len {
+        return say::zeros(asked.log, len - kept, len);
     }
-    let fd = os::open_overwrite(&path[..length]);
-    if fd < 0 {
-        os::fail(&path[..length]);
-        return;
+    if kept % RECORD_LEN == 0 {
+        return true;
     }
-    if !io::write_all(fd, save) {
-        os::fail(&path[..length]);
-    }
-    libc::close(fd);
+    say::torn(asked.log, kept % RECORD_LEN)
 }
 
-// Recovers `save` and, where OUT was given, writes it.
-fn finish(save: &mut [u8], log: &[u8], words: usize)
-    requires { ⌜ length (now save) ≤ saveLimit + 1 ⌝ }
+// Shows what changed.
+fn show_changes(asked: Asked, old: &[u8], new: &[u8]) -> bool
+    requires { ⌜ (length (now old) ≡ length (now new)) × (length (now old) ≤ 65536) ⌝ }
 {
-    let mut old = [0u8; savelog::SAVE_LIMIT + 1];
-    let n = bytes::copy(save, &mut old);
-    let number = recover(save, &old[..n], log);
-    if number == numbers::DONE {
-        if words == 4 {
-            write(save);
+    if !asked.speak {
+        if !show::all_rows(old, new) {
+            return false;
+        }
+    }
+    show::all_spoken(old, new)
+}
+
+// Says how the writing went; where it is done, by the last line.
+fn conclude(asked: Asked, kept: Kept, records: usize) {
+    match kept {
+        Kept::Done => {
+            say::recovered(records);
+        }
+        Kept::Unflushed => {
+            say::note(Why::Unflushed, asked.new);
+            say::recovered(records);
+        }
+        Kept::Taken => {
+            say::failed(Why::Exists, asked.new);
+        }
+        Kept::Failed => {
+            say::failed(Why::Unwritten, asked.new);
         }
     }
 }
 
-// Reads the log, with room for one byte more than a log may have: too long a file is refused, not cut.
-fn with_log(save: &mut [u8], words: usize)
-    requires { ⌜ length (now save) ≤ saveLimit + 1 ⌝ }
-{
-    let mut log = [0u8; savelog::LOG_LIMIT + 1];
-    let Got::Bytes(m) = read(2, b"LOG", &mut log) else {
+// Writes the recovered save, where that is asked for, and only then tells success.
+fn finish(asked: Asked, path: &[u8], free: bool, save: &[u8], records: usize) {
+    if path.len() == 0 {
+        say::recovered(records);
         return;
-    };
-    finish(save, &log[..m], words);
+    }
+    conclude(asked, keep::keep(path, save, free), records);
 }
 
-// Reads the save, with one byte more likewise.
-fn with_save(words: usize) {
-    let mut save = [0u8; savelog::SAVE_LIMIT + 1];
-    let Got::Bytes(n) = read(1, b"SAVE", &mut save) else {
+// Plays the log over the save and shows what came of it, then goes on to NEW.
+fn recover(asked: Asked, log: i32, save: &mut [u8], scan: Scan, path: &[u8], free: bool)
+    requires { ⌜ (length (now save) ≤ saveLimit + 1) × Bounded scan × (scan .len ≤ journalLimit) ⌝ }
+{
+    let mut old = [0u8; savelog::SAVE_LIMIT + 1];
+    let n = files::copied(save, &mut old);
+    let kept = journal_len(scan);
+    if !journal::play_all(log, asked.log, save, scan, kept) {
         return;
-    };
-    with_log(&mut save[..n], words);
+    }
+    if !note_end(asked, scan.len, kept) {
+        return;
+    }
+    if !show_changes(asked, &old[..n], save) {
+        return;
+    }
+    finish(asked, path, free, save, kept / RECORD_LEN);
+}
+
+// Scans the log, all of it or none.
+fn with_scan(asked: Asked, log: i32, len: usize, save: &mut [u8], path: &[u8], free: bool)
+    requires { ⌜ length (now save) ≤ saveLimit + 1 ⌝ }
+{
+    let scan = journal::scan(log, len);
+    if scan.len > LIMIT {
+        say::failed(Why::Unread, asked.log);
+        return;
+    }
+    if scan.len != len {
+        say::failed(Why::Changed, asked.log);
+        return;
+    }
+    if !files::at_end(log) {
+        say::failed(Why::Changed, asked.log);
+        return;
+    }
+    if !files::again(log) {
+        say::failed_call(Why::Unread, asked.log);
+        return;
+    }
+    recover(asked, log, save, scan, path, free);
+}
+
+// Opens the log, and looks at NEW before anything is done.
+fn with_log(asked: Asked, fd: i32, save: &mut [u8])
+    requires { ⌜ length (now save) ≤ saveLimit + 1 ⌝ }
+{
+    let log = open(asked.log);
+    if log < 0 {
+        return;
+    }
+    let size = measured(log, asked.log);
+    if !size.good {
+        return;
+    }
+    let mut path = io::buffer();
+    let place = place::choose(asked, fd, log, &mut path);
+    if !place.good {
+        return;
+    }
+    let n = place.len;
+    with_scan(asked, log, size.len, save, &path[..n], place.free);
+}
+
+// Takes the bytes of a file of `len` bytes for the save, if they are all of it and a save.
+fn with_bytes(asked: Asked, fd: i32, len: usize, save: &mut [u8])
+    requires { ⌜ length (now save) ≤ saveLimit + 1 ⌝ }
+{
+    if !place::is_save(save) {
+        say::wrong_length(asked.save, len);
+        return;
+    }
+    if save.len() != len {
+        say::failed(Why::Changed, asked.save);
+        return;
+    }
+    with_log(asked, fd, save);
+}
+
+// Reads the save, with room for one byte more than a save may have.
+fn with_save(asked: Asked) {
+    let fd = open(asked.save);
+    if fd < 0 {
+        return;
+    }
+    let size = measured(fd, asked.save);
+    if !size.good {
+        return;
+    }
+    let mut save = [0u8; savelog::SAVE_LIMIT + 1];
+    let got = files::part(fd, &mut save);
+    let n = got.len;
+    if got.good {
+        with_bytes(asked, fd, size.len, &mut save[..n]);
+        return;
+    }
+    say::failed(Why::Changed, asked.save);
 }
 
 fn main() {
-    let words = os::arg_count();
-    match words {
-        3 | 4 => with_save(words),
-        _ => usage(),
+    files::hold_standard();
+    let asked = words::given();
+    if !asked.good {
+        say::usage();
+        return;
     }
+    with_save(asked);
 }

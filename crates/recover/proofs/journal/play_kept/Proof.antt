@@ -1,0 +1,26 @@
+-- What stands before `kept` is within the part, and has as many bytes.
+use mathlib.Core.Path.{sym}
+use native.Mathlib.Omega.{arith}
+use lib.Seq.{length-take-le}
+use borrow.Author.Needs.{needs}
+use Rattle.recover.proofs.journal.play_kept.Statement.{statement}
+use Rattle.recover.proofs.journal.play_kept.Tie as tie
+
+before-requires : tie.Need-before-requires
+before-requires c κs = search needs
+
+slice-aggregate-play : tie.Need-slice-aggregate-play
+slice-aggregate-play c = sym (length-take-le _ _ (omega arith))
+
+play-requires : tie.Need-play-requires
+play-requires c κs = search needs
+
+same-length : tie.Need-same-length
+same-length c = search needs
+
+returns : tie.Need-returns
+returns c = cc
+
+pub play-kept-spec : {M : Type 1} → statement M
+play-kept-spec =
+    tie.close (tie.spec before-requires slice-aggregate-play play-requires same-length returns)

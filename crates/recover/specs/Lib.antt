@@ -1,2 +1,0 @@
-pub mod Show
-pub mod Files

@@ -1,0 +1,198 @@
+// Files: opened, measured, read in parts, and told apart.
+ghost use mathlib.Core.Path.{_≡_};
+ghost use Prim.Native.Nat.{_≤_};
+ghost use lib.ListN.{length};
+ghost use Rattle.io.specs.Counts.{Counts};
+ghost use Rattle.libc.specs.Io.{Ended};
+use libc::PATH_MAX;
+use libc::SEEK_END;
+use libc::SEEK_SET;
+
+// How many bytes; `good`: they could be read, or counted.
+pub struct Got {
+    pub good: bool,
+    pub len: usize,
+}
+
+// Where a standard descriptor was closed at the start, no file that is opened later may get its number: what is printed would go there.
+fn hold_one() {
+    let fd = os::open_read(b"/dev/null");
+    if fd > 2 {
+        libc::close(fd);
+    }
+}
+
+pub fn hold_standard() {
+    hold_one();
+    hold_one();
+    hold_one();
+}
+
+// Of what a call answered, the number; 0 where it failed.
+fn count(n: i64) -> usize {
+    if n < 0 {
+        return 0;
+    }
+    n as usize
+}
+
+fn number(fd: i32) -> u64 {
+    if fd < 0 {
+        return 0;
+    }
+    fd as u64
+}
+
+// Whether nothing is left to read.
+pub fn at_end(fd: i32) -> bool {
+    let mut one = [0u8; 1];
+    libc::read(fd, &mut one) == 0
+}
+
+// To the file's start.
+pub fn again(fd: i32) -> bool {
+    libc::lseek(fd, 0, SEEK_SET) == 0
+}
+
+// The length of an open file, which then stands at its start. A pipe or a terminal has none, and a folder cannot be read.
+pub fn measure(fd: i32) -> Got {
+    let end = libc::lseek(fd, 0, SEEK_END);
+    let mut one = [0u8; 1];
+    if end < 0 {
+        return Got {
+            good: false,
+            len: 0,
+        };
+    }
+    if !again(fd) {
+        return Got {
+            good: false,
+            len: 0,
+        };
+    }
+    if libc::read(fd, &mut one) < 0 {
+        return Got {
+            good: false,
+            len: 0,
+        };
+    }
+    let good = again(fd);
+    let len = count(end);
+    Got {
+        good: good,
+        len: len,
+    }
+}
+
+// Reads on until `buf` is full or the file ends. It is no good where a read failed, or where the file went on after its end.
+pub fn part(fd: i32, buf: &mut [u8]) -> Got
+    ensures { λ r. ⌜ Counts (r .len) (now (buf .exit)) ⌝ }
+{
+    let n = io::read_full(fd, buf);
+    if n == buf.len() {
+        return Got { good: true, len: n };
+    }
+    let good = at_end(fd);
+    Got { good: good, len: n }
+}
+
+// Puts `text` into `out` from `at` on, as much of it as fits, and gives the place behind it. Where `out` is full then, it may not have been all.
+pub fn put(out: &mut [u8], at: usize, text: &[u8]) -> usize
+    requires { ⌜ at ≤ length (now out) ⌝ }
+    ensures { λ r. ⌜ Counts r (now (out .exit)) ⌝ }
+{
+    let mut n = at;
+    let mut i = 0;
+    while i < text.len() {
+        if n >= out.len() {
+            return n;
+        }
+        out[n] = text[i];
+        n += 1;
+        i += 1;
+    }
+    n
+}
+
+// Copies all of `from` to the start of `to`, and gives its length.
+pub fn copied(from: &[u8], to: &mut [u8]) -> usize
+    requires { ⌜ length (now from) ≤ length (now to) ⌝ }
+    ensures { λ r. ⌜ Counts r (now (to .exit)) × (r ≡ length (now (from .entry))) ⌝ }
+{
+    bytes::copy(from, to)
+}
+
+// A path as C takes it. One that is too long is cut; the callers see that it is not.
+fn ended(path: &[u8]) -> [u8; PATH_MAX]
+    ensures { λ r. ⌜ Ended r ⌝ }
+{
+    let mut out = io::buffer();
+    put(&mut out, 0, path);
+    out[4095] = 0;
+    out
+}
+
+// The name of an open file, whatever spelling or links it was opened by, from the system's list of the open descriptors; 0 bytes where it is not told.
+pub fn name_of(fd: i32, out: &mut [u8]) -> usize
+    ensures { λ r. ⌜ Counts r (now (out .exit)) ⌝ }
+{
+    let mut digits = [0u8; 20];
+    let k = io::decimal(number(fd), &mut digits);
+    let mut link = [0u8; 64];
+    let a = put(&mut link, 0, b"/proc/self/fd/");
+    let b = put(&mut link, a, &digits[..k]);
+    let path = ended(&link[..b]);
+    let got = libc::readlink(&path, out);
+    io::count(got, out)
+}
+
+pub enum Same {
+    Yes,
+    No,
+    Unknown,
+}
+
+// Whether two descriptors are of one file, by its name.
+pub fn same_file(a: i32, b: i32) -> Same {
+    let mut x = io::buffer();
+    let mut y = io::buffer();
+    let n = name_of(a, &mut x);
+    let m = name_of(b, &mut y);
+    if n == 0 {
+        return Same::Unknown;
+    }
+    if m == 0 {
+        return Same::Unknown;
+    }
+    if check::same(&x[..n], &y[..m]) {
+        return Same::Yes;
+    }
+    Same::No
+}
+
+// What stands under a name: nothing, something, or what the system does not tell.
+pub enum There {
+    Nothing,
+    Something,
+    Unknown,
+}
+
+// A link counts as something, wherever it leads.
+pub fn look(path: &[u8]) -> There {
+    if path.len() >= PATH_MAX {
+        return There::Unknown;
+    }
+    let mut text = [0u8; 1];
+    let path = ended(path);
+    if libc::readlink(&path, &mut text) >= 0 {
+        return There::Something;
+    }
+    let error = os::errno();
+    if error == libc::EINVAL {
+        return There::Something;
+    }
+    if error == libc::ENOENT {
+        return There::Nothing;
+    }
+    There::Unknown
+}

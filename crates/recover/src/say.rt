@@ -1,0 +1,123 @@
+// What is printed: the lines of crate recover_text, each written whole. Every function tells whether it could be written.
+ghost use Prim.Native.Nat.{_≤_};
+ghost use lib.ListN.{length};
+ghost use Rattle.io.specs.Counts.{Counts};
+use libc::STDERR_FILENO;
+use libc::STDOUT_FILENO;
+use recover_text::message;
+use recover_text::message::Why;
+
+// A line's room: the longest name and the most that is said beside one.
+const LINE: usize = 4400;
+
+// Prints the first n bytes.
+pub fn print(line: &[u8], n: usize) -> bool {
+    if line.len() < n {
+        return false;
+    }
+    if io::write_all(STDOUT_FILENO, &line[..n]) {
+        return true;
+    }
+    os::fail(b"recover: standard output");
+    false
+}
+
+// A byte of a name as it is shown: a question mark stands for a control character, so that a name is on one line, whatever it is.
+fn shown(b: u8) -> u8 {
+    if b < 32 {
+        return b'?';
+    }
+    b
+}
+
+fn plain(name: &mut [u8], n: usize) -> usize
+    requires { ⌜ n ≤ length (now name) ⌝ }
+    ensures { λ r. ⌜ Counts r (now (name .exit)) ⌝ }
+{
+    let mut i = 0;
+    while i < n {
+        name[i] = shown(name[i]);
+        i += 1;
+    }
+    n
+}
+
+// The name of the file that argument i names, as it is shown.
+fn name_at(i: usize, out: &mut [u8]) -> usize
+    ensures { λ r. ⌜ Counts r (now (out .exit)) ⌝ }
+{
+    let n = os::arg(i, out);
+    plain(out, n)
+}
+
+pub fn usage() {
+    io::write_all(
+        STDERR_FILENO,
+        b"usage: recover [--replace] [--speak] SAVE LOG [NEW]\n",
+    );
+    io::write_all(STDOUT_FILENO, b"failed: usage\n");
+}
+
+// A failure of the work on the file that argument i names.
+pub fn failed(why: Why, i: usize) -> bool {
+    let mut name = io::buffer();
+    let n = name_at(i, &mut name);
+    let mut line = [0u8; LINE];
+    let m = message::failed(&mut line, why, &name[..n]);
+    print(&line, m)
+}
+
+// The same after a call that failed: what the system says of it goes to standard error.
+pub fn failed_call(why: Why, i: usize) -> bool {
+    os::fail(b"recover");
+    failed(why, i)
+}
+
+pub fn note(why: Why, i: usize) -> bool {
+    let mut name = io::buffer();
+    let n = name_at(i, &mut name);
+    let mut line = [0u8; LINE];
+    let m = message::note(&mut line, why, &name[..n]);
+    print(&line, m)
+}
+
+pub fn wrong_length(i: usize, len: usize) -> bool {
+    let mut name = io::buffer();
+    let n = name_at(i, &mut name);
+    let mut line = [0u8; LINE];
+    let m = message::wrong_length(&mut line, &name[..n], len as u64);
+    print(&line, m)
+}
+
+pub fn torn(i: usize, left: usize) -> bool {
+    let mut name = io::buffer();
+    let n = name_at(i, &mut name);
+    let mut line = [0u8; LINE];
+    let m = message::torn(&mut line, &name[..n], left as u64);
+    print(&line, m)
+}
+
+pub fn zeros(i: usize, left: usize, len: usize) -> bool {
+    let mut name = io::buffer();
+    let n = name_at(i, &mut name);
+    let mut line = [0u8; LINE];
+    let m = message::zeros(&mut line, &name[..n], left as u64, len as u64);
+    print(&line, m)
+}
+
+// The first damaged record of a part of the log; `before` records stand before the part.
+pub fn damage(i: usize, part: &[u8], ram: usize, before: usize) -> bool
+    requires { ⌜ before ≤ 4611686018427387904 ⌝ }
+{
+    let mut name = io::buffer();
+    let n = name_at(i, &mut name);
+    let mut line = [0u8; LINE];
+    let m = message::damage(&mut line, &name[..n], part, ram, before);
+    print(&line, m)
+}
+
+pub fn recovered(records: usize) -> bool {
+    let mut line = [0u8; LINE];
+    let m = message::recovered(&mut line, records as u64);
+    print(&line, m)
+}

@@ -1,0 +1,67 @@
+-- The words of the messages, in ASCII: each beside the codes of its characters.
+use mathlib.Core.List.{List, [], _∷_}
+use Prim.Native.Nat.{ℕ}
+
+-- "0: recovered, "
+abbrev pub recovered : List ℕ
+recovered = 48 ∷ 58 ∷ 32 ∷ 114 ∷ 101 ∷ 99 ∷ 111 ∷ 118 ∷ 101 ∷ 114 ∷ 101 ∷ 100 ∷ 44 ∷ 32 ∷ []
+
+-- "record"
+abbrev pub recordNoun : List ℕ
+recordNoun = 114 ∷ 101 ∷ 99 ∷ 111 ∷ 114 ∷ 100 ∷ []
+
+-- "byte"
+abbrev pub byteNoun : List ℕ
+byteNoun = 98 ∷ 121 ∷ 116 ∷ 101 ∷ []
+
+-- ": its last record is torn; left out: "
+abbrev pub torn : List ℕ
+torn = 58 ∷ 32 ∷ 105 ∷ 116 ∷ 115 ∷ 32 ∷ 108 ∷ 97 ∷ 115 ∷ 116 ∷ 32 ∷ 114 ∷ 101 ∷ 99 ∷ 111 ∷ 114 ∷ 100 ∷ 32 ∷ 105 ∷ 115 ∷ 32 ∷ 116 ∷ 111 ∷ 114 ∷ 110 ∷ 59 ∷ 32 ∷ 108 ∷ 101 ∷ 102 ∷ 116 ∷ 32 ∷ 111 ∷ 117 ∷ 116 ∷ 58 ∷ 32 ∷ []
+
+-- ": it ends in zeros, as a power cut leaves them; left out: "
+abbrev pub zeros : List ℕ
+zeros = 58 ∷ 32 ∷ 105 ∷ 116 ∷ 32 ∷ 101 ∷ 110 ∷ 100 ∷ 115 ∷ 32 ∷ 105 ∷ 110 ∷ 32 ∷ 122 ∷ 101 ∷ 114 ∷ 111 ∷ 115 ∷ 44 ∷ 32 ∷ 97 ∷ 115 ∷ 32 ∷ 97 ∷ 32 ∷ 112 ∷ 111 ∷ 119 ∷ 101 ∷ 114 ∷ 32 ∷ 99 ∷ 117 ∷ 116 ∷ 32 ∷ 108 ∷ 101 ∷ 97 ∷ 118 ∷ 101 ∷ 115 ∷ 32 ∷ 116 ∷ 104 ∷ 101 ∷ 109 ∷ 59 ∷ 32 ∷ 108 ∷ 101 ∷ 102 ∷ 116 ∷ 32 ∷ 111 ∷ 117 ∷ 116 ∷ 58 ∷ 32 ∷ []
+
+-- " of "
+abbrev pub of : List ℕ
+of = 32 ∷ 111 ∷ 102 ∷ 32 ∷ []
+
+-- "4: refused, "
+abbrev pub refused4 : List ℕ
+refused4 = 52 ∷ 58 ∷ 32 ∷ 114 ∷ 101 ∷ 102 ∷ 117 ∷ 115 ∷ 101 ∷ 100 ∷ 44 ∷ 32 ∷ []
+
+-- " has "
+abbrev pub has : List ℕ
+has = 32 ∷ 104 ∷ 97 ∷ 115 ∷ 32 ∷ []
+
+-- "; a save has "
+abbrev pub aSaveHas : List ℕ
+aSaveHas = 59 ∷ 32 ∷ 97 ∷ 32 ∷ 115 ∷ 97 ∷ 118 ∷ 101 ∷ 32 ∷ 104 ∷ 97 ∷ 115 ∷ 32 ∷ []
+
+-- ", "
+abbrev pub comma : List ℕ
+comma = 44 ∷ 32 ∷ []
+
+-- " or "
+abbrev pub or : List ℕ
+or = 32 ∷ 111 ∷ 114 ∷ 32 ∷ []
+
+-- "\n"
+abbrev pub lineEnd : List ℕ
+lineEnd = 10 ∷ []
+
+-- "6: refused, record "
+abbrev pub refused6 : List ℕ
+refused6 = 54 ∷ 58 ∷ 32 ∷ 114 ∷ 101 ∷ 102 ∷ 117 ∷ 115 ∷ 101 ∷ 100 ∷ 44 ∷ 32 ∷ 114 ∷ 101 ∷ 99 ∷ 111 ∷ 114 ∷ 100 ∷ 32 ∷ []
+
+-- " is damaged or of another save, its bytes are"
+abbrev pub isDamaged : List ℕ
+isDamaged = 32 ∷ 105 ∷ 115 ∷ 32 ∷ 100 ∷ 97 ∷ 109 ∷ 97 ∷ 103 ∷ 101 ∷ 100 ∷ 32 ∷ 111 ∷ 114 ∷ 32 ∷ 111 ∷ 102 ∷ 32 ∷ 97 ∷ 110 ∷ 111 ∷ 116 ∷ 104 ∷ 101 ∷ 114 ∷ 32 ∷ 115 ∷ 97 ∷ 118 ∷ 101 ∷ 44 ∷ 32 ∷ 105 ∷ 116 ∷ 115 ∷ 32 ∷ 98 ∷ 121 ∷ 116 ∷ 101 ∷ 115 ∷ 32 ∷ 97 ∷ 114 ∷ 101 ∷ []
+
+-- "; nothing is written\n"
+abbrev pub unwritten : List ℕ
+unwritten = 59 ∷ 32 ∷ 110 ∷ 111 ∷ 116 ∷ 104 ∷ 105 ∷ 110 ∷ 103 ∷ 32 ∷ 105 ∷ 115 ∷ 32 ∷ 119 ∷ 114 ∷ 105 ∷ 116 ∷ 116 ∷ 101 ∷ 110 ∷ 10 ∷ []
+
+-- "failed: "
+abbrev pub failed : List ℕ
+failed = 102 ∷ 97 ∷ 105 ∷ 108 ∷ 101 ∷ 100 ∷ 58 ∷ 32 ∷ []
