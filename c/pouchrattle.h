@@ -24,8 +24,8 @@
  * All else is checked: any image, any length, any number is taken, and every call ends. The library has no memory of its own, allocates nothing and
  * calls nothing, so a call may be made from any thread; two calls at the same time must not share what one of them writes.
  *
- * Each call gives back a number (enum pouch_number). 0 and 1 say that it is done. Any other refuses: then no byte of what was lent is changed, and
- * a `value` is set to 0. Where several refusals are due, the first in this order is given, and the comments below name them in it:
+ * Each call but pouch_version gives back a number (enum pouch_number). 0 and 1 say that it is done. Any other refuses: then no byte of what was lent
+ * is changed, and a `value` is set to 0. Where several refusals are due, the first in this order is given, and the comments below name them in it:
  *
  *   4  the image's length is not POUCH_IMAGE_LEN
  *   3  the image's contents are out of range (pouch_fresh: the cartridge's description is); or the log's use is beyond the lent log
@@ -104,10 +104,31 @@ enum pouch_kind {
 #define POUCH_SOUND_LEN 48
 #define POUCH_LOG_LEN_MAX 65535
 #define POUCH_COLORS_LEN 192 /* red, green and blue of 64 colours */
+#define POUCH_OAM_LEN 160    /* 40 sprites of four bytes */
 #define POUCH_BLOCK_LEN_MAX 65536
 
 /* A log is records of 3 bytes, most significant bit first: a 1 bit, 15 bits of address in the save, 8 bits of value. */
 #define POUCH_RECORD_LEN 3
+
+/* The version that this header is of, the image's length and a record's, as one number: what pouch_version gives where the library is of the same. */
+#define POUCH_VERSION_MAJOR 0
+#define POUCH_VERSION_MINOR 2
+#define POUCH_VERSION_PATCH 0
+#define POUCH_VERSION                                                                                                                \
+    ((uint64_t)(POUCH_VERSION_MAJOR * 65536 + POUCH_VERSION_MINOR * 256 + POUCH_VERSION_PATCH) << 32 | (uint64_t)POUCH_IMAGE_LEN << 8 | \
+     (uint64_t)POUCH_RECORD_LEN)
+
+/* And taken apart: version in bits 63..32 (major from bit 48 on, minor 8 bits, patch 8 bits), image's length in bits 31..8, record's in bits 7..0. */
+#define POUCH_MAJOR_OF(version) ((unsigned)((version) >> 48))
+#define POUCH_MINOR_OF(version) ((unsigned)((version) >> 40 & 0xFF))
+#define POUCH_PATCH_OF(version) ((unsigned)((version) >> 32 & 0xFF))
+#define POUCH_IMAGE_LEN_OF(version) ((size_t)((version) >> 8 & 0xFFFFFF))
+#define POUCH_RECORD_LEN_OF(version) ((size_t)((version)&0xFF))
+
+/* POUCH_VERSION as the library has it; takes nothing, refuses nothing. For a host that finds the library at run time (compare with POUCH_VERSION), or that
+ * stores images and logs for later: store the number beside them. An image whose length is another version's is refused by 4, and by nothing else would
+ * it be known: the image itself does not say of which version it is. */
+uint64_t pouch_version(void);
 
 /* Starting, and the save's log */
 
@@ -253,24 +274,76 @@ uint8_t pouch_set_joypad_state(uint8_t *image, size_t image_len, uint8_t state);
 uint8_t pouch_are_action_keys_enabled(const uint8_t *image, size_t image_len, uint16_t *value);
 uint8_t pouch_are_direction_keys_enabled(const uint8_t *image, size_t image_len, uint16_t *value);
 
-/* Screen. The host draws, and tells the bus where it stands by pouch_host. */
+/* Screen: for a host that draws.
+ *
+ * Eight numbers of the state are the host's and the bus's together. The host sets them as it draws; the bus changes them when the game writes. Names are
+ * gameboy_core's, behind the arrow what the bus does:
+ *
+ *   screen_disabled             0 or 1; FF44 reads 0 while it is 1      -> 1 by FF40 given bit 7 clear, and by FF44 given bit 7 clear on line 128 or beyond.
+ *                                                                          The bus never clears it: the host does, when the delay is over.
+ *   scan_line                   what FF44 reads, 0 to 153               -> 0 when the screen is disabled
+ *   irq48_signal                which sources of the LCD interrupt      -> 0 when the screen is disabled; FF41 written: of its bits those stay whose source
+ *                               hold now: bits 0, 1, 2 LCD mode 0, 1,      is still selected; FF41 or another byte to FF45 written while FF40's bit 7 is set:
+ *                               2, bit 3 scan line = FF45; each if         bit 3 as pouch_compare_ly_to_lyc sets it. Bits 0 to 2 are set by the host alone.
+ *                               FF41's bit 3, 4, 5, 6 selects it
+ *   lcd_status_mode             0 a line's end (horizontal blank),      -> 0 when the screen is disabled
+ *                               1 vertical blank, 2 OAM is searched,
+ *                               3 a line is drawn
+ *   screen_enable_delay_cycles  cycles until the screen is on           -> 244 by FF40 given bit 7 set while the screen is disabled, every time
+ *   cycles_counter              cycles, as the host counts them         -> 0 when the screen is disabled
+ *   aux_cycles_counter          the same, a second count                -> 0 when the screen is disabled
+ *   window_line                 the window's own line                   -> 144, past the last one shown, where it is 0 on a line below 144 and beyond FF4A
+ *                                                                          and FF40's bit 5 goes from 0 to 1
+ *
+ * So after each write of the game's to FF40, FF41, FF44 or FF45, words too, the host's own copies may be old: read them again by pouch_host_numbers, or
+ * keep none. And set what the drawing changed by the calls for one number: pouch_host with eight copies turns a screen on again that the game has turned
+ * off meanwhile.
+ *
+ * What the bus makes of them: FF44 reads the line; a request of the LCD interrupt needs a signal of 0, so that one source that holds keeps the others
+ * from requesting; FF41 written while FF40's bit 7 is set requests where the present mode's source is selected; FF55 starts a transfer by blocks with one
+ * block at once in mode 0. Nothing else: the bus moves no line and no mode, and does not show the mode in FF41. The host puts it into FF41's bits 1..0:
+ * pouch_load, these two changed, pouch_store. That a screen is on after its delay is the host's doing too: it takes cycles off the delay, and at 0 sets
+ * screen_disabled to 0. A fresh bus has line 144 in mode 1, the screen on, all else 0.
+ *
+ * Double speed, in colour, is the host's too. The game arms it by bit 0 of FF4D; the bus keeps that bit and bit 7, the present speed, and does no more.
+ * At a stop instruction with bit 0 set the host switches: pouch_load of FF4D, and pouch_store of that byte with bits 7 and 0 turned over (^ 0x81).
+ * pouch_update_timer is given the processor's cycles at either speed; the screen takes half as many at double speed.
+ *
+ * For a frame: pouch_colors and pouch_oam once, tiles and maps by pouch_read_block or, whichever bank the game has selected, from vram itself, which the host
+ * owns. What calls cost beside a read of work memory of 150 instructions: one number set 96 to 110, pouch_host_numbers 163, pouch_host 203, pouch_oam 122,
+ * pouch_colors 1,510 (bench/budgets.txt has every call). */
 
-/* Sets what the host's drawing keeps in the state, to any values: screen disabled, scan line (FF44), the interrupt signal, the LCD mode, and four
- * counters: delay until the screen is enabled, cycles, auxiliary cycles, window line.
+/* Sets all eight, to any values: screen disabled, scan line, signal, mode, delay, cycles, auxiliary cycles, window line.
  * 0; 4, 3 image. */
 uint8_t pouch_host(
     uint8_t *image, size_t image_len, bool disabled, uint8_t line, uint8_t signal, uint8_t mode, int32_t delay, int32_t counter, int32_t aux,
     int32_t window);
 
-/* What pouch_host sets, as it stands now; `disabled` is 1 or 0. Refused, all are 0.
+/* All eight as they stand now; `disabled` is 1 or 0. Refused, all are 0.
  * 0; 4, 3 image. */
 uint8_t pouch_host_numbers(
     const uint8_t *image, size_t image_len, uint8_t *disabled, uint8_t *line, uint8_t *signal, uint8_t *mode, int32_t *delay, int32_t *counter,
     int32_t *aux, int32_t *window);
 
+/* One of the eight set, to any value; the other seven stay.
+ * 0; 4, 3 image. */
+uint8_t pouch_set_screen_disabled(uint8_t *image, size_t image_len, bool disabled);
+uint8_t pouch_set_scan_line(uint8_t *image, size_t image_len, uint8_t line);
+uint8_t pouch_set_irq48_signal(uint8_t *image, size_t image_len, uint8_t signal);
+uint8_t pouch_set_lcd_status_mode(uint8_t *image, size_t image_len, uint8_t mode);
+uint8_t pouch_set_screen_enable_delay_cycles(uint8_t *image, size_t image_len, int32_t delay);
+uint8_t pouch_set_cycles_counter(uint8_t *image, size_t image_len, int32_t counter);
+uint8_t pouch_set_aux_cycles_counter(uint8_t *image, size_t image_len, int32_t aux);
+uint8_t pouch_set_window_line(uint8_t *image, size_t image_len, int32_t window);
+
 /* The colours of the palettes, for drawing: red, green, blue of each, 0 to 31; colours 0 to 3 of the background's palettes 0 to 7, then the sprites'.
  * 0; 4, 3 image; 4 colors_len is not POUCH_COLORS_LEN. */
 uint8_t pouch_colors(const uint8_t *image, size_t image_len, uint8_t *colors, size_t colors_len);
+
+/* The sprites, for drawing: FE00..FE9F, for each of 40 its y, x, tile and attributes. (They are the image's first bytes too, as FE00..FEFF are its first
+ * 256; but only this call says so in every version.)
+ * 0; 4, 3 image; 4 oam_len is not POUCH_OAM_LEN. */
+uint8_t pouch_oam(const uint8_t *image, size_t image_len, uint8_t *oam, size_t oam_len);
 
 /* What a write of `byte` does to FF40 (control), FF41 (status), FF44 (scan line), FF45 (the line to compare with).
  * 0; 4, 3 image. */
@@ -284,7 +357,7 @@ uint8_t pouch_do_lyc_write(uint8_t *image, size_t image_len, uint8_t byte);
  * 0; 4, 3 image. */
 uint8_t pouch_compare_ly_to_lyc(uint8_t *image, size_t image_len);
 
-/* A disabled screen gets its delay of 244; another stays as it is.
+/* What FF40 given bit 7 set does: a disabled screen gets its delay of 244 cycles; another stays as it is.
  * 0; 4, 3 image. */
 uint8_t pouch_enable_screen(uint8_t *image, size_t image_len);
 

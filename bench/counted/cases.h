@@ -120,6 +120,15 @@ CASE(are_direction_keys_enabled, POUCH_DONE, NOTHING, pouch_are_direction_keys_e
 CASE(host, POUCH_DONE, NOTHING, pouch_host(IMAGE, false, 5, 0, 2, 0, 4, 0, 0))
 CASE(host_numbers, POUCH_DONE, NOTHING, HOST_NUMBERS)
 CASE(colors, POUCH_DONE, NOTHING, pouch_colors(IMAGE, colors, sizeof colors))
+CASE(oam, POUCH_DONE, NOTHING, pouch_oam(IMAGE, oam, sizeof oam))
+CASE(set_screen_disabled, POUCH_DONE, NOTHING, pouch_set_screen_disabled(IMAGE, true))
+CASE(set_scan_line, POUCH_DONE, NOTHING, pouch_set_scan_line(IMAGE, 5))
+CASE(set_irq48_signal, POUCH_DONE, NOTHING, pouch_set_irq48_signal(IMAGE, 8))
+CASE(set_lcd_status_mode, POUCH_DONE, NOTHING, pouch_set_lcd_status_mode(IMAGE, 2))
+CASE(set_screen_enable_delay_cycles, POUCH_DONE, NOTHING, pouch_set_screen_enable_delay_cycles(IMAGE, 240))
+CASE(set_cycles_counter, POUCH_DONE, NOTHING, pouch_set_cycles_counter(IMAGE, 4))
+CASE(set_aux_cycles_counter, POUCH_DONE, NOTHING, pouch_set_aux_cycles_counter(IMAGE, 4))
+CASE(set_window_line, POUCH_DONE, NOTHING, pouch_set_window_line(IMAGE, 7))
 CASE(do_lcd_control_write, POUCH_DONE, NOTHING, pouch_do_lcd_control_write(IMAGE, 0x91))
 CASE(do_lcd_status_write, POUCH_DONE, NOTHING, pouch_do_lcd_status_write(IMAGE, 0x40))
 CASE(do_scanline_write, POUCH_DONE, NOTHING, pouch_do_scanline_write(IMAGE, 0x00))
@@ -136,6 +145,9 @@ CASE(clear_log, POUCH_DONE, WRITE(0xA123, 0x56), pouch_clear_log(IMAGE))
 CASE(set_log_used, POUCH_DONE, NOTHING, pouch_set_log_used(IMAGE, 300))
 CASE(recover_no_record, POUCH_DONE, NOTHING, pouch_recover(SAVE, log_, 0))
 CASE(recover_1000_records, POUCH_DONE, records(1000), pouch_recover(SAVE, log_, 3000))
+
+/* what the library is */
+CASE(version, POUCH_DONE, NOTHING, (number_64 = pouch_version(), POUCH_DONE))
 
 /* other cartridges */
 CASE(read_rom_mbc2, POUCH_DONE, mbc2(), READ(0x4123))

@@ -4,13 +4,14 @@
 #include <string.h>
 
 static uint8_t image[POUCH_IMAGE_LEN], first[POUCH_IMAGE_LEN], rom[2 * POUCH_ROM_BANK_LEN], vram[POUCH_VRAM_LEN_COLOUR], wram[POUCH_WRAM_LEN_COLOUR];
-static uint8_t save[POUCH_SAVE_LEN_CODE_2], log_[POUCH_LOG_LEN_MAX], sound[POUCH_SOUND_LEN], colors[POUCH_COLORS_LEN], block[1024];
+static uint8_t save[POUCH_SAVE_LEN_CODE_2], log_[POUCH_LOG_LEN_MAX], sound[POUCH_SOUND_LEN], colors[POUCH_COLORS_LEN], oam[POUCH_OAM_LEN], block[1024];
 static size_t vram_len, wram_len, save_len;
 
 /* what calls set */
 static uint8_t byte, disabled, line, signal, mode;
 static uint16_t value;
 static uint32_t record, cycles;
+static uint64_t number_64;
 static int32_t delay, counter, aux, window;
 
 #define IMAGE image, sizeof image

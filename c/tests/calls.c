@@ -165,6 +165,183 @@ static void check_screen(void)
     }
 }
 
+/* The eight numbers, in the order of pouch_host. */
+struct numbers {
+    int64_t at[8];
+};
+
+static struct numbers shown(void)
+{
+    uint8_t disabled = 0xEE, line = 0xEE, signal = 0xEE, mode = 0xEE;
+    int32_t delay = -1, counter = -1, aux = -1, window = -1;
+    IS(pouch_host_numbers(LEND(image), &disabled, &line, &signal, &mode, &delay, &counter, &aux, &window), POUCH_DONE);
+    struct numbers numbers = {{disabled, line, signal, mode, delay, counter, aux, window}};
+    return numbers;
+}
+
+static uint8_t set_one(int which, int64_t to)
+{
+    switch (which) {
+    case 0: return pouch_set_screen_disabled(LEND(image), to != 0);
+    case 1: return pouch_set_scan_line(LEND(image), (uint8_t)to);
+    case 2: return pouch_set_irq48_signal(LEND(image), (uint8_t)to);
+    case 3: return pouch_set_lcd_status_mode(LEND(image), (uint8_t)to);
+    case 4: return pouch_set_screen_enable_delay_cycles(LEND(image), (int32_t)to);
+    case 5: return pouch_set_cycles_counter(LEND(image), (int32_t)to);
+    case 6: return pouch_set_aux_cycles_counter(LEND(image), (int32_t)to);
+    default: return pouch_set_window_line(LEND(image), (int32_t)to);
+    }
+}
+
+/* Each sets its one number, and no other bit of the image: from eight numbers with every bit clear, then with every bit set. */
+static void check_one_number(void)
+{
+    const int64_t values[8][3] = {
+        {0, 1, 0}, {0, 0xA5, 0xFF}, {0x5A, 0xFF, 0}, {3, 0xC3, 0xFE}, {-244, INT32_MAX, 0}, {INT32_MIN, 0x12345678, -1}, {1, -2, 456}, {144, -0x12345678, 0}};
+    for (int set = 0; set < 2; set++)
+        for (int which = 0; which < 8; which++)
+            for (int i = 0; i < 3; i++) {
+                uint8_t wanted[POUCH_IMAGE_LEN];
+                start_mbc1(true);
+                IS(pouch_host(LEND(image), set, set * 0xFF, set * 0xFF, set * 0xFF, -set, -set, -set, -set), POUCH_DONE);
+                struct numbers other = shown();
+                other.at[which] = values[which][i];
+                memcpy(wanted, image.at, sizeof wanted);
+                IS(pouch_host(
+                       wanted, sizeof wanted, other.at[0] != 0, (uint8_t)other.at[1], (uint8_t)other.at[2], (uint8_t)other.at[3], (int32_t)other.at[4],
+                       (int32_t)other.at[5], (int32_t)other.at[6], (int32_t)other.at[7]),
+                   POUCH_DONE);
+                IS(set_one(which, values[which][i]), POUCH_DONE);
+                struct numbers now = shown();
+                for (int k = 0; k < 8; k++)
+                    IS(now.at[k], other.at[k]);
+                IS(memcmp(image.at, wanted, sizeof wanted), 0);
+            }
+}
+
+/* The game turns the screen off while the host draws. The host's copies, set all at once, turn it on again; one at a time they do not. */
+static void check_turned_off(void)
+{
+    for (int one_by_one = 0; one_by_one < 2; one_by_one++) {
+        start_mbc1(true);
+        IS(pouch_host(LEND(image), false, 20, 0, 3, 0, 200, 10, 5), POUCH_DONE);
+        struct numbers mine = shown();
+        IS(wr(0xFF40, 0x00), POUCH_DONE);
+        IS(shown().at[0], 1);
+        IS(rd(0xFF44), 0);
+        mine.at[5] += 4;
+        if (one_by_one)
+            for (int which = 1; which < 8; which++)
+                IS(set_one(which, mine.at[which]), POUCH_DONE);
+        else
+            IS(pouch_host(
+                   LEND(image), mine.at[0] != 0, (uint8_t)mine.at[1], (uint8_t)mine.at[2], (uint8_t)mine.at[3], (int32_t)mine.at[4], (int32_t)mine.at[5],
+                   (int32_t)mine.at[6], (int32_t)mine.at[7]),
+               POUCH_DONE);
+        IS(shown().at[0], one_by_one);
+        IS(rd(0xFF44), one_by_one ? 0 : 20);
+        IS(shown().at[5], 204);
+    }
+    /* on again by the game: the delay, and then the host */
+    start_mbc1(true);
+    IS(wr(0xFF40, 0x00), POUCH_DONE);
+    IS(wr(0xFF40, 0x91), POUCH_DONE);
+    IS(shown().at[0], 1);
+    IS(shown().at[4], 244);
+    IS(pouch_set_screen_enable_delay_cycles(LEND(image), 0), POUCH_DONE);
+    IS(pouch_set_screen_disabled(LEND(image), false), POUCH_DONE);
+    IS(pouch_set_scan_line(LEND(image), 7), POUCH_DONE);
+    IS(rd(0xFF44), 7);
+}
+
+/* The header's words on what the bus changes. */
+static void check_shared_numbers(void)
+{
+    const struct numbers on = {{0, 20, 0x0F, 2, 9, 200, 10, 0}}, high = {{0, 140, 0x0F, 2, 9, 200, 10, 0}};
+    const struct {
+        const struct numbers *from;
+        uint8_t window_top, control, compare; /* FF4A, FF40, FF45 */
+        uint16_t index;
+        uint8_t byte;
+        struct numbers to;
+    } writes[] = {
+        {&on, 30, 0x80, 0, 0xFF40, 0x00, {{1, 0, 0, 0, 9, 0, 0, 0}}},        /* off */
+        {&on, 30, 0x80, 0, 0xFF40, 0xFF, {{0, 20, 0x0F, 2, 9, 200, 10, 0}}}, /* the window on before its line */
+        {&on, 19, 0x80, 0, 0xFF40, 0xA0, {{0, 20, 0x0F, 2, 9, 200, 10, 144}}},
+        {&on, 19, 0xA0, 0, 0xFF40, 0xA0, {{0, 20, 0x0F, 2, 9, 200, 10, 0}}}, /* it was on */
+        {&on, 30, 0x80, 0, 0xFF41, 0x28, {{0, 20, 0x05, 2, 9, 200, 10, 0}}}, /* sources of modes 0 and 2 */
+        {&on, 30, 0x00, 0, 0xFF41, 0x40, {{0, 20, 0x08, 2, 9, 200, 10, 0}}}, /* no comparison: FF40's bit 7 is clear */
+        {&on, 30, 0x80, 0, 0xFF41, 0x40, {{0, 20, 0x00, 2, 9, 200, 10, 0}}},
+        {&on, 30, 0x80, 20, 0xFF41, 0x40, {{0, 20, 0x08, 2, 9, 200, 10, 0}}},
+        {&on, 30, 0x80, 0, 0xFF44, 0x00, {{0, 20, 0x0F, 2, 9, 200, 10, 0}}},
+        {&high, 30, 0x80, 0, 0xFF44, 0x7F, {{1, 0, 0, 0, 9, 0, 0, 0}}},
+        {&high, 30, 0x80, 0, 0xFF44, 0x80, {{0, 140, 0x0F, 2, 9, 200, 10, 0}}},
+        {&on, 30, 0x80, 0, 0xFF45, 0x21, {{0, 20, 0x07, 2, 9, 200, 10, 0}}},
+        {&on, 30, 0x80, 0, 0xFF45, 0x00, {{0, 20, 0x0F, 2, 9, 200, 10, 0}}}, /* the same byte */
+        {&on, 30, 0x00, 0, 0xFF45, 0x21, {{0, 20, 0x0F, 2, 9, 200, 10, 0}}},
+    };
+    start_mbc1(true);
+    const struct numbers first = {{0, 144, 0, 1, 0, 0, 0, 0}};
+    IS(memcmp(shown().at, first.at, sizeof first.at), 0);
+    for (unsigned i = 0; i < sizeof writes / sizeof *writes; i++) {
+        start_mbc1(true);
+        for (int which = 0; which < 8; which++)
+            IS(set_one(which, writes[i].from->at[which]), POUCH_DONE);
+        IS(pouch_store(LEND(image), 0xFF4A, writes[i].window_top), POUCH_DONE);
+        IS(pouch_store(LEND(image), 0xFF40, writes[i].control), POUCH_DONE);
+        IS(pouch_store(LEND(image), 0xFF45, writes[i].compare), POUCH_DONE);
+        IS(wr(writes[i].index, writes[i].byte), POUCH_DONE);
+        struct numbers now = shown();
+        for (int k = 0; k < 8; k++)
+            check(now.at[k], writes[i].to.at[k], "a number of the screen", "", (int)i);
+    }
+}
+
+/* FF4D is armed by the game and switched by the host. */
+static void check_speed(void)
+{
+    start_mbc1(true);
+    IS(rd(0xFF4D) & 0x80, 0);
+    IS(wr(0xFF4D, 0x01), POUCH_DONE);
+    IS(rd(0xFF4D), 0x7F);
+    IS(pouch_store(LEND(image), 0xFF4D, (uint8_t)(load(0xFF4D) ^ 0x81)), POUCH_DONE);
+    IS(rd(0xFF4D), 0xFE);
+    IS(wr(0xFF4D, 0x01), POUCH_DONE);
+    IS(rd(0xFF4D), 0xFF);
+    IS(pouch_store(LEND(image), 0xFF4D, (uint8_t)(load(0xFF4D) ^ 0x81)), POUCH_DONE);
+    IS(rd(0xFF4D), 0x7E);
+}
+
+/* The sprites are what reads of FE00..FE9F give, by a transfer and by a write; what stands behind them stays. */
+static void check_oam(void)
+{
+    uint8_t oam[POUCH_OAM_LEN + 1];
+    start_mbc1(true);
+    for (uint16_t at = 0; at < 0x100; at++)
+        IS(wr((uint16_t)(0xC100 + at), (uint8_t)(at * 7 + 1)), POUCH_DONE);
+    IS(wr(0xFF46, 0xC1), POUCH_DONE);
+    IS(wr(0xFE9F, 0x99), POUCH_DONE);
+    IS(wr(0xFEA0, 0x77), POUCH_DONE);
+    memset(oam, FILL, sizeof oam);
+    IS(pouch_oam(LEND(image), oam, POUCH_OAM_LEN), POUCH_DONE);
+    for (uint16_t at = 0; at < POUCH_OAM_LEN; at++) {
+        IS(oam[at], rd((uint16_t)(0xFE00 + at)));
+        IS(oam[at], at == 0x9F ? 0x99 : (uint8_t)(at * 7 + 1));
+    }
+    IS(oam[POUCH_OAM_LEN], FILL);
+}
+
+static void check_version(void)
+{
+    IS(pouch_version() == POUCH_VERSION, true);
+    IS(POUCH_MAJOR_OF(pouch_version()), POUCH_VERSION_MAJOR);
+    IS(POUCH_MINOR_OF(pouch_version()), POUCH_VERSION_MINOR);
+    IS(POUCH_PATCH_OF(pouch_version()), POUCH_VERSION_PATCH);
+    IS(POUCH_IMAGE_LEN_OF(pouch_version()), POUCH_IMAGE_LEN);
+    IS(POUCH_RECORD_LEN_OF(pouch_version()), POUCH_RECORD_LEN);
+    IS(pouch_version() == 0x0000020000029903, true);
+}
+
 /* Each colour at its three bytes: the background's second and the sprites' last, and no others. */
 static void check_colors(void)
 {
@@ -412,7 +589,13 @@ int main(void)
     check_interrupts();
     check_buttons();
     check_screen();
+    check_one_number();
+    check_turned_off();
+    check_shared_numbers();
+    check_speed();
     check_colors();
+    check_oam();
+    check_version();
     check_blocks();
     check_log();
     check_timer_corners();

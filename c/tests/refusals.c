@@ -71,6 +71,15 @@ static uint8_t try_colors(void)
     return number;
 }
 
+static uint8_t try_oam(void)
+{
+    uint8_t oam[POUCH_OAM_LEN];
+    memset(oam, FILL, sizeof oam);
+    uint8_t number = pouch_oam(LEND(image), oam, sizeof oam);
+    value = !all_are(oam, sizeof oam, FILL);
+    return number;
+}
+
 static uint8_t try_read_block(void)
 {
     uint8_t out[16];
@@ -120,6 +129,14 @@ DOES(update_joypad, LEND(image))
 DOES(clear_log, LEND(image))
 DOES(set_log_used, LEND(image), POUCH_RECORD_LEN)
 DOES(host, LEND(image), true, 1, 2, 3, 4, 5, 6, 7)
+DOES(set_screen_disabled, LEND(image), true)
+DOES(set_scan_line, LEND(image), 1)
+DOES(set_irq48_signal, LEND(image), 2)
+DOES(set_lcd_status_mode, LEND(image), 3)
+DOES(set_screen_enable_delay_cycles, LEND(image), 4)
+DOES(set_cycles_counter, LEND(image), 5)
+DOES(set_aux_cycles_counter, LEND(image), 6)
+DOES(set_window_line, LEND(image), 7)
 
 static const struct entry {
     const char *name;
@@ -134,6 +151,8 @@ static const struct entry {
     ENTRY(reset_window_line, 0), ENTRY(get_interrupts, 0), ENTRY(request_interrupt, 0), ENTRY(remove_interrupt, 0), ENTRY(is_hdma_enabled, 0),
     ENTRY(update_timer, 0), ENTRY(cycles_to_overflow, 0), ENTRY(press, 0), ENTRY(release, 0), ENTRY(update_joypad, 0), ENTRY(clear_log, 0), ENTRY(log_used, 0), ENTRY(host, 0),
     ENTRY(mapper_read, ROM | SAVE), ENTRY(mapper_write, 0), ENTRY(host_numbers, 0), ENTRY(colors, 0), ENTRY(set_log_used, 0),
+    ENTRY(oam, 0), ENTRY(set_screen_disabled, 0), ENTRY(set_scan_line, 0), ENTRY(set_irq48_signal, 0), ENTRY(set_lcd_status_mode, 0),
+    ENTRY(set_screen_enable_delay_cycles, 0), ENTRY(set_cycles_counter, 0), ENTRY(set_aux_cycles_counter, 0), ENTRY(set_window_line, 0),
 };
 
 /* The entry is refused by the number, gives 0 and changes nothing. */
@@ -299,6 +318,14 @@ static void check_numbers(void)
     REFUSED(pouch_colors(LEND(image), wram.at, 0), POUCH_WRONG_LENGTH);
     memset(image.at, 0, image.len);
     REFUSED(pouch_colors(LEND(image), wram.at, 0), POUCH_OUT_OF_RANGE);
+
+    /* 4: of the sprites, and 3 before it */
+    start_mbc1(true);
+    REFUSED(pouch_oam(LEND(image), wram.at, POUCH_OAM_LEN - 1), POUCH_WRONG_LENGTH);
+    REFUSED(pouch_oam(LEND(image), wram.at, POUCH_OAM_LEN + 1), POUCH_WRONG_LENGTH);
+    REFUSED(pouch_oam(LEND(image), wram.at, 0), POUCH_WRONG_LENGTH);
+    memset(image.at, 0, image.len);
+    REFUSED(pouch_oam(LEND(image), wram.at, 0), POUCH_OUT_OF_RANGE);
 
     /* 4: a block longer than all there is to read; 3 before it */
     static uint8_t out[POUCH_BLOCK_LEN_MAX + 1];

@@ -72,6 +72,15 @@ entries! {
     fn pouch_host_numbers(image: &[u8]; disabled: &mut u8, line: &mut u8, signal: &mut u8, mode: &mut u8,
         delay: &mut i32, counter: &mut i32, aux: &mut i32, window: &mut i32);
     fn pouch_colors(image: &[u8], colors: &mut [u8];);
+    fn pouch_oam(image: &[u8], oam: &mut [u8];);
+    fn pouch_set_screen_disabled(image: &mut [u8]; disabled: bool);
+    fn pouch_set_scan_line(image: &mut [u8]; line: u8);
+    fn pouch_set_irq48_signal(image: &mut [u8]; signal: u8);
+    fn pouch_set_lcd_status_mode(image: &mut [u8]; mode: u8);
+    fn pouch_set_screen_enable_delay_cycles(image: &mut [u8]; delay: i32);
+    fn pouch_set_cycles_counter(image: &mut [u8]; counter: i32);
+    fn pouch_set_aux_cycles_counter(image: &mut [u8]; aux: i32);
+    fn pouch_set_window_line(image: &mut [u8]; window: i32);
 
     // src/state.rt
     fn pouch_load(image: &[u8]; index: u16, value: &mut u16);
@@ -98,4 +107,15 @@ entries! {
     fn pouch_update_joypad(image: &mut [u8];);
     fn pouch_clear_log(image: &mut [u8];);
     fn pouch_host(image: &mut [u8]; disabled: bool, line: u8, signal: u8, mode: u8, delay: i32, counter: i32, aux: i32, window: i32);
+}
+
+// src/version.rt
+extern "C" {
+    fn pouch_version() -> u64;
+}
+
+/// What the library is: POUCH_VERSION. It takes nothing and refuses nothing.
+#[inline]
+pub fn version() -> u64 {
+    unsafe { pouch_version() }
 }
