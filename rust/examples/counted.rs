@@ -62,6 +62,14 @@ fn main() {
         remove_interrupt: |memory| memory.remove_interrupt(Interrupt::Timer);
         host: |memory| memory.set_host_numbers(HostNumbers { scan_line: 5, lcd_status_mode: 2, cycles_counter: 4, ..HostNumbers::default() });
         host_numbers: |memory| memory.host_numbers();
+        set_screen_disabled: |memory| memory.set_screen_disabled(true);
+        set_scan_line: |memory| memory.set_scan_line(5);
+        set_irq48_signal: |memory| memory.set_irq48_signal(8);
+        set_lcd_status_mode: |memory| memory.set_lcd_status_mode(2);
+        set_screen_enable_delay_cycles: |memory| memory.set_screen_enable_delay_cycles(240);
+        set_cycles_counter: |memory| memory.set_cycles_counter(4);
+        set_aux_cycles_counter: |memory| memory.set_aux_cycles_counter(4);
+        set_window_line: |memory| memory.set_window_line(7);
         compare_ly_to_lyc: |memory| memory.compare_ly_to_lyc();
         read_cgb_lcd_ram: |memory| memory.read_cgb_lcd_ram(0x9800, 1);
     }

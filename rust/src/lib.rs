@@ -37,6 +37,7 @@ pub mod joypad;
 pub mod mmu;
 mod refusal;
 pub mod timer;
+mod version;
 
 pub use button::Button;
 pub use journal::{journal_len, recover, recover_journal, Journal};
@@ -48,3 +49,4 @@ pub use mmu::interrupt::Interrupt;
 pub use mmu::{Memory, LONGEST_BLOCK, LONGEST_LOG, RECORD_LEN};
 pub use refusal::{Damaged, Expected, OutOfRange, Refusal, Which, Written, WrongLength};
 pub use timer::Timer;
+pub use version::{version, Version};

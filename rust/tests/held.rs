@@ -3,7 +3,7 @@
 mod common;
 
 use common::{bus, cartridge, colour, monochrome, rom_byte, with_save, write};
-use pouchrattle::{recover, Expected, GpuCycles, HostNumbers, MbcType, Memory, NotCut, Refusal, Which, WrongLength, RECORD_LEN};
+use pouchrattle::{recover, version, Expected, GpuCycles, HostNumbers, MbcType, Memory, NotCut, Refusal, Which, WrongLength, IMAGE_LEN, RECORD_LEN};
 
 #[test]
 fn rom() {
@@ -115,6 +115,14 @@ fn threads() {
             scope.spawn(move || assert_eq!(shared.read_byte(0xA000), byte));
         }
     });
+}
+
+/// The archive's version is the crate's, and images and records have the lengths that the crate knows.
+#[test]
+fn the_version() {
+    let version = version();
+    assert_eq!(version.to_string(), env!("CARGO_PKG_VERSION"));
+    assert_eq!((version.image_len, version.record_len), (IMAGE_LEN, RECORD_LEN));
 }
 
 /// What gameboy_core keeps for a cartridge: a save, and FF behind it.

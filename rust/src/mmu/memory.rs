@@ -2,6 +2,7 @@ use super::cartridge::{Cartridge, MbcType, BANK_LEN};
 use super::image::{Image, IMAGE_LEN};
 use crate::entries::*;
 use crate::refusal::{done, never, Expected, OutOfRange, Refusal, Which, WrongLength};
+use crate::version::version;
 use std::fmt;
 
 /// The longest log, in bytes: room for 21,845 records.
@@ -85,7 +86,11 @@ impl Memory {
     }
 
     /// The same with a log of so many bytes. One record takes `RECORD_LEN`. Refused by `WrongLength` over `LONGEST_LOG` too.
+    ///
+    /// Panics where the linked archive is of a version that has images or records of another length than this crate.
     pub fn with_log(cartridge: Cartridge, is_cgb: bool, save: &[u8], log: usize) -> Result<Memory, Refusal> {
+        let library = version();
+        assert!((library.image_len, library.record_len) == (IMAGE_LEN, RECORD_LEN), "the archive is of version {library}, which this crate does not know");
         let Cartridge { mbc_type, ram_size, .. } = cartridge;
         let save_len = cartridge.save_len();
         let (vram, wram) = if is_cgb { COLOUR } else { MONOCHROME };

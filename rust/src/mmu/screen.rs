@@ -1,14 +1,13 @@
 use super::gpu_cycles::GpuCycles;
 use super::image::{CGBColor, HostNumbers, COLORS_LEN, OAM_LEN};
 use super::memory::Memory;
-use super::SPRITES_START_INDEX;
 use crate::entries::*;
 use crate::refusal::done;
 use std::array;
 
-/// For each of the Rust's fields, the function that reads it and the one that sets it.
+/// For each of the Rust's fields, the function that reads it and the one that sets it by its entry.
 macro_rules! fields {
-    ($($(#[$doc:meta])* $name:ident: $type:ty, $set:ident;)*) => {
+    ($($(#[$doc:meta])* $name:ident: $type:ty, $set:ident by $entry:ident;)*) => {
         /// The fields of the Rust's `Memory` and of its `gpu_cycles`, as functions. A read takes all of them from the image, as `host_numbers` does:
         /// who wants several calls that. Any value is taken, and nothing refuses these.
         impl Memory {
@@ -21,7 +20,7 @@ macro_rules! fields {
             #[doc = concat!("Sets `", stringify!($name), "`, and nothing else.")]
             #[inline]
             pub fn $set(&mut self, to: $type) {
-                self.set_host_numbers(HostNumbers { $name: to, ..self.host_numbers() });
+                done($entry(&mut self.image, to));
             })*
         }
     };
@@ -29,21 +28,21 @@ macro_rules! fields {
 
 fields! {
     /// Whether the screen is off. The game switches it off by FF40; the host switches it on when its delay is over.
-    screen_disabled: bool, set_screen_disabled;
+    screen_disabled: bool, set_screen_disabled by pouch_set_screen_disabled;
     /// The line that is drawn, 0 to 153, which FF44 reads.
-    scan_line: u8, set_scan_line;
+    scan_line: u8, set_scan_line by pouch_set_scan_line;
     /// Which sources of the LCD interrupt hold now: bits 0, 1, 2 the modes, bit 3 the line that FF45 names.
-    irq48_signal: u8, set_irq48_signal;
+    irq48_signal: u8, set_irq48_signal by pouch_set_irq48_signal;
     /// The screen's mode: 0 at a line's end, 1 between frames, 2 while sprites are searched, 3 while the line is drawn.
-    lcd_status_mode: u8, set_lcd_status_mode;
+    lcd_status_mode: u8, set_lcd_status_mode by pouch_set_lcd_status_mode;
     /// `gpu_cycles.screen_enable_delay_cycles`: cycles until a screen that was switched on shows something.
-    screen_enable_delay_cycles: i32, set_screen_enable_delay_cycles;
+    screen_enable_delay_cycles: i32, set_screen_enable_delay_cycles by pouch_set_screen_enable_delay_cycles;
     /// `gpu_cycles.cycles_counter`: cycles of the current mode.
-    cycles_counter: i32, set_cycles_counter;
+    cycles_counter: i32, set_cycles_counter by pouch_set_cycles_counter;
     /// `gpu_cycles.aux_cycles_counter`: cycles of the current line in mode 1, in which no line is drawn.
-    aux_cycles_counter: i32, set_aux_cycles_counter;
+    aux_cycles_counter: i32, set_aux_cycles_counter by pouch_set_aux_cycles_counter;
     /// `gpu_cycles.window_line`: the line of the window that is drawn next.
-    window_line: i32, set_window_line;
+    window_line: i32, set_window_line by pouch_set_window_line;
 }
 
 /// The screen. The host draws; nothing refuses these.
@@ -94,15 +93,17 @@ impl Memory {
     /// Sets the last four of them, to any values; the others stay.
     #[inline]
     pub fn set_gpu_cycles(&mut self, to: GpuCycles) {
-        let GpuCycles { cycles_counter, aux_cycles_counter, screen_enable_delay_cycles, window_line } = to;
-        self.set_host_numbers(HostNumbers { cycles_counter, aux_cycles_counter, screen_enable_delay_cycles, window_line, ..self.host_numbers() });
+        self.set_cycles_counter(to.cycles_counter);
+        self.set_aux_cycles_counter(to.aux_cycles_counter);
+        self.set_screen_enable_delay_cycles(to.screen_enable_delay_cycles);
+        self.set_window_line(to.window_line);
     }
 
     /// The sprites, FE00..FE9F, for drawing: 40 of 4 bytes.
     #[inline]
     pub fn oam(&self) -> [u8; OAM_LEN] {
         let mut oam = [0; OAM_LEN];
-        done(pouch_read_block(&self.image, &self.rom, &self.vram, &self.wram, &self.save, &self.sound, SPRITES_START_INDEX, &mut oam));
+        done(pouch_oam(&self.image, &mut oam));
         oam
     }
 
