@@ -1,6 +1,7 @@
 // Calls on the state alone, on the image itself (crate in_place), which take and put no more of it than they need. Each is what crate entry makes of it:
 // decode, call, encode. None has a `requires`: an image that is not taken is refused by its number, then what the call itself refuses.
-// The timer's, the joypad's and the interrupts' calls ask for that number in two (`image::mapper_number`, `image::rest_number`), each put in place.
+// The timer's, the joypad's and the interrupts' calls, and those that set one number of the screen, ask for that number in two (`image::mapper_number`,
+// `image::rest_number`), each put in place.
 use entry::Given;
 ghost use mathlib.Core.Path.{_≡_};
 ghost use Rattle.dispatch.specs.Step.{flagNumber};

@@ -119,6 +119,8 @@ pub fn host(image: &mut [u8], lcd: Lcd) -> u8
     numbers::DONE
 }
 
+// Where the eight stand in an image, in bits (crates/image/src/layout.rt; crates/image/specs/Layout.antt, to which the proofs hold both).
+
 const DISABLED_AT: usize = 5057;
 
 const LINE_AT: usize = 5081;
