@@ -1,5 +1,4 @@
 // The rows that changed, in hex: of each its line before, after `-`, and its line now, after `+`. A row is 16 bytes.
-ghost use mathlib.Core.List.{[], _∷_};
 ghost use mathlib.Core.Path.{_≡_};
 ghost use Prim.Native.Nat.{_+_, _*_, _≤_, _<_};
 ghost use lib.ListN.{length};

@@ -1,6 +1,4 @@
 // The rows that changed, to be heard: `0010: LUNA becomes STELLA`, and byte by byte what no text says, `001A: 07 becomes 09`.
-ghost use mathlib.Core.Bool.{Bool};
-ghost use mathlib.Core.List.{[], _∷_};
 ghost use mathlib.Core.Path.{_≡_};
 ghost use Prim.Native.Nat.{_+_, _*_, _≤_, _<_};
 ghost use lib.ListN.{length};
