@@ -5,4 +5,5 @@ pub mod Lines
 pub mod Parts
 pub mod Scans
 pub mod Hearing
+pub mod Heard
 pub mod Choice
