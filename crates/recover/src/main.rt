@@ -1,5 +1,5 @@
 // recover [--replace] [--speak] SAVE LOG [NEW]: plays a save log back over a save, shows what that changes, and writes the recovered save to NEW.
-// Everything is decided on what was read before a byte is written; SAVE and LOG are only read. What is said is crate recover_text's, recovery savelog's.
+// Everything is decided on what was read, before a byte is written. What is said is crate recover_text's, recovery savelog's.
 mod files;
 mod journal;
 mod keep;
@@ -11,7 +11,6 @@ mod words;
 ghost use mathlib.Core.Path.{_≡_};
 ghost use Prim.Native.Nat.{_+_, _≤_};
 ghost use lib.ListN.{length};
-ghost use Rattle.io.specs.Counts.{Counts};
 ghost use Rattle.savelog.specs.Log.{saveLimit};
 ghost use Rattle.recover_text.specs.Journal.{Bounded, journalLimit};
 use files::Got;

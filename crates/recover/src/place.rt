@@ -1,6 +1,8 @@
 // NEW: whether it may be written, and under which name.
 ghost use mathlib.Core.Path.{_≡_};
+ghost use lib.ListN.{length};
 ghost use Rattle.io.specs.Counts.{Counts};
+ghost use Rattle.savelog.specs.Log.{saveLengths, oneOf};
 use crate::files;
 use crate::files::Same;
 use crate::files::There;
@@ -25,8 +27,10 @@ fn refused() -> Place
     }
 }
 
-// Whether a save of these bytes would be taken.
-pub fn is_save(bytes: &mut [u8]) -> bool {
+// Whether recovery takes a save of these bytes: it is asked with no log, which leaves them as they are.
+pub fn is_save(bytes: &mut [u8]) -> bool
+    ensures { λ r. ⌜ (r ≡ oneOf (length (now (bytes .entry))) saveLengths) × (now (bytes .exit) ≡ now (bytes .entry)) ⌝ }
+{
     let none = [0u8; 1];
     savelog::recover(bytes, &none[..0]) == numbers::DONE
 }
