@@ -36,7 +36,15 @@ pub use fields::put_used;
 pub use fields::registers_at;
 pub use fields::rest_surely_fits;
 pub use fields::used_at;
+pub use layout::AUX_AT;
+pub use layout::COUNTER_AT;
+pub use layout::DELAY_AT;
+pub use layout::DISABLED_AT;
 pub use layout::LENGTH;
+pub use layout::LINE_AT;
+pub use layout::MODE_AT;
+pub use layout::SIGNAL_AT;
+pub use layout::WINDOW_AT;
 use memory::Core;
 use memory::Memory;
 

@@ -119,38 +119,20 @@ pub fn host(image: &mut [u8], lcd: Lcd) -> u8
     numbers::DONE
 }
 
-// Where the eight stand in an image, in bits (crates/image/src/layout.rt; crates/image/specs/Layout.antt, to which the proofs hold both).
-
-const DISABLED_AT: usize = 5057;
-
-const LINE_AT: usize = 5081;
-
-const SIGNAL_AT: usize = 5089;
-
-const MODE_AT: usize = 5097;
-
-const DELAY_AT: usize = 5155;
-
-const COUNTER_AT: usize = 5187;
-
-const AUX_AT: usize = 5219;
-
-const WINDOW_AT: usize = 5251;
-
 // The field of one of the eight numbers.
 fn put_number(image: &mut [u8], number: HostNumber)
     requires { ⌜ Held (now image) ⌝ }
     ensures { λ _. ⌜ now (image .exit) ≡ imageOf (hosted (loadCall (now (image .entry)) .state) (withNumber (loadCall (now (image .entry)) .state .core .lcd) number)) ⌝ }
 {
     match number {
-        HostNumber::Disabled(x) => places::put_flag(image, DISABLED_AT, x),
-        HostNumber::Line(x) => places::put_u8(image, LINE_AT, 8, x),
-        HostNumber::Signal(x) => places::put_u8(image, SIGNAL_AT, 8, x),
-        HostNumber::Mode(x) => places::put_u8(image, MODE_AT, 8, x),
-        HostNumber::Delay(x) => put_signed(image, DELAY_AT, x),
-        HostNumber::Counter(x) => put_signed(image, COUNTER_AT, x),
-        HostNumber::Aux(x) => put_signed(image, AUX_AT, x),
-        HostNumber::Window(x) => put_signed(image, WINDOW_AT, x),
+        HostNumber::Disabled(x) => places::put_flag(image, image::DISABLED_AT, x),
+        HostNumber::Line(x) => places::put_u8(image, image::LINE_AT, 8, x),
+        HostNumber::Signal(x) => places::put_u8(image, image::SIGNAL_AT, 8, x),
+        HostNumber::Mode(x) => places::put_u8(image, image::MODE_AT, 8, x),
+        HostNumber::Delay(x) => put_signed(image, image::DELAY_AT, x),
+        HostNumber::Counter(x) => put_signed(image, image::COUNTER_AT, x),
+        HostNumber::Aux(x) => put_signed(image, image::AUX_AT, x),
+        HostNumber::Window(x) => put_signed(image, image::WINDOW_AT, x),
     }
 }
 
