@@ -9,9 +9,12 @@ use Rattle.mbc.specs.declared.cartridge.Cartridge.{Cartridge}
 use Rattle.mbc.specs.declared.mbc.Mapper.{Mapper}
 use Rattle.mbc.specs.declared.mbc.Mapper.the-variants.{RomOnly, Mbc1, Mbc2}
 use Rattle.mbc.proofs.Lawful.{Lawful}
-use Rattle.mbc.proofs.RomOnlyLaws.{rom-only-lawful, rom-only-starts}
-use Rattle.mbc.proofs.Mbc1Laws.{mbc1-lawful, mbc1-starts}
-use Rattle.mbc.proofs.Mbc2Laws.{mbc2-lawful, mbc2-starts}
+use Rattle.mbc.proofs.Cases.RomOnlyLaws.{rom-only-lawful, rom-only-starts}
+use Rattle.mbc.proofs.Cases.Mbc1Laws.{mbc1-lawful, mbc1-starts}
+use Rattle.mbc.proofs.Cases.Mbc2Laws.{mbc2-lawful, mbc2-starts}
+pub mod RomOnlyLaws
+pub mod Mbc1Laws
+pub mod Mbc2Laws
 
 pub lawful : (m : Mapper) → Lawful m
 lawful RomOnly = rom-only-lawful

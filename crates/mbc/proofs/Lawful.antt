@@ -1,8 +1,13 @@
 -- What is proved of each mapper, in its own file; proofs/Cases.antt has them together, and the rest follows from it with no case.
 use mathlib.Core.Path.{_≡_}
-use mathlib.Core.Bool.{true}
+use mathlib.Core.Bool.{Bool, true}
 use mathlib.Core.Logic.{_⊎_}
-use Prim.Native.Nat.{ℕ, _<_, _≤_}
+use Prim.Native.Nat.{ℕ, _+_, _*_, _<_, _≤_}
+use native.Mathlib.Omega.{arith}
+use lib.Dec.{lit<}
+use Rattle.rules.proofs.Tests.{by-cond}
+use Rattle.mbc.specs.PanDocs.{ramAddress}
+use Rattle.mbc.specs.Behaviour.{ramWhere}
 use Rattle.mbc.specs.Mbc.{oneOf, powers, ramLen, described, inRange, behaviour, known, registersOf, mapperOf, ramSource, after}
 use Rattle.mbc.specs.declared.cartridge.Cartridge.{Cartridge}
 use Rattle.mbc.specs.declared.mbc.Mapper.{Mapper}
@@ -52,3 +57,13 @@ pub record Lawful (m : Mapper) : Type 0 where
   pub like : (c : Cartridge) (index value : ℕ) → registersOf (after c m index value) .kind ≡ registersOf m .kind
   pub own : (c : Cartridge) (index value : ℕ) → behaviour (after c m index value) .ownRam ≡ behaviour m .ownRam
   pub stays : (c : Cartridge) (index value : ℕ) → inRange c m ≡ true → inRange c (after c m index value) ≡ true
+
+-- what several mappers share: a bank of the cartridge's RAM
+
+pub where-whole : (on : Bool) (bank index : ℕ) → Whole (ramWhere on bank index)
+where-whole on bank index = by-cond Whole on (Save (ramAddress bank index)) (Fixed 0xFF) (λ y. tt) (λ n. lit< tt)
+
+pub where-within : (len : ℕ) (on : Bool) (bank index : ℕ) → (on ≡ true → bank * 0x2000 + 0x2000 ≤ len) → 0xA000 ≤ index → index < 0xC000
+    → Within 0 len (ramWhere on bank index)
+where-within len on bank index room l h =
+    by-cond (Within 0 len) on (Save (ramAddress bank index)) (Fixed 0xFF) (λ y. omega (arith, room y)) (λ n. lit< tt)

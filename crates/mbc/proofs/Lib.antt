@@ -1,12 +1,10 @@
 pub mod Bools
 pub mod Banks
 pub mod Bits
+pub mod Same
 pub mod Cartridges
 pub mod Places
 pub mod Lawful
-pub mod RomOnlyLaws
-pub mod Mbc1Laws
-pub mod Mbc2Laws
 pub mod Cases
 pub mod Ranges
 pub mod Sources

@@ -13,7 +13,7 @@ use Rattle.mbc.proofs.Lawful.{Described, Held}
 use Rattle.mbc.proofs.Cases.{lawful}
 pub use Rattle.mbc.proofs.Cartridges.{banks-most, banks-least}
 pub use Rattle.mbc.proofs.Places.{in-ram}
-pub use Rattle.mbc.proofs.Mbc1Laws.{Mbc1Facts, mbc1-facts}
+pub use Rattle.mbc.proofs.Cases.Mbc1Laws.{Mbc1Facts, mbc1-facts}
 pub use Rattle.mbc.proofs.Cases.{start-in-range}
 
 pub in-described : (c : Cartridge) (m : Mapper) → inRange c m ≡ true → Described c

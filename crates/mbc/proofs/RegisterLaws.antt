@@ -1,53 +1,12 @@
 -- Registers and mappers, both ways.
-use mathlib.Core.Path.{_≡_, refl, sym, ap, _∙_}
-use mathlib.Core.Bool.{Bool, true, false}
-use Prim.Native.Nat.{ℕ, _<_}
-use lib.Dec.{eqb}
-use borrow.Author.Tests.{eqb-true, eq-eqb}
+use mathlib.Core.Path.{_≡_, sym, ap, _∙_}
+use mathlib.Core.Bool.{true}
+use Prim.Native.Nat.{_<_}
 use Rattle.mbc.specs.Mbc.{known, registersOf, mapperOf, same, sound}
 use Rattle.mbc.specs.declared.mbc.Mapper.{Mapper}
 use Rattle.mbc.specs.declared.held.Registers.{Registers}
-use Rattle.rules.proofs.Tests.{both-true}
+use Rattle.mbc.proofs.Same.{same-self, same-is}
 use Rattle.mbc.proofs.Cases.{lawful}
-
--- all fields are the same
-same-self : (r : Registers) → same r r ≡ true
-unfolding same
-same-self r =
-    rw (
-      eq-eqb (r .kind) (r .kind) refl,
-      eq-eqb (r .rom) (r .rom) refl,
-      eq-eqb (r .ram) (r .ram) refl,
-      eq-eqb (r .mode) (r .mode) refl,
-      eq-eqb (r .enabled) (r .enabled) refl,
-      eq-eqb (r .high) (r .high) refl,
-    )
-
-numbers : (k r a o e h : ℕ) → Registers
-numbers k r a o e h = record { kind = k; rom = r; ram = a; mode = o; enabled = e; high = h }
-
-numbers-are : (k r a o e h : ℕ) (s : Registers) → k ≡ s .kind → r ≡ s .rom → a ≡ s .ram → o ≡ s .mode → e ≡ s .enabled → h ≡ s .high
-    → s ≡ numbers k r a o e h
-unfolding numbers
-numbers-are k r a o e h s p q t u v w = rw (p, q, t, u, v, w)
-
-same-is : (r s : Registers) → same r s ≡ true → s ≡ r
-unfolding same numbers
-same-is r s e =
-    let a = both-true (eqb (r .kind) (s .kind)) _ e in
-    let b = both-true (eqb (r .rom) (s .rom)) _ (a .1) in
-    let c = both-true (eqb (r .ram) (s .ram)) _ (b .1) in
-    let d = both-true (eqb (r .mode) (s .mode)) _ (c .1) in
-    let f = both-true (eqb (r .enabled) (s .enabled)) _ (d .1) in
-    numbers-are (r .kind) (r .rom) (r .ram) (r .mode) (r .enabled) (r .high) s (eqb-true _ _ (a .0)) (eqb-true _ _ (b .0)) (eqb-true _ _ (c .0))
-    (eqb-true _ _ (d .0)) (eqb-true _ _ (f .0)) (eqb-true _ _ (f .1))
-
-refuted : (b : Bool) → (b ≡ true → ⊥) → false ≡ b
-refuted true h = absurd (h refl)
-refuted false h = refl
-
-pub unlike : (r s : Registers) → (r ≡ s → ⊥) → false ≡ same r s
-unlike r s h = refuted (same r s) (λ e. h (sym (same-is r s e)))
 
 pub mapper-of-registers : (m : Mapper) → mapperOf (registersOf m) ≡ m
 mapper-of-registers m = lawful m .back

@@ -1,9 +1,11 @@
 -- What a mapper is to the rest: one such record for each, at the end of its own file; specs/Mbc.antt names it in one case and has what is common.
-use mathlib.Core.Bool.{Bool}
+use mathlib.Core.Bool.{Bool, cond}
 use Prim.Native.Nat.{ℕ}
+use Rattle.mbc.specs.PanDocs.{ramAddress, offByte}
 use Rattle.mbc.specs.declared.cartridge.Cartridge.{Cartridge}
 use Rattle.mbc.specs.declared.mbc.Mapper.{Mapper}
 use Rattle.mbc.specs.declared.mbc.Source.{Source}
+use Rattle.mbc.specs.declared.mbc.Source.the-variants.{Save, Fixed}
 use Rattle.mbc.specs.declared.held.Registers.{Registers}
 
 pub record Behaviour : Type 0 where
@@ -19,3 +21,7 @@ pub record Behaviour : Type 0 where
   pub after : Cartridge → ℕ → ℕ → Mapper
   -- its fields as numbers; those that it lacks hold their starting values
   pub registers : Registers
+
+-- a bank of the cartridge's RAM at A000..BFFF, where it is on
+abbrev pub ramWhere : Bool → ℕ → ℕ → Source
+ramWhere on bank index = cond on (Save (ramAddress bank index)) (Fixed offByte)

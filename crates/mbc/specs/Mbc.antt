@@ -1,5 +1,5 @@
--- The mappers as document 01 has them (sections are named in quotes). A further mapper is a file like specs/RomOnly.antt, one case of `behaviour` and one of
--- `mapperOf`; all else is common. Pan Docs' pieces are in specs/PanDocs.antt.
+-- The mappers as document 01 has them (sections are named in quotes). A further mapper is a file like specs/Mbc/RomOnlyRules.antt, one case of `behaviour` and
+-- one of `mapperOf`; all else is common. Pan Docs' pieces are in specs/PanDocs.antt.
 use mathlib.Core.Bool.{Bool, cond, not, _&&_, _||_}
 use mathlib.Core.List.{List}
 use Prim.Native.Nat.{ℕ, _*_}
@@ -24,11 +24,14 @@ pub use Rattle.mbc.specs.Cartridge.{oneOf, implies, cartridgeOf, romLen,
 unfoldable pub use Rattle.mbc.specs.Cartridge.{ramBanks, hasBanks, hasCode, log2, banksOf}
 pub use Rattle.mbc.specs.Registers.{starting, bit, isOn}
 unfoldable pub use Rattle.mbc.specs.Registers.{same}
-pub use Rattle.mbc.specs.RomOnly.{kindRomOnly, romOnly}
-pub use Rattle.mbc.specs.Mbc1.{kindMbc1, mbc1, from1, held1, ramSource1, numbers1, withRom, withRam, withMode, withEnabled, withHigh}
-unfoldable pub use Rattle.mbc.specs.Mbc1.{suits, ramBank1, enable1, low1, high1, mode1, after1}
-pub use Rattle.mbc.specs.Mbc2.{kindMbc2, mbc2, from2, ramSource2, numbers2}
-unfoldable pub use Rattle.mbc.specs.Mbc2.{enable2, select2, after2}
+pub use Rattle.mbc.specs.Mbc.RomOnlyRules.{kindRomOnly, romOnly}
+pub use Rattle.mbc.specs.Mbc.Mbc1Rules.{kindMbc1, mbc1, from1, held1, ramSource1, numbers1, withRom, withRam, withMode, withEnabled, withHigh}
+unfoldable pub use Rattle.mbc.specs.Mbc.Mbc1Rules.{suits, ramBank1, enable1, low1, high1, mode1, after1}
+pub use Rattle.mbc.specs.Mbc.Mbc2Rules.{kindMbc2, mbc2, from2, ramSource2, numbers2}
+unfoldable pub use Rattle.mbc.specs.Mbc.Mbc2Rules.{enable2, select2, after2}
+pub mod RomOnlyRules
+pub mod Mbc1Rules
+pub mod Mbc2Rules
 
 -- The cases
 

@@ -3,7 +3,7 @@ use crate::cartridge::Cartridge;
 use crate::mbc::Mapper;
 ghost use mathlib.Core.Path.{_≡_};
 ghost use mathlib.Core.Bool.{true};
-ghost use Rattle.mbc.specs.Registers.{starting, bit};
+ghost use Rattle.mbc.specs.Registers.{starting, bit, same};
 ghost use Rattle.mbc.specs.Mbc.{inRange, mapperOf, registersOf, sound, after};
 
 // Those that the mapper lacks hold their starting values.
@@ -45,6 +45,16 @@ impl Registers {
         let mapper = Mapper::from_registers(self);
         let next = mapper.after(cartridge, index, value);
         next.registers()
+    }
+
+    pub fn same(self, other: Registers) -> bool
+        ensures { λ r. ⌜ r ≡ same self other ⌝ }
+    {
+        (self.kind == other.kind)
+            & ((self.rom == other.rom)
+                & ((self.ram == other.ram)
+                    & ((self.mode == other.mode)
+                        & ((self.enabled == other.enabled) & (self.high == other.high)))))
     }
 
     // Whether a mapper has them.

@@ -12,6 +12,7 @@ ghost use mathlib.Core.List.{[]};
 ghost use Prim.Native.Nat.{ℕ, _<_, _≤_};
 ghost use lib.ListN.{length};
 ghost use Rattle.mbc.specs.PanDocs.{romAddress, romPlace, ramAddress};
+ghost use Rattle.mbc.specs.Behaviour.{ramWhere};
 ghost use Rattle.mbc.specs.Mbc.{romLen, ramLen, inRange, behaviour, mapperOf, registersOf, sound, mapped, start, ramSource, source, byteOf, readAt, storedAt, answer, after, written, fresh, lengths, readAs, readByte, writeByte};
 ghost use Rattle.mbc.specs.declared.cartridge.Cartridge.{Cartridge};
 
@@ -108,6 +109,17 @@ fn refused_read(number: u8) -> ReadByte
 }
 
 impl Source {
+    // A bank of the cartridge's RAM, where it is on.
+    pub fn of_ram(on: bool, bank: u8, index: u16) -> Source
+        requires { ⌜ 0xA000 ≤ index ⌝ }
+        ensures { λ r. ⌜ r ≡ ramWhere on bank index ⌝ }
+    {
+        if on {
+            return Source::Save(ram_address(bank, index));
+        }
+        Source::Fixed(0xFF)
+    }
+
     // What a write of `value` asks of a save of `len` bytes: to store where a read would look.
     pub fn stored(self, len: usize, value: u8) -> Answer
         ensures { λ r. ⌜ r ≡ storedAt len value self ⌝ }
@@ -159,17 +171,18 @@ impl Mapper {
         Mapper::Mbc2(Mbc2::from_registers(r))
     }
 
-    // Whether a mapper has these fields: its kind is known, and a field that it lacks holds its starting value.
+    // Whether a mapper has these fields: it gives them back, so its kind is known, and a field that it lacks holds its starting value.
     pub fn has(r: Registers) -> bool
         ensures { λ b. ⌜ b ≡ sound r ⌝ }
     {
         if r.kind == rom_only::KIND {
-            return rom_only::has(r);
+            return r.same(Registers::start(rom_only::KIND));
         }
         if r.kind == mbc1::KIND {
             return Mbc1::has(r);
         }
-        Mbc2::has(r)
+        let m = Mbc2::from_registers(r);
+        r.same(m.registers())
     }
 
     fn start(kind: u8) -> Mapper

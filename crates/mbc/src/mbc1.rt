@@ -3,13 +3,12 @@ use crate::cartridge::Cartridge;
 use crate::held::Registers;
 use crate::held::bit;
 use crate::mbc::Source;
-use crate::mbc::ram_address;
 ghost use mathlib.Core.Path.{_≡_};
 ghost use mathlib.Core.Bool.{true, cond};
 ghost use Prim.Native.Nat.{_<_, _≤_};
 ghost use Rattle.mbc.specs.PanDocs.{mbc1Bank};
 ghost use Rattle.mbc.specs.Registers.{same};
-ghost use Rattle.mbc.specs.Mbc1.{held1, suits, ramBank1, enable1, low1, high1, withMode, mode1, after1, from1, numbers1, ramSource1};
+ghost use Rattle.mbc.specs.Mbc.Mbc1Rules.{held1, suits, ramBank1, enable1, low1, high1, withMode, mode1, after1, from1, numbers1, ramSource1};
 ghost use Rattle.mbc.specs.Mbc.{inRange};
 ghost use Rattle.mbc.specs.declared.mbc.Mapper.the-variants as mapper;
 
@@ -139,11 +138,7 @@ impl Mbc1 {
         requires { ⌜ 0xA000 ≤ index ⌝ }
         ensures { λ r. ⌜ r ≡ ramSource1 self index ⌝ }
     {
-        if self.enabled {
-            let bank = self.ram_bank();
-            return Source::Save(ram_address(bank, index));
-        }
-        Source::Fixed(0xFF)
+        Source::of_ram(self.enabled, self.ram_bank(), index)
     }
 
     // 0000..1FFF

@@ -7,8 +7,7 @@ use crate::mbc::ram_address;
 ghost use mathlib.Core.Path.{_≡_};
 ghost use mathlib.Core.Bool.{true};
 ghost use Prim.Native.Nat.{_<_, _≤_};
-ghost use Rattle.mbc.specs.Registers.{same};
-ghost use Rattle.mbc.specs.Mbc2.{enable2, select2, after2, from2, numbers2, ramSource2};
+ghost use Rattle.mbc.specs.Mbc.Mbc2Rules.{enable2, select2, after2, from2, numbers2, ramSource2};
 ghost use Rattle.mbc.specs.Mbc.{inRange};
 ghost use Rattle.mbc.specs.declared.mbc.Mapper.the-variants as mapper;
 
@@ -41,25 +40,6 @@ impl Mbc2 {
             enabled: bit(self.enabled),
             high: 0,
         }
-    }
-
-    // Whether one has these registers. The kind comes last, or the compiler makes a table of the kinds.
-    pub fn has(r: Registers) -> bool
-        ensures { λ b. ⌜ b ≡ same r (numbers2 (from2 r)) ⌝ }
-    {
-        if r.ram != 0 {
-            return false;
-        }
-        if r.mode != 0 {
-            return false;
-        }
-        if 1 < r.enabled {
-            return false;
-        }
-        if r.high != 0 {
-            return false;
-        }
-        r.kind == KIND
     }
 
     pub fn in_range(self, cartridge: Cartridge) -> bool

@@ -1,5 +1,8 @@
 -- By the mapper's case.
+use mathlib.Core.Path.{sym, _∙_}
 use borrow.Author.Needs.{needs}
+use Rattle.mbc.specs.Mbc.{described}
+use Rattle.mbc.proofs.Cases.RomOnlyLaws.{rom-only-starts}
 use Rattle.mbc.proofs.mbc.Mapper.in_range.Statement.{statement}
 use Rattle.mbc.proofs.mbc.Mapper.in_range.Tie as tie
 
@@ -22,7 +25,8 @@ in-range-requires-3 : tie.Need-in-range-requires-3
 in-range-requires-3 c κs = search needs
 
 returns : tie.Need-returns
-returns c = rw (c .before .enum-told .given .1) (c .in-range .ensures)
+unfolding described
+returns c = rw (c .before .enum-told .given .1) (c .in-range .ensures ∙ sym (rom-only-starts _))
 
 returns-2 : tie.Need-returns-2
 returns-2 c = rw (c .before .before .self .given .1) (c .in-range2 .ensures)

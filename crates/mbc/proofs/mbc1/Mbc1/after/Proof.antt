@@ -3,7 +3,7 @@ use Rattle.rules.proofs.Tests.{tests}
 use native.Mathlib.Omega.{arith}
 use Rattle.mbc.specs.Mbc.{after1}
 use Rattle.mbc.proofs.Cartridges.{banks-least}
-use Rattle.mbc.proofs.Mbc1Laws.{mbc1-facts, mode-needs}
+use Rattle.mbc.proofs.Cases.Mbc1Laws.{mbc1-facts, mode-needs}
 use borrow.Author.Needs.{needs}
 use Rattle.mbc.proofs.mbc1.Mbc1.after.Statement.{statement}
 use Rattle.mbc.proofs.mbc1.Mbc1.after.Tie as tie

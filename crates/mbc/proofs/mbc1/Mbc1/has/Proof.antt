@@ -6,7 +6,7 @@ use borrow.Author.Tests.{eq-eqb, le-leb}
 use Rattle.mbc.specs.Registers.{isOn, same}
 use Rattle.mbc.specs.declared.held.Registers.{Registers}
 use Rattle.mbc.proofs.Bits.{bit-small, bit-test}
-use Rattle.mbc.proofs.RegisterLaws.{unlike}
+use Rattle.mbc.proofs.Same.{unlike}
 use Rattle.mbc.proofs.mbc1.Mbc1.has.Statement.{statement}
 use Rattle.mbc.proofs.mbc1.Mbc1.has.Tie as tie
 

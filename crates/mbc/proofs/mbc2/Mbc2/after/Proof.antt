@@ -3,7 +3,7 @@ use Rattle.rules.proofs.Tests.{tests}
 use native.Mathlib.Omega.{arith}
 use Rattle.mbc.specs.Mbc.{after2}
 use Rattle.mbc.proofs.Cartridges.{banks-least}
-use Rattle.mbc.proofs.Mbc2Laws.{in-banks}
+use Rattle.mbc.proofs.Cases.Mbc2Laws.{in-banks}
 use borrow.Author.Needs.{needs}
 use Rattle.mbc.proofs.mbc2.Mbc2.after.Statement.{statement}
 use Rattle.mbc.proofs.mbc2.Mbc2.after.Tie as tie

@@ -3,16 +3,15 @@ use mathlib.Core.Bool.{Bool, true, false, cond, _&&_, _||_}
 use mathlib.Core.List.{[], _∷_}
 use Prim.Native.Nat.{ℕ}
 use lib.Dec.{eqb, ltb, leb}
-use Rattle.mbc.specs.PanDocs.{enables, mbc1Bank, twoBits, modeBit, masked, ramAddress, offByte}
+use Rattle.mbc.specs.PanDocs.{enables, mbc1Bank, twoBits, modeBit, masked}
 use Rattle.mbc.specs.Cartridge.{oneOf, implies, ramBanks, hasBanks, hasCode}
 use Rattle.mbc.specs.Registers.{bit, isOn}
-use Rattle.mbc.specs.Behaviour.{Behaviour}
+use Rattle.mbc.specs.Behaviour.{Behaviour, ramWhere}
 use Rattle.mbc.specs.declared.cartridge.Cartridge.{Cartridge}
 use Rattle.mbc.specs.declared.held.Registers.{Registers}
 use Rattle.mbc.specs.declared.mbc1.Mbc1.{Mbc1 as Registers1}
 use Rattle.mbc.specs.declared.mbc.Mapper.the-variants.{Mbc1}
 use Rattle.mbc.specs.declared.mbc.Source.{Source}
-use Rattle.mbc.specs.declared.mbc.Source.the-variants.{Save, Fixed}
 
 abbrev pub kindMbc1 : ℕ
 kindMbc1 = 1
@@ -30,7 +29,7 @@ unfoldable pub ramBank1 : Registers1 → ℕ
 ramBank1 m = cond (m .mode) (m .ram) 0
 
 abbrev pub ramSource1 : Registers1 → ℕ → Source
-ramSource1 m index = cond (m .enabled) (Save (ramAddress (ramBank1 m) index)) (Fixed offByte)
+ramSource1 m index = ramWhere (m .enabled) (ramBank1 m) index
 
 -- Writes. Each bank that is chosen is masked by N, so that "a ROM bank that a file leaves at N or more" does not arise.
 

@@ -3,21 +3,20 @@ use mathlib.Core.Path.{_≡_, refl}
 use mathlib.Core.Bool.{true, false, cond, _&&_, _||_, or-true}
 use mathlib.Core.List.{[], _∷_}
 use mathlib.Core.Logic.{inl}
-use Prim.Native.Nat.{ℕ, _<_, _≤_, _%_}
+use Prim.Native.Nat.{ℕ, _<_, _≤_, _%_, _*_}
 use native.Mathlib.Omega.{arith}
 use native.Mathlib.Nat.{mod-lt, mod-le}
-use lib.Dec.{eqb, ltb, leb, lit<}
+use lib.Dec.{eqb, ltb, leb}
 use borrow.Author.Tests.{ltb-true, leb-true, eqb-true, lt-ltb, le-ltb, le-leb, eq-eqb}
 use Rattle.rules.proofs.Tests.{by-cond}
-use Rattle.mbc.specs.PanDocs.{enables, mbc1Bank, twoBits, modeBit, masked, ramAddress}
+use Rattle.mbc.specs.PanDocs.{enables, mbc1Bank, twoBits, modeBit, masked}
 use Rattle.mbc.specs.Mbc.{oneOf, implies, hasBanks, hasCode, ramBanks, ramLen, described, held, held1, inRange, suits, ramBank1, ramSource, starting, from1, kindMbc1, withRom, withRam, withMode, withEnabled, withHigh, enable1, low1, high1, mode1, after1}
 use Rattle.mbc.specs.declared.cartridge.Cartridge.{Cartridge}
 use Rattle.mbc.specs.declared.mbc1.Mbc1.{Mbc1 as Registers1}
 use Rattle.mbc.specs.declared.mbc.Mapper.the-variants.{Mbc1}
-use Rattle.mbc.specs.declared.mbc.Source.the-variants.{Save, Fixed}
 use Rattle.mbc.proofs.Bools.{and-left, and-right, implied, and-implied, weaker}
 use Rattle.mbc.proofs.Cartridges.{banks-most, banks-least, banks-power, code-most, four-banks, has-ram, some-ram}
-use Rattle.mbc.proofs.Lawful.{Lawful, Whole, Within}
+use Rattle.mbc.proofs.Lawful.{Lawful, where-whole, where-within}
 use Rattle.mbc.proofs.Bits.{bit-back, bit-small}
 
 -- what `suits` says of the RAM code
@@ -229,10 +228,9 @@ mbc1-lawful m =
       back = rw (bit-back (m .mode), bit-back (m .enabled));
       bits = (bit-small (m .mode), bit-small (m .enabled));
       owns = inl refl;
-      whole = λ c index. by-cond Whole (m .enabled) (Save (ramAddress (ramBank1 m) index)) (Fixed 0xFF) (λ on. tt) (λ off. lit< tt);
+      whole = λ c index. where-whole (m .enabled) (ramBank1 m) index;
       within = λ c index e l h.
-          by-cond (Within 0 (ramLen c (Mbc1 m))) (m .enabled) (Save (ramAddress (ramBank1 m) index)) (Fixed 0xFF)
-          (λ on. omega (arith, ram-below c m e on)) (λ off. lit< tt);
+          where-within (ramBanks (c .code) * 0x2000) (m .enabled) (ramBank1 m) index (λ on. omega (arith, ram-below c m e on)) l h;
       kept = λ c index value h. rw (keeps c m index value h);
       like = λ c index value. refl;
       own = λ c index value. refl;

@@ -1,18 +1,17 @@
 -- RomOnly's laws.
 use mathlib.Core.Path.{_≡_, refl}
-use mathlib.Core.Bool.{true, _&&_, and-true}
+use mathlib.Core.Bool.{true, not, _&&_, and-true}
 use mathlib.Core.Logic.{inl}
 use native.Mathlib.Omega.{arith}
-use lib.Dec.{eqb, lit<}
-use Rattle.rules.proofs.Tests.{by-cond}
-use Rattle.mbc.specs.PanDocs.{ramAddress}
-use Rattle.mbc.specs.Mbc.{hasBanks, hasCode, described, held, inRange, ramLen, ramSource}
+use lib.Dec.{eqb}
+use borrow.Author.Tests.{not-true}
+use Prim.Native.Nat.{_*_}
+use Rattle.mbc.specs.Mbc.{hasBanks, hasCode, ramBanks, described, held, inRange, ramLen, ramSource}
 use Rattle.mbc.specs.declared.cartridge.Cartridge.{Cartridge}
 use Rattle.mbc.specs.declared.mbc.Mapper.the-variants.{RomOnly}
-use Rattle.mbc.specs.declared.mbc.Source.the-variants.{Save, Fixed}
 use Rattle.mbc.proofs.Bools.{and-left, and-right}
 use Rattle.mbc.proofs.Cartridges.{banks-most, banks-least, banks-power, code-most, has-ram, some-ram}
-use Rattle.mbc.proofs.Lawful.{Lawful, Whole, Within}
+use Rattle.mbc.proofs.Lawful.{Lawful, where-whole, where-within}
 
 in-banks : (c : Cartridge) → inRange c RomOnly ≡ true → hasBanks 2 c ≡ true
 unfolding inRange described
@@ -38,10 +37,10 @@ rom-only-lawful =
       back = refl;
       bits = (omega arith, omega arith);
       owns = inl refl;
-      whole = λ c index. by-cond Whole (eqb (c .code) 0) (Fixed 0xFF) (Save (ramAddress 0 index)) (λ z. lit< tt) (λ z. tt);
+      whole = λ c index. where-whole (not (eqb (c .code) 0)) 0 index;
       within = λ c index e l h.
-          by-cond (Within 0 (ramLen c RomOnly)) (eqb (c .code) 0) (Fixed 0xFF) (Save (ramAddress 0 index)) (λ z. lit< tt)
-          (λ z. omega (arith, some-ram (c .code) (has-ram c (in-code c e) z)));
+          where-within (ramBanks (c .code) * 0x2000) (not (eqb (c .code) 0)) 0 index
+          (λ y. omega (arith, some-ram (c .code) (has-ram c (in-code c e) (not-true _ y)))) l h;
       kept = λ c index value h. refl;
       like = λ c index value. refl;
       own = λ c index value. refl;
