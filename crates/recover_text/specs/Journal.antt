@@ -2,7 +2,7 @@
 use mathlib.Core.Bool.{cond}
 use mathlib.Core.List.{List, [], _∷_, _++_}
 use mathlib.Core.Path.{_≡_}
-use Prim.Native.Nat.{ℕ, zero, suc, _+_, _-_, _*_, _/_, _≤_, _<_}
+use Prim.Native.Nat.{ℕ, suc, _+_, _-_, _*_, _/_, _≤_, _<_}
 use lib.Dec.{ltb, eqb}
 use lib.ListN.{length, getD}
 use Rattle.savelog.specs.Log.{width, soundRecord}
@@ -29,7 +29,7 @@ abbrev pub unread : Scan
 unread = scan 0 0
 
 unfoldable pub byteScanned : Scan → ℕ → Scan
-byteScanned s b = cond (eqb b 0) (scan (s .len + 1) (s .end)) (scan (s .len + 1) (s .len + 1))
+byteScanned s b = scan (s .len + 1) (cond (eqb b 0) (s .end) (s .len + 1))
 
 unfoldable pub scanned : Scan → List ℕ → Scan
 scanned s [] = s

@@ -57,3 +57,7 @@ pub record Shows (lines : List ℕ → List ℕ → ℕ → List ℕ) (room : �
   pub text : Put o 0 (numbered (lines old new) from (part .next - from)) o′ (part .len)
   pub full : part .len + room ≤ length o → part .next ≡ rowCount old
   pub moves : room ≤ length o → from < rowCount old → from < part .next
+
+-- parts one after the other are the whole
+abbrev pub PartsLaw : Type 0
+PartsLaw = (f : ℕ → List ℕ) (from n m : ℕ) → numbered f from (n + m) ≡ numbered f from n ++ numbered f (from + n) m

@@ -1,9 +1,10 @@
 -- The rows that recovery changed, to be heard.
-use mathlib.Core.Bool.{Bool, true, false, cond, _&&_, not}
+use mathlib.Core.Bool.{Bool, true, false, cond, not}
 use mathlib.Core.List.{List, [], _∷_, _++_}
+use mathlib.Core.Path.{_≡_}
 use Prim.Native.Nat.{ℕ, _+_, _*_}
 use lib.Dec.{ltb, eqb}
-use lib.ListN.{getD}
+use lib.ListN.{length, getD}
 use Rattle.recover_text.specs.Text.{numbered, pair, address}
 use Rattle.recover_text.specs.Rows.{rowBytes, row, sameBytes}
 
@@ -72,3 +73,12 @@ rowHeard old new k = heard (k * rowBytes) (row k old) (row k new)
 -- a line of text, of 80 bytes at most, and 16 of 20
 abbrev pub heardRoom : ℕ
 heardRoom = 400
+
+-- every change of a row is heard, and nothing else is
+abbrev pub HeardLaw : Type 0
+HeardLaw =
+    (at : ℕ) (old new : List ℕ)
+    → length old ≡ rowBytes
+    → length new ≡ rowBytes
+    → (heard at old new ≡ [] → old ≡ new)
+    × (old ≡ new → heard at old new ≡ [])

@@ -1,5 +1,4 @@
 // A journal, read in parts: how much of it was written, and its first damaged record.
-ghost use mathlib.Core.Bool.{Bool};
 ghost use mathlib.Core.Path.{_≡_};
 ghost use Prim.Native.Nat.{_+_, _*_, _≤_, _<_};
 ghost use lib.ListN.{length};
@@ -42,7 +41,7 @@ fn after(s: Scan, b: u8) -> Scan
 // After one part more.
 pub fn scanned(s: Scan, part: &[u8]) -> Scan
     requires { ⌜ Bounded s × (s .len ≤ journalLimit) ⌝ }
-    ensures { λ r. ⌜ (r ≡ scanned s (now (part .entry))) × Bounded r ⌝ }
+    ensures { λ r. ⌜ (r ≡ scanned s (now (part .entry))) × (Bounded r × (r .len ≡ s .len + length (now (part .entry)))) ⌝ }
 {
     let mut next = s;
     let mut i = 0;

@@ -1,6 +1,6 @@
 // The messages, each a whole line. A name is the file's, as the user wrote it.
 ghost use mathlib.Core.Path.{_≡_};
-ghost use Prim.Native.Nat.{_+_, _*_, _≤_, _<_};
+ghost use Prim.Native.Nat.{_+_, _*_, _≤_};
 ghost use lib.ListN.{length};
 ghost use Rattle.savelog.specs.Log.{width};
 ghost use Rattle.recover_text.specs.Text.{Put};

@@ -3,7 +3,7 @@ ghost use mathlib.Core.List.{[], _∷_};
 ghost use mathlib.Core.Path.{_≡_};
 ghost use Prim.Native.Nat.{_+_, _*_, _≤_, _<_};
 ghost use lib.ListN.{length};
-ghost use Rattle.recover_text.specs.Text.{Put, decimal, counted, pair, spaced, shown, address, hexes, texts};
+ghost use Rattle.recover_text.specs.Text.{Put, decimal, counted, pair, spaced, shown, address, hexes, shownAll};
 use lines::line::hex_digit;
 
 pub fn byte(out: &mut [u8], at: usize, b: u8) -> usize
@@ -104,7 +104,7 @@ pub fn hexes(out: &mut [u8], at: usize, s: &[u8]) -> usize
 // Bytes as text.
 pub fn shown_all(out: &mut [u8], at: usize, s: &[u8]) -> usize
     requires { ⌜ at + length (now s) ≤ length (now out) ⌝ }
-    ensures { λ r. ⌜ Put (now (out .entry)) at (texts (λ b. shown b ∷ []) (now (s .entry))) (now (out .exit)) r ⌝ }
+    ensures { λ r. ⌜ Put (now (out .entry)) at (shownAll (now (s .entry))) (now (out .exit)) r ⌝ }
 {
     let mut end = at;
     let mut i = 0;

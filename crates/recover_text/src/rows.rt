@@ -1,10 +1,9 @@
 // The rows that changed, in hex: of each its line before, after `-`, and its line now, after `+`. A row is 16 bytes.
-ghost use mathlib.Core.List.{[], _∷_};
 ghost use mathlib.Core.Path.{_≡_};
 ghost use Prim.Native.Nat.{_+_, _*_, _≤_, _<_};
 ghost use lib.ListN.{length};
 ghost use Rattle.recover_text.specs.Text.{Put};
-ghost use Rattle.recover_text.specs.Rows.{head, rowLine, changedLines, rowLines, Rows, Shows, rowBytes, rowRoom};
+ghost use Rattle.recover_text.specs.Rows.{head, rowLine, changedLines, rowLines, Rows, Shows, rowBytes, rowRoom, PartsLaw};
 use crate::put;
 
 // The bytes of a row.
@@ -80,3 +79,8 @@ pub fn rows(old: &[u8], new: &[u8], from: usize, out: &mut [u8]) -> Part
     }
     Part { next: k, len: end }
 }
+
+// The law of specs/Rows.antt, as a contract: its proof hands it over.
+pub fn laws_hold()
+    ensures { λ _. ⌜ PartsLaw ⌝ }
+{}

@@ -1,12 +1,10 @@
 // The rows that changed, to be heard: `0010: LUNA becomes STELLA`, and byte by byte what no text says, `001A: 07 becomes 09`.
-ghost use mathlib.Core.Bool.{Bool};
-ghost use mathlib.Core.List.{[], _∷_};
 ghost use mathlib.Core.Path.{_≡_};
 ghost use Prim.Native.Nat.{_+_, _*_, _≤_, _<_};
 ghost use lib.ListN.{length};
 ghost use Rattle.recover_text.specs.Text.{Put};
 ghost use Rattle.recover_text.specs.Rows.{Rows, Shows, rowBytes};
-ghost use Rattle.recover_text.specs.Speak.{inWord, stepText, stepPlace, words, orNothing, place, textLine, byteLine, tells, byteHeard, byteLines, heard, rowHeard, heardRoom};
+ghost use Rattle.recover_text.specs.Speak.{inWord, stepText, stepPlace, words, orNothing, place, textLine, byteLine, tells, byteHeard, byteLines, heard, rowHeard, heardRoom, HeardLaw};
 use crate::put;
 use crate::rows::Part;
 use crate::rows::ROW;
@@ -213,3 +211,8 @@ pub fn spoken(old: &[u8], new: &[u8], from: usize, out: &mut [u8]) -> Part
     }
     Part { next: k, len: end }
 }
+
+// The law of specs/Speak.antt, as a contract: its proof hands it over.
+pub fn laws_hold()
+    ensures { λ _. ⌜ HeardLaw ⌝ }
+{}

@@ -1,0 +1,9 @@
+pub mod Pieces
+pub mod Digits
+pub mod Same
+pub mod Lines
+pub mod Parts
+pub mod Scans
+pub mod Hearing
+pub mod Heard
+pub mod Choice

@@ -1,0 +1,40 @@
+-- A row's lines: none where nothing changed, else two of 74 bytes.
+use mathlib.Core.Bool.{Bool, true, false}
+use mathlib.Core.Path.{_≡_}
+use mathlib.Core.List.{List, [], _∷_, _++_}
+use Prim.Native.Nat.{ℕ, _+_, _-_, _*_, _≤_}
+use native.Mathlib.Omega.{arith}
+use lib.ListN.{length, take, drop, length-append, length-drop}
+use lib.Seq.{length-take-le}
+use Rattle.recover_text.specs.Text.{hexes, shownAll, spaced, shown}
+use Rattle.recover_text.specs.Rows.{rowBytes, rowLine, changedLines}
+use Rattle.recover_text.proofs.Pieces.{texts-length}
+use Rattle.recover_text.proofs.Digits.{spaced-length, shown-length}
+use Rattle.recover_text.proofs.Same.{told-same, told-other}
+
+pub unchanged-lines : (at : ℕ) (old new : List ℕ) → old ≡ new → [] ≡ changedLines at old new
+unfolding changedLines
+unchanged-lines at old new e = rw (told-same old new e)
+
+pub changed-lines : (at : ℕ) (old new : List ℕ) {r : Bool} → (old ≡ new → r ≡ true) → r ≡ false
+    → rowLine 45 at old ++ rowLine 43 at new ≡ changedLines at old new
+unfolding changedLines
+changed-lines at old new f h = rw (told-other old new f h)
+
+pub line-length : (sign at : ℕ) (row : List ℕ) → length row ≡ rowBytes → length (rowLine sign at row) ≡ 74
+line-length sign at row e =
+    let h = texts-length spaced 3 spaced-length row in
+    let s = texts-length (λ b. shown b ∷ []) 1 shown-length row in
+    let a = length-append (hexes row) ((32 ∷ 32 ∷ []) ++ (shownAll row ++ (10 ∷ []))) in
+    let b = length-append (shownAll row) (10 ∷ []) in
+    omega arith
+
+-- the bytes of row k
+pub row-bytes : (k : ℕ) → k * rowBytes + rowBytes - k * rowBytes ≡ rowBytes
+row-bytes k = omega arith
+
+pub row-length : (k : ℕ) (s : List ℕ) → k * rowBytes + rowBytes ≤ length s
+    → length (take (k * rowBytes + rowBytes - k * rowBytes) (drop (k * rowBytes) s)) ≡ rowBytes
+row-length k s h =
+    let d = length-drop (k * rowBytes) s in
+    rw (row-bytes k) (length-take-le rowBytes (drop (k * rowBytes) s) (omega arith))
