@@ -11,7 +11,6 @@ use Rattle.savelog.specs.Log.{Outcome, outcome, recovery, lengthsFit, oneOf, sa
 use Rattle.recover.proofs.place.is_save.Statement.{statement}
 use Rattle.recover.proofs.place.is_save.Tie as tie
 
-
 by-length : (b : Bool) (save : List ℕ) → cond (b && true) (outcome done save) (outcome wrongLength save) ≡ outcome (cond b done wrongLength) save
 by-length true save = refl
 by-length false save = refl
