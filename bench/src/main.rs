@@ -45,7 +45,7 @@ fn table() {
     }
 }
 
-/// Nanoseconds a call on each side: the median of rounds that take turns.
+/// Nanoseconds a call on each side: the least of rounds that take turns, as other work on the machine only ever adds to one.
 fn times(case: &Case) -> (f64, f64) {
     let (mut ours, mut theirs) = (Ours::new(), Theirs::new());
     (case.ours)(&mut ours, 3);
@@ -54,16 +54,12 @@ fn times(case: &Case) -> (f64, f64) {
 
     let our_turns = turns(|turns| (case.ours)(&mut ours, turns));
     let their_turns = turns(|turns| (case.theirs)(&mut theirs, turns));
-    let mut rounds: [Vec<f64>; 2] = Default::default();
+    let (mut our_least, mut their_least) = (f64::INFINITY, f64::INFINITY);
     for _ in 0..ROUNDS {
-        rounds[0].push(nanoseconds(|| (case.ours)(&mut ours, our_turns)) as f64 / f64::from(our_turns));
-        rounds[1].push(nanoseconds(|| (case.theirs)(&mut theirs, their_turns)) as f64 / f64::from(their_turns));
+        our_least = our_least.min(nanoseconds(|| (case.ours)(&mut ours, our_turns)) as f64 / f64::from(our_turns));
+        their_least = their_least.min(nanoseconds(|| (case.theirs)(&mut theirs, their_turns)) as f64 / f64::from(their_turns));
     }
-    let [ours, theirs] = rounds.map(|mut round| {
-        round.sort_by(f64::total_cmp);
-        round[ROUNDS / 2]
-    });
-    (ours, theirs)
+    (our_least, their_least)
 }
 
 /// How many turns make a round.

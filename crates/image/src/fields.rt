@@ -195,44 +195,50 @@ pub fn mapper_surely_fits(image: &[u8], rom: usize, save: usize) -> bool
         return false;
     }
     let cartridge = cartridge_at(image);
-    let mapper = Mbc1::from_registers(registers);
-    if !mapper.in_range(cartridge) {
+    if rom != cartridge.rom_len() {
         return false;
     }
-    if rom != cartridge.rom_len() {
+    let mapper = Mbc1::from_registers(registers);
+    if cartridge.code == 2 {
+        if !mapper.in_range(cartridge) {
+            return false;
+        }
+        return save == 0x2000;
+    }
+    if !mapper.in_range(cartridge) {
         return false;
     }
     if cartridge.code == 3 {
         return save == 0x8000;
     }
-    save == cartridge.ram_len()
+    save == 0
 }
 
 fn machine_surely_fits(banks: Banks, hdma: Hdma, vram: usize, wram: usize) -> bool
     ensures { λ r. ⌜ (r ≡ true → MachineFits banks hdma vram wram) ⌝ }
 {
     if banks.colour {
-        if vram != memory::vram_len(true) {
-            return false;
-        }
-        if wram != memory::wram_len(true) {
+        if !memory::banks_in_range(banks) {
             return false;
         }
         if !memory::hdma_in_range(hdma, true) {
             return false;
         }
-        return memory::banks_in_range(banks);
+        if wram != memory::wram_len(true) {
+            return false;
+        }
+        return vram == memory::vram_len(true);
     }
-    if vram != memory::vram_len(false) {
-        return false;
-    }
-    if wram != memory::wram_len(false) {
+    if !memory::banks_in_range(banks) {
         return false;
     }
     if !memory::hdma_in_range(hdma, false) {
         return false;
     }
-    memory::banks_in_range(banks)
+    if wram != memory::wram_len(false) {
+        return false;
+    }
+    vram == memory::vram_len(false)
 }
 
 pub fn rest_surely_fits(image: &[u8], vram: usize, wram: usize) -> bool
