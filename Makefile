@@ -64,7 +64,7 @@ build/recover: target/bin/recover
 	cp $< $@
 
 # Proves crate host too, and leaves its archive.
-build/aarch64/$(archive): $(sources) c/aarch64
+build/aarch64/$(archive): $(sources) c/aarch64 c/plain.awk
 	$(need_rt)@c/aarch64
 
 # The archive as a whole, compiled to be moved, with the entries' names alone for others to see. It needs no other library: memcpy and memset are the program's.
