@@ -1,10 +1,11 @@
--- The words of the messages, in ASCII: each beside the codes of its characters.
+-- The words of the messages, in ASCII: each beside the codes of its characters. A number that a call gives is one digit.
 use mathlib.Core.List.{List, [], _∷_}
-use Prim.Native.Nat.{ℕ}
+use Prim.Native.Nat.{ℕ, _+_}
+use Rattle.numbers.specs.Numbers.{done, wrongLength, damaged}
 
 -- "0: recovered, "
 abbrev pub recovered : List ℕ
-recovered = 48 ∷ 58 ∷ 32 ∷ 114 ∷ 101 ∷ 99 ∷ 111 ∷ 118 ∷ 101 ∷ 114 ∷ 101 ∷ 100 ∷ 44 ∷ 32 ∷ []
+recovered = (48 + done) ∷ 58 ∷ 32 ∷ 114 ∷ 101 ∷ 99 ∷ 111 ∷ 118 ∷ 101 ∷ 114 ∷ 101 ∷ 100 ∷ 44 ∷ 32 ∷ []
 
 -- "record"
 abbrev pub recordNoun : List ℕ
@@ -28,7 +29,7 @@ of = 32 ∷ 111 ∷ 102 ∷ 32 ∷ []
 
 -- "4: refused, "
 abbrev pub refused4 : List ℕ
-refused4 = 52 ∷ 58 ∷ 32 ∷ 114 ∷ 101 ∷ 102 ∷ 117 ∷ 115 ∷ 101 ∷ 100 ∷ 44 ∷ 32 ∷ []
+refused4 = (48 + wrongLength) ∷ 58 ∷ 32 ∷ 114 ∷ 101 ∷ 102 ∷ 117 ∷ 115 ∷ 101 ∷ 100 ∷ 44 ∷ 32 ∷ []
 
 -- " has "
 abbrev pub has : List ℕ
@@ -52,7 +53,7 @@ lineEnd = 10 ∷ []
 
 -- "6: refused, record "
 abbrev pub refused6 : List ℕ
-refused6 = 54 ∷ 58 ∷ 32 ∷ 114 ∷ 101 ∷ 102 ∷ 117 ∷ 115 ∷ 101 ∷ 100 ∷ 44 ∷ 32 ∷ 114 ∷ 101 ∷ 99 ∷ 111 ∷ 114 ∷ 100 ∷ 32 ∷ []
+refused6 = (48 + damaged) ∷ 58 ∷ 32 ∷ 114 ∷ 101 ∷ 102 ∷ 117 ∷ 115 ∷ 101 ∷ 100 ∷ 44 ∷ 32 ∷ 114 ∷ 101 ∷ 99 ∷ 111 ∷ 114 ∷ 100 ∷ 32 ∷ []
 
 -- " is damaged or of another save, its bytes are"
 abbrev pub isDamaged : List ℕ
