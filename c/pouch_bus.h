@@ -145,7 +145,8 @@ static inline bool pouch_bus_keep(struct pouch_bus *bus, int journal)
 }
 
 /* How much of a journal was written. When the machine itself fails, a file system may show bytes that never arrived as zeros at the end. No record begins
- * with a 0, so where one would, the zeros go; and so does a record before them that ends in 0, as its last bytes may be such zeros too. */
+ * with a 0, so where one would, the zeros go; and so does a record before them that ends in 0, as its last bytes may be such zeros too. Zeros that begin
+ * within the last record cannot be told from its own bytes, and count: fsync what must not be in doubt. */
 static inline size_t pouch_journal_len(const uint8_t *journal, size_t len)
 {
     size_t end = len;

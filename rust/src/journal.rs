@@ -122,10 +122,11 @@ pub fn recover_journal(save: &mut [u8], journal: &[u8]) -> Result<usize, Refusal
     let written = &journal[..journal_len(journal)];
     let mut copy = save.to_vec();
     recover(&mut copy, &[])?;
-    // The longest log is whole records.
-    for (part, log) in written.chunks(LONGEST_LOG).enumerate() {
+    // Parts are whole records.
+    const RECORDS: usize = LONGEST_LOG / RECORD_LEN;
+    for (part, log) in written.chunks(RECORDS * RECORD_LEN).enumerate() {
         recover(&mut copy, log).map_err(|refusal| match refusal {
-            Refusal::Damaged(Damaged { record, bytes }) => Refusal::Damaged(Damaged { record: part * (LONGEST_LOG / RECORD_LEN) + record, bytes }),
+            Refusal::Damaged(Damaged { record, bytes }) => Refusal::Damaged(Damaged { record: part * RECORDS + record, bytes }),
             other => other,
         })?;
     }
