@@ -46,7 +46,7 @@ all: $(into)/$(archive) $(into)/$(shared) $(program)
 
 # What stands in build/ is installed without rt, also where target/ is gone.
 .SECONDARY: target/staticlib/libhost.a target/bin/recover
-need_rt = $(if $(shell command -v rt 2>/dev/null),,$(error the Rattle kit is not here: its command rt must be on the PATH (README.md, 'Two commands')))
+need_rt = $(if $(shell command -v rt 2>/dev/null),,$(error the Rattle kit is not here: its command rt must be on the PATH (README.md, 'What it needs')))
 
 target/staticlib/libhost.a: $(sources)
 	$(need_rt)@tests/prove staticlib host

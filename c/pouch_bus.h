@@ -64,10 +64,11 @@ static inline void pouch_bus_lend(
 
 static inline uint8_t pouch_bus_fresh(struct pouch_bus *bus, uint8_t kind, uint16_t banks, uint8_t code, bool colour)
 {
-    bus->kept = 0;
     bus->number = pouch_fresh(
         bus->image, sizeof bus->image, kind, banks, code, colour, bus->rom, bus->rom_len, bus->vram, bus->vram_len, bus->wram, bus->wram_len, bus->save,
         bus->save_len, bus->log, bus->log_len, bus->sound, POUCH_SOUND_LEN);
+    if (bus->number == POUCH_DONE)
+        bus->kept = 0;
     return bus->number;
 }
 
@@ -146,7 +147,7 @@ static inline bool pouch_bus_keep(struct pouch_bus *bus, int journal)
 
 /* How much of a journal was written. When the machine itself fails, a file system may show bytes that never arrived as zeros at the end. No record begins
  * with a 0, so where one would, the zeros go; and so does a record before them that ends in 0, as its last bytes may be such zeros too. Zeros that begin
- * within the last record cannot be told from its own bytes, and count: fsync what must not be in doubt. */
+ * within the last record cannot be told from its own bytes, and count. What fsync has brought to the disk stays, but for a last record that ends in 0 where such zeros follow. */
 static inline size_t pouch_journal_len(const uint8_t *journal, size_t len)
 {
     size_t end = len;

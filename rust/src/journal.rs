@@ -103,7 +103,8 @@ impl<W: Write> Journal<W> {
 
 /// How much of a journal was written. When the machine itself fails, a file system may show bytes that never arrived as zeros at the end. No record
 /// begins with a 0, so where one would, the zeros go; and so does a record before them that ends in 0, as its last bytes may be such zeros too.
-/// Zeros that begin within the journal's last record cannot be told from its own bytes, and count: `Journal::sync` keeps what must not be in doubt.
+/// Zeros that begin within the journal's last record cannot be told from its own bytes, and count. What `Journal::sync` has brought to the disk stays, but for a
+/// last record that ends in 0 where such zeros follow.
 /// pouch_journal_len of C is the same rule.
 pub fn journal_len(journal: &[u8]) -> usize {
     let end = journal.iter().rposition(|byte| *byte != 0).map_or(0, |last| last + 1);

@@ -174,7 +174,7 @@ impl Memory {
     }
 
     /// Copies the log's used bytes off, with those that a journal has already, and clears the log. The host keeps them before anything else. `Journal`
-    /// does both.
+    /// does both. Not after a `Journal::keep` that failed: the journal may end in part of a record, which only the next `keep` makes whole.
     #[must_use = "the log's bytes are gone from the bus: keep them"]
     pub fn take_log(&mut self) -> Vec<u8> {
         let used = self.log().to_vec();
