@@ -82,6 +82,10 @@ pub record MachineFits (b : Banks) (h : Hdma) (m n : ℕ) : Type 0 where
   pub vram : m ≡ vramLen (b .colour)
   pub wram : n ≡ wramLen (b .colour)
 
+-- in range both or none, on either machine
+abbrev pub SameRange : Hdma → Hdma → Type 0
+SameRange h k = (colour : Bool) → hdmaInRange h colour ≡ hdmaInRange k colour
+
 pub record RestFits (l : List ℕ) (m n : ℕ) : Type 0 where
   pub machine : MachineFits (banksOf (fields l)) (hdmaOf (fields l)) m n
   pub zeros : eqb (at (fields l) zerosField) 0 ≡ true

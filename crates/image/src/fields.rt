@@ -22,7 +22,7 @@ ghost use Rattle.mbc.specs.Mbc.{mapperOf, registersOf};
 ghost use Rattle.mbc.specs.declared.mbc.Mapper.{Mapper};
 ghost use Rattle.image.specs.Layout.{imageLen, fieldWidths, fieldValues, usedField};
 ghost use Rattle.image.specs.Load.{banksOf, lcdOf, hdmaOf, joypadOf, clockOf, cartridgeOf, registersIn, coreFrom, at};
-ghost use Rattle.image.specs.Patches.{fields, headFits, mapperFits, tailFits, restFits, Mapped, MapperFits, MachineFits, RestFits, put, Fits, banksFields, linesFields, lcdFields, hdmaFields, joypadFields, clockFields, cartridgeFields, numbersFields, registersFields, Slim, usedPut, mappingPut, clockPut, groupsFields, coreFields};
+ghost use Rattle.image.specs.Patches.{fields, headFits, mapperFits, tailFits, restFits, Mapped, MapperFits, MachineFits, SameRange, RestFits, put, Fits, banksFields, linesFields, lcdFields, hdmaFields, joypadFields, clockFields, cartridgeFields, numbersFields, registersFields, Slim, usedPut, mappingPut, clockPut, groupsFields, coreFields};
 
 pub fn banks_at(image: &[u8]) -> Banks
     requires { ⌜ length (now image) ≡ imageLen ⌝ }
@@ -67,6 +67,20 @@ pub fn hdma_at(image: &[u8]) -> Hdma
         on: places::flag_at(image, layout::ON_AT),
         source: places::u16_at(image, layout::SOURCE_AT, 16),
         destination: places::u16_at(image, layout::DESTINATION_AT, 16),
+    }
+}
+
+// HDMA's range asks for the low four bits of its addresses alone. They are taken from eight bytes that no timer update stores to: a load of bytes that
+// were just stored one by one has to wait for them.
+fn steps_at(image: &[u8]) -> Hdma
+    requires { ⌜ length (now image) ≡ imageLen ⌝ }
+    ensures { λ r. ⌜ SameRange r (hdmaOf (fields (now (image .entry)))) ⌝ }
+{
+    let n = places::field_at(image, layout::SOURCE_AT + 12, 56);
+    Hdma {
+        on: places::flag_at(image, layout::ON_AT),
+        source: (n / 0x10_0000_0000_0000) as u16,
+        destination: (n / 0x10_0000_0000 % 65536) as u16,
     }
 }
 
@@ -252,7 +266,7 @@ pub fn rest_surely_fits(image: &[u8], vram: usize, wram: usize) -> bool
         return false;
     }
     let banks = banks_at(image);
-    let hdma = hdma_at(image);
+    let hdma = steps_at(image);
     machine_surely_fits(banks, hdma, vram, wram)
 }
 
@@ -285,7 +299,7 @@ pub fn rest_fits(image: &[u8]) -> bool
         return false;
     }
     let banks = banks_at(image);
-    let hdma = hdma_at(image);
+    let hdma = steps_at(image);
     if banks.colour {
         if !memory::hdma_in_range(hdma, true) {
             return false;

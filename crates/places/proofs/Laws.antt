@@ -74,6 +74,13 @@ window n c t s w h =
     let e : t ≡ j + w + s = omega arith in
     rw (e, field (n / 2 ^ c) (j + w) s, mod-mod-pow (n / 2 ^ c / 2 ^ s) j w, shr-shr n c s)
 
+-- the m bits above the k lowest of a field are a field themselves
+pub inner-field : (l : List ℕ) (bit w k m : ℕ) → k + m ≤ w → bit + w ≤ 8 * length l → fieldAt l bit w / 2 ^ k % 2 ^ m ≡ fieldAt l (bit + (w - (k + m))) m
+unfolding fieldAt
+inner-field l bit w k m h i =
+    let e : behind l (bit + (w - (k + m))) m ≡ behind l bit w + k = omega arith in
+    rw e (window (number l) (behind l bit w) w k m h)
+
 three : (l : List ℕ) (a k : ℕ) → l ≡ take a l ++ (take k (drop a l) ++ drop (a + k) l)
 three l a k = sym (rw (← drop-drop k a l, take-append-drop k (drop a l)) (take-append-drop a l))
 

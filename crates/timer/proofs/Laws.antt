@@ -20,11 +20,11 @@ use Rattle.timer.specs.declared.Rest.the-variants.{Still, Due}
 use Rattle.timer.specs.declared.Timer.{Timer}
 use Rattle.timer.specs.declared.Updated.{Updated}
 
--- the code's table
+-- the four, in order
 abbrev periods : List ℕ
 periods = 1024 ∷ 16 ∷ 64 ∷ 256 ∷ []
 
--- the table is Pan Docs' rule
+-- they are Pan Docs' rule
 in-table : (i tac : ℕ) → i < 4 → tac % 4 ≡ i → getD periods i 0 ≡ period tac
 unfolding period
 in-table zero tac h e = rw e

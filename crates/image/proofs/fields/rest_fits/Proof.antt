@@ -13,7 +13,7 @@ use Rattle.memory.specs.Ranges.{banksInRange, hdmaInRange}
 use Rattle.savelog.specs.Log.{logLimit, useInRange}
 use Rattle.image.specs.Layout.{usedField, zerosField}
 use Rattle.image.specs.Load.{at, isOn, banksOf, hdmaOf}
-use Rattle.image.specs.Patches.{fields, headFits, restFits}
+use Rattle.image.specs.Patches.{fields, headFits, restFits, SameRange}
 use borrow.Author.Needs.{needs}
 use Rattle.image.proofs.fields.rest_fits.Statement.{statement}
 use Rattle.image.proofs.fields.rest_fits.Tie as tie
@@ -34,10 +34,10 @@ module _ (fs : List ℕ) where
   used-out : used ≡ false → false ≡ restFits fs
   used-out e = sym (ap (λ (u : Bool). headFits fs && (zeros && u)) e ∙ ap (λ (t : Bool). headFits fs && t) (and-false zeros) ∙ and-false (headFits fs))
 
-  module _ {k : Banks} {d : Hdma} (banks : k ≡ banksOf fs) (hdma : d ≡ hdmaOf fs) {t : Bool} (colour : k .colour ≡ t) {x : Bool} (r : x ≡ hdmaInRange d t) where
+  module _ {k : Banks} (d : Hdma) (banks : k ≡ banksOf fs) (same : SameRange d (hdmaOf fs)) {t : Bool} (colour : k .colour ≡ t) {x : Bool} (r : x ≡ hdmaInRange d t) where
     in-range : x ≡ hdmaInRange (hdmaOf fs) (isOn fs 0)
     in-range =
-        r ∙ ap (λ (h : Hdma). hdmaInRange h t) hdma
+        r ∙ same t
         ∙ ap (hdmaInRange (hdmaOf fs)) (sym colour ∙ ap (λ (b : Banks). b .colour) banks)
 
     hdma-out : not x ≡ true → false ≡ restFits fs
@@ -64,32 +64,32 @@ returns-2 c = used-out (fields (now (c .before .before .before .before .before .
 banks-at-requires : tie.Need-banks-at-requires
 banks-at-requires c κs = search needs
 
-hdma-at-requires : tie.Need-hdma-at-requires
-hdma-at-requires c κs = search needs
+steps-at-requires : tie.Need-steps-at-requires
+steps-at-requires c κs = search needs
 
 hdma-in-range-requires : tie.Need-hdma-in-range-requires
 hdma-in-range-requires c κs = search needs
 
 returns-3 : tie.Need-returns-3
-returns-3 c = hdma-out (fields (now (c .before .before .before .before .before .before .before .before .before .before .before .args .image))) (c .before .before .before .before .banks-at .ensures) (c .before .before .before .hdma-at .ensures) (c .before .before .if3 .taken) (c .before .hdma-in-range .ensures) (c .if4 .taken)
+returns-3 c = hdma-out (fields (now (c .before .before .before .before .before .before .before .before .before .before .before .args .image))) _ (c .before .before .before .before .banks-at .ensures) (c .before .before .before .steps-at .ensures) (c .before .before .if3 .taken) (c .before .hdma-in-range .ensures) (c .if4 .taken)
 
 banks-in-range-requires : tie.Need-banks-in-range-requires
 banks-in-range-requires c κs = search needs
 
 returns-4 : tie.Need-returns-4
-returns-4 c = banks-left (fields (now (c .before .before .before .before .before .before .before .before .before .before .before .before .args .image))) (c .before .before .before .before .before .banks-at .ensures) (c .before .before .before .before .hdma-at .ensures) (c .before .before .before .if3 .taken) (c .before .before .hdma-in-range .ensures) (c .before .if4 .left) (sym (ap (λ (n : ℕ). eqb n 0) (c .before .before .before .before .before .before .before .before .before .before .u8-at .ensures .0)) ∙ eq-eqb _ _ (c .before .before .before .before .before .before .before .before .before .if1 .left)) (ap (λ (n : ℕ). useInRange n logLimit) (sym (c .before .before .before .before .before .before .before .before .used-at .ensures)) ∙ granted (c .before .before .before .before .before .before .before .use-in-range .ensures) (c .before .before .before .before .before .before .if2 .left)) (c .banks-in-range .ensures)
+returns-4 c = banks-left (fields (now (c .before .before .before .before .before .before .before .before .before .before .before .before .args .image))) _ (c .before .before .before .before .before .banks-at .ensures) (c .before .before .before .before .steps-at .ensures) (c .before .before .before .if3 .taken) (c .before .before .hdma-in-range .ensures) (c .before .if4 .left) (sym (ap (λ (n : ℕ). eqb n 0) (c .before .before .before .before .before .before .before .before .before .before .u8-at .ensures .0)) ∙ eq-eqb _ _ (c .before .before .before .before .before .before .before .before .before .if1 .left)) (ap (λ (n : ℕ). useInRange n logLimit) (sym (c .before .before .before .before .before .before .before .before .used-at .ensures)) ∙ granted (c .before .before .before .before .before .before .before .use-in-range .ensures) (c .before .before .before .before .before .before .if2 .left)) (c .banks-in-range .ensures)
 
 hdma-in-range-requires-2 : tie.Need-hdma-in-range-requires-2
 hdma-in-range-requires-2 c κs = search needs
 
 returns-5 : tie.Need-returns-5
-returns-5 c = hdma-out (fields (now (c .before .before .before .before .before .before .before .before .before .before .before .args .image))) (c .before .before .before .before .banks-at .ensures) (c .before .before .before .hdma-at .ensures) (c .before .before .if3 .left) (c .before .hdma-in-range2 .ensures) (c .if5 .taken)
+returns-5 c = hdma-out (fields (now (c .before .before .before .before .before .before .before .before .before .before .before .args .image))) _ (c .before .before .before .before .banks-at .ensures) (c .before .before .before .steps-at .ensures) (c .before .before .if3 .left) (c .before .hdma-in-range2 .ensures) (c .if5 .taken)
 
 banks-in-range-requires-2 : tie.Need-banks-in-range-requires-2
 banks-in-range-requires-2 c κs = search needs
 
 returns-6 : tie.Need-returns-6
-returns-6 c = banks-left (fields (now (c .before .before .before .before .before .before .before .before .before .before .before .before .args .image))) (c .before .before .before .before .before .banks-at .ensures) (c .before .before .before .before .hdma-at .ensures) (c .before .before .before .if3 .left) (c .before .before .hdma-in-range2 .ensures) (c .before .if5 .left) (sym (ap (λ (n : ℕ). eqb n 0) (c .before .before .before .before .before .before .before .before .before .before .u8-at .ensures .0)) ∙ eq-eqb _ _ (c .before .before .before .before .before .before .before .before .before .if1 .left)) (ap (λ (n : ℕ). useInRange n logLimit) (sym (c .before .before .before .before .before .before .before .before .used-at .ensures)) ∙ granted (c .before .before .before .before .before .before .before .use-in-range .ensures) (c .before .before .before .before .before .before .if2 .left)) (c .banks-in-range2 .ensures)
+returns-6 c = banks-left (fields (now (c .before .before .before .before .before .before .before .before .before .before .before .before .args .image))) _ (c .before .before .before .before .before .banks-at .ensures) (c .before .before .before .before .steps-at .ensures) (c .before .before .before .if3 .left) (c .before .before .hdma-in-range2 .ensures) (c .before .if5 .left) (sym (ap (λ (n : ℕ). eqb n 0) (c .before .before .before .before .before .before .before .before .before .before .u8-at .ensures .0)) ∙ eq-eqb _ _ (c .before .before .before .before .before .before .before .before .before .if1 .left)) (ap (λ (n : ℕ). useInRange n logLimit) (sym (c .before .before .before .before .before .before .before .before .used-at .ensures)) ∙ granted (c .before .before .before .before .before .before .before .use-in-range .ensures) (c .before .before .before .before .before .before .if2 .left)) (c .banks-in-range2 .ensures)
 
 pub rest-fits-spec : {M : Type 1} → statement M
 rest-fits-spec =
@@ -101,7 +101,7 @@ rest-fits-spec =
     use-in-range-requires
     returns-2
     banks-at-requires
-    hdma-at-requires
+    steps-at-requires
     hdma-in-range-requires
     returns-3
     banks-in-range-requires
