@@ -8,13 +8,10 @@ ghost use Rattle.entry.specs.Entry.{given, readEntry};
 
 pub mod block;
 
-use memory::Region;
 use refusals::Byte;
 use refusals::Word;
-use take_bytes::apart_at;
 use take_bytes::byte_at;
-use take_bytes::is_own;
-use take_bytes::lent_at;
+use take_bytes::one_at;
 
 // Low byte first.
 fn joined(low: u8, high: u8) -> u16
@@ -106,30 +103,11 @@ pub fn read_byte(
     if image::mapper_surely_fits(image, rom.len(), save.len()) {
         if image::rest_surely_fits(image, vram.len(), wram.len()) {
             if sound.len() == memory::SOUND_LEN {
-                match memory::region_of(index) {
-                    Region::Rom | Region::Vram | Region::Wram => {
-                        let byte = lent_at(image, rom, vram, wram, index);
-                        return Byte {
-                            number: numbers::DONE,
-                            value: byte,
-                        };
-                    }
-                    _ => {
-                        if is_own(index) {
-                            let i = (index - 0xFE00) as usize;
-                            let byte = image[i];
-                            return Byte {
-                                number: numbers::DONE,
-                                value: byte,
-                            };
-                        }
-                        let byte = apart_at(image, save, sound, index);
-                        return Byte {
-                            number: numbers::DONE,
-                            value: byte,
-                        };
-                    }
-                }
+                let byte = one_at(image, rom, vram, wram, save, sound, index);
+                return Byte {
+                    number: numbers::DONE,
+                    value: byte,
+                };
             }
         }
     }

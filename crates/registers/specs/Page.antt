@@ -1,7 +1,8 @@
 -- What FF00 + at reads, and what a byte write stores there (document 01, "The bus": "Reads with bits forced", "Writes", "Colour only").
 use mathlib.Core.Bool.{Bool, cond}
 use mathlib.Core.List.{List}
-use Prim.Native.Nat.{ℕ, _-_}
+use mathlib.Core.Path.{_≡_}
+use Prim.Native.Nat.{ℕ, _-_, _<_, _≤_}
 use lib.Bits.{bitOr}
 use lib.Dec.{eqb, ltb}
 use lib.ListN.{getD}
@@ -14,6 +15,8 @@ use Rattle.registers.specs.PanDocs.{flagsOnes, statusOnes, vramBankOnes}
 use Rattle.registers.specs.Register.{registerOf, byteAs}
 use Rattle.registers.specs.State.{loaded, stored, onScreen}
 use Rattle.registers.specs.Transfers.{sourceHighPut, sourceLowPut, destinationHighPut, destinationLowPut, startPut}
+use Rattle.registers.specs.declared.page.Part.{Part}
+use Rattle.registers.specs.declared.page.Part.the-variants as part
 use Rattle.registers.specs.declared.register.Register.{Register}
 use Rattle.registers.specs.declared.register.Register.the-variants as is
 
@@ -49,6 +52,14 @@ shownAs byte cgb line pad sound at =
     (cond (eqb at 0x76) (byKind cgb 0x00 0xFF)
     (cond (eqb at 0x77) (byKind cgb 0x00 0xFF)
     (plainRead byte sound at))))))))))))))))
+
+-- Where the parts lie that the code tells apart. Nothing of this need be believed: what a read gives is `shownAs`
+abbrev pub InPart : Part → ℕ → Type 0
+InPart part.Low at = at < 0x10
+InPart part.Sound at = (0x10 ≤ at) × (at < 0x40)
+InPart part.Line at = at ≡ 0x44
+InPart part.Screen at = ((0x40 ≤ at) × (at < 0x50)) × (at ≡ 0x44 → ⊥)
+InPart part.Colour at = 0x50 ≤ at
 
 unfoldable pub readRegister : Memory → List ℕ → ℕ → ℕ
 readRegister m sound at = shownAs (loaded m at) (m .core .banks .colour) (lineRead (m .core .lcd)) (m .core .joypad .state) sound at

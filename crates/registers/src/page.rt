@@ -1,8 +1,11 @@
 // The page dispatch: what FF00 + at reads, and what a byte write stores there, without the copying that FF46 and FF55 start.
+ghost use mathlib.Core.Bool.{Bool};
+ghost use mathlib.Core.List.{List};
 ghost use mathlib.Core.Path.{_≡_};
-ghost use Prim.Native.Nat.{_≤_};
+ghost use Prim.Native.Nat.{ℕ, _≤_};
 ghost use lib.ListN.{length};
-ghost use Rattle.registers.specs.Page.{byKind, lineRead, shownAs, readRegister, writeRegister};
+ghost use Rattle.registers.specs.Page.{InPart, byKind, lineRead, shownAs, readRegister, writeRegister};
+ghost use Rattle.registers.specs.declared.page.Part.the-variants as part;
 use crate::colour;
 use crate::load;
 use crate::register::Register;
@@ -34,10 +37,43 @@ pub fn read_line(lcd: Lcd) -> u8
     lcd.line
 }
 
-// What FF00 + at reads, where the page holds `byte`: `cgb`, `line`, which FF44 gives, and `pad`, the joypad's state, are all that it takes of the bus.
-pub fn shown(byte: u8, cgb: bool, line: u8, pad: u8, sound: &[u8], at: u8) -> u8
-    requires { ⌜ 48 ≤ length (now sound) ⌝ }
-    ensures { λ r. ⌜ r ≡ shownAs byte cgb line pad (now (sound .entry)) at ⌝ }
+// The parts of the page that a read tells apart: each asks for one thing beside the byte, or for none.
+pub enum Part {
+    // FF00..FF0F: the joypad's state.
+    Low,
+    // FF10..FF3F: the sound window.
+    Sound,
+    // FF44: the scan line.
+    Line,
+    // The others of FF40..FF4F.
+    Screen,
+    // From FF50 on: the machine's kind.
+    Colour,
+}
+
+pub fn part_of(at: u8) -> Part
+    ensures { λ r. ⌜ InPart r at ⌝ }
+{
+    if 0x50 <= at {
+        return Part::Colour;
+    }
+    if at < 0x10 {
+        return Part::Low;
+    }
+    if at == 0x44 {
+        return Part::Line;
+    }
+    if at < 0x40 {
+        return Part::Sound;
+    }
+    Part::Screen
+}
+
+// What each part reads, where the page holds `byte`. Each is small, so that the compiler puts it in place.
+
+pub fn shown_low(byte: u8, pad: u8, at: u8) -> u8
+    requires { ⌜ InPart part.Low at ⌝ }
+    ensures { λ r. ⌜ ((cgb : Bool) (line : ℕ) (sound : List ℕ) → r ≡ shownAs byte cgb line pad sound at) ⌝ }
 {
     match at {
         0x00 => joypad::read(byte, pad),
@@ -45,10 +81,35 @@ pub fn shown(byte: u8, cgb: bool, line: u8, pad: u8, sound: &[u8], at: u8) -> u8
         0x07 => byte | 0xF8,
         0x0E => 0xFF,
         0x0F => byte | 0xE0,
+        _ => byte,
+    }
+}
+
+pub fn shown_sound(sound: &[u8], at: u8) -> u8
+    requires { ⌜ InPart part.Sound at × (48 ≤ length (now sound)) ⌝ }
+    ensures { λ r. ⌜ ((byte : ℕ) (cgb : Bool) (line pad : ℕ) → r ≡ shownAs byte cgb line pad (now (sound .entry)) at) ⌝ }
+{
+    let i = (at - 0x10) as usize;
+    sound[i]
+}
+
+pub fn shown_screen(byte: u8, at: u8) -> u8
+    requires { ⌜ InPart part.Screen at ⌝ }
+    ensures { λ r. ⌜ ((cgb : Bool) (line pad : ℕ) (sound : List ℕ) → r ≡ shownAs byte cgb line pad sound at) ⌝ }
+{
+    match at {
         0x41 => byte | 0x80,
-        0x44 => line,
         0x4C => 0xFF,
         0x4F => byte | 0xFE,
+        _ => byte,
+    }
+}
+
+pub fn shown_colour(byte: u8, cgb: bool, at: u8) -> u8
+    requires { ⌜ InPart part.Colour at ⌝ }
+    ensures { λ r. ⌜ ((line pad : ℕ) (sound : List ℕ) → r ≡ shownAs byte cgb line pad sound at) ⌝ }
+{
+    match at {
         0x68 => by_kind(cgb, byte | 0x40, 0xC0),
         0x69 => by_kind(cgb, byte | 0xF8, 0xFF),
         0x6A => by_kind(cgb, byte | 0x40, 0xC0),
@@ -56,16 +117,21 @@ pub fn shown(byte: u8, cgb: bool, line: u8, pad: u8, sound: &[u8], at: u8) -> u8
         0x70 => by_kind(cgb, byte | 0x40, 0xFF),
         0x76 => by_kind(cgb, 0, 0xFF),
         0x77 => by_kind(cgb, 0, 0xFF),
-        _ => {
-            if at < 0x10 {
-                return byte;
-            }
-            if at < 0x40 {
-                let i = (at - 0x10) as usize;
-                return sound[i];
-            }
-            byte
-        }
+        _ => byte,
+    }
+}
+
+// What FF00 + at reads, where the page holds `byte`: `cgb`, `line`, which FF44 gives, and `pad`, the joypad's state, are all that it takes of the bus.
+pub fn shown(byte: u8, cgb: bool, line: u8, pad: u8, sound: &[u8], at: u8) -> u8
+    requires { ⌜ 48 ≤ length (now sound) ⌝ }
+    ensures { λ r. ⌜ r ≡ shownAs byte cgb line pad (now (sound .entry)) at ⌝ }
+{
+    match part_of(at) {
+        Part::Low => shown_low(byte, pad, at),
+        Part::Sound => shown_sound(sound, at),
+        Part::Line => line,
+        Part::Screen => shown_screen(byte, at),
+        Part::Colour => shown_colour(byte, cgb, at),
     }
 }
 

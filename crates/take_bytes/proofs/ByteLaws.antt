@@ -1,7 +1,6 @@
 -- A byte read on the image itself: it is in a lent memory or in the image. And the number: the image's or, of an image that is taken, the lengths'.
 use mathlib.Core.Bool.{Bool, true, cond}
 use mathlib.Core.List.{List, [], _∷_}
-use mathlib.Core.Logic.{inl, inr}
 use mathlib.Core.Path.{_≡_, refl, sym, ap, subst, _∙_}
 use Prim.Native.Nat.{ℕ, _+_, _*_, _-_, _<_, _≤_}
 use native.Mathlib.Omega.{arith}
@@ -36,9 +35,9 @@ use Rattle.packing.specs.Packing.{Below}
 use Rattle.refusals.proofs.Answers.{range-state}
 use Rattle.refusals.proofs.Core.{read-lengths}
 use Rattle.refusals.specs.Refusal.{orElse, readRefused, refusedRead, lengthsAre, lengthsFit, lengthsRefused}
-use Rattle.registers.proofs.Rest.{rest-read, high-read}
+use Rattle.registers.proofs.Rest.{colour-shown}
 use Rattle.registers.specs.Page.{lineRead, shownAs, readRegister}
-use Rattle.take_bytes.specs.Bytes.{Lent, Others, Reached, Near, Own}
+use Rattle.take_bytes.specs.Bytes.{Lent, Others, Reached, Near}
 
 -- the number: of the image first, then of the lengths
 
@@ -56,17 +55,11 @@ module _ (i : List ℕ) {n : ℕ} (e : n ≡ loadCall i .number) (rom vram wram 
       let t : loadCall i .number ≡ 0 = sym e ∙ z in
       f ∙ sym (read-lengths (loadCall i .state) (load-range i t b) rom vram wram save sound) ∙ rw t
 
-pub own-from : (index : ℕ) → Own index → 0xFE00 ≤ index
-own-from index (inl p) = p .0
-own-from index (inr p) = omega arith
-
 -- high memory reads as it is stored
 high-shown : (byte : ℕ) (cgb : Bool) (line pad : ℕ) (sound : List ℕ) (at : ℕ) → 0x80 ≤ at → shownAs byte cgb line pad sound at ≡ byte
 high-shown byte cgb line pad sound at h =
-    rest-read byte cgb line pad sound at (λ e. omega arith) (λ e. omega arith) (λ e. omega arith) (λ e. omega arith) (λ e. omega arith) (λ e. omega arith)
-    (λ e. omega arith) (λ e. omega arith) (λ e. omega arith) (λ e. omega arith) (λ e. omega arith) (λ e. omega arith) (λ e. omega arith) (λ e. omega arith)
+    colour-shown byte cgb line pad sound at (omega arith) (λ e. omega arith) (λ e. omega arith) (λ e. omega arith) (λ e. omega arith) (λ e. omega arith)
     (λ e. omega arith) (λ e. omega arith)
-    ∙ high-read byte sound at (omega arith) (omega arith)
 
 -- the groups of an image that is taken
 
@@ -115,9 +108,8 @@ module _ (i : List ℕ) (z : loadCall i .number ≡ 0) (b : Below 256 i) where
         ap (λ (k : ℕ). getD i k 0) (sym p) ∙ sym (load-page i z b (index - 0xFF00) (omega arith)) in
         read-by x state v w s index q (rw (g, loaded-core i b z))
 
-    pub byte-own : (x : Fixed) (v w s : List ℕ) → index < 65536 → Own index → getD i (index - 0xFE00) 0 ≡ readByte x state v w s index
-    byte-own x v w s h (inl p) = byte-oam x v w s (region-at Oam index p)
-    byte-own x v w s h (inr p) =
+    pub byte-high : (x : Fixed) (v w s : List ℕ) → index < 65536 → 0xFF80 ≤ index → getD i (index - 0xFE00) 0 ≡ readByte x state v w s index
+    byte-high x v w s h p =
         sym (high-shown (getD i (index - 0xFE00) 0) (banksOf (fields i) .colour) (lineRead (lcdOf (fields i))) (joypadOf (fields i) .state) (x .sound) (index - 0xFF00) (omega arith))
         ∙ byte-page x v w s (region-at Page index (omega arith)) h
 
@@ -204,6 +196,9 @@ near Page k = absurd (miss (0 ∷ 1 ∷ 3 ∷ []) 5 tt k)
 
 pub near-left : {r q : Region} → r ≡ q → Among (0 ∷ 1 ∷ 3 ∷ []) r → Near q
 near-left {r} e k = subst Near e (near r k)
+
+pub rom-near : (index : ℕ) → index < 0x8000 → Near (regionOf index)
+rom-near index h = subst Near (sym (region-at Rom index h)) tt
 
 wram-in : (r : Region) → Near r → Among (2 ∷ 3 ∷ 4 ∷ 5 ∷ []) r → r ≡ Wram
 wram-in Rom h k = absurd (miss (2 ∷ 3 ∷ 4 ∷ 5 ∷ []) 0 tt k)

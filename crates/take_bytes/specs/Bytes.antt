@@ -1,8 +1,7 @@
 -- What a read that is apart needs of an image and of what is lent. Nothing here need be believed: the contracts of the entries cite specs/Entry.antt alone.
 use mathlib.Core.Path.{_≡_}
 use mathlib.Core.List.{List}
-use mathlib.Core.Logic.{_⊎_}
-use Prim.Native.Nat.{ℕ, _+_, _*_, _<_, _≤_}
+use Prim.Native.Nat.{ℕ, _+_, _*_, _≤_}
 use lib.ListN.{length}
 use Rattle.image.specs.Load.{loadCall, banksOf}
 use Rattle.image.specs.Patches.{fields}
@@ -42,7 +41,3 @@ Near Save = ⊥
 Near Wram = Unit {0}
 Near Oam = ⊥
 Near Page = ⊥
-
--- a byte of the image that reads as it is stored
-abbrev pub Own : ℕ → Type 0
-Own index = ((0xFE00 ≤ index) × (index < 0xFF00)) ⊎ (0xFF80 ≤ index)

@@ -1,17 +1,19 @@
 // A byte of an image and what is lent beside it. Of the state only what says where the byte is, is decoded; a byte of OAM or of the page is taken from the
 // image itself.
-ghost use mathlib.Core.Bool.{true};
 ghost use mathlib.Core.List.{List, []};
 ghost use mathlib.Core.Path.{_≡_};
-ghost use Prim.Native.Nat.{ℕ};
+ghost use Prim.Native.Nat.{ℕ, _≤_};
+ghost use lib.ListN.{length};
 ghost use Rattle.image.specs.Load.{loadCall};
+ghost use Rattle.memory.specs.Ranges.{soundLen};
 ghost use Rattle.memory.specs.Region.{regionOf};
 ghost use Rattle.memory.specs.World.{world, fixed};
 ghost use Rattle.mmu.specs.Access.{Ready, readByte};
 ghost use Rattle.refusals.specs.Refusal.{orElse, lengthsRefused, readRefused};
-ghost use Rattle.take_bytes.specs.Bytes.{Lent, Others, Reached, Near, Own};
+ghost use Rattle.take_bytes.specs.Bytes.{Lent, Others, Reached, Near};
 use mbc::Mapper;
 use memory::Region;
+use registers::page::Part;
 
 // The lengths of what is lent, beside an image that is taken.
 pub fn lengths(image: &[u8], rom: usize, vram: usize, wram: usize, save: usize, sound: usize) -> u8
@@ -92,17 +94,30 @@ pub fn apart_at(image: &[u8], save: &[u8], sound: &[u8], index: u16) -> u8
     other_at(image, save, sound, index)
 }
 
-// Whether a byte is the image's, as it is stored: OAM, and high memory.
-pub fn is_own(index: u16) -> bool
-    ensures { λ r. ⌜ (r ≡ true → Own index) ⌝ }
+// A byte of OAM or of the page, as `other_at` gives it: of the image only what the byte's part asks for. Called from one place, where the compiler puts it.
+pub fn own_at(image: &[u8], sound: &[u8], index: u16) -> u8
+    requires { ⌜ ((loadCall (now image) .number ≡ 0) × (soundLen ≤ length (now sound))) × (0xFE00 ≤ index) ⌝ }
+    ensures { λ r. ⌜ ((rom v w s : List ℕ) → r ≡ readByte (fixed rom (now (sound .entry))) (loadCall (now (image .entry)) .state) v w s index) ⌝ }
 {
-    if 0xFF80 <= index {
-        return true;
+    let i = (index - 0xFE00) as usize;
+    let byte = image[i];
+    if index < 0xFF00 {
+        return byte;
     }
-    if index < 0xFE00 {
-        return false;
+    let at = (index - 0xFF00) as u8;
+    match registers::page::part_of(at) {
+        Part::Low => {
+            let joypad = image::joypad_at(image);
+            registers::page::shown_low(byte, joypad.state, at)
+        }
+        Part::Sound => registers::page::shown_sound(sound, at),
+        Part::Line => registers::page::read_line(image::lcd_at(image)),
+        Part::Screen => registers::page::shown_screen(byte, at),
+        Part::Colour => {
+            let banks = image::banks_at(image);
+            registers::page::shown_colour(byte, banks.colour, at)
+        }
     }
-    index < 0xFF00
 }
 
 // A byte of ROM, video or work memory.
@@ -141,5 +156,30 @@ pub fn byte_at(
     match memory::region_of(index) {
         Region::Rom | Region::Vram | Region::Wram => lent_at(image, rom, vram, wram, index),
         _ => other_at(image, save, sound, index),
+    }
+}
+
+// As `byte_at`, for who reads one byte: called from one place, where the compiler puts it. First what a game reads most.
+pub fn one_at(
+    image: &[u8],
+    rom: &[u8],
+    vram: &[u8],
+    wram: &[u8],
+    save: &[u8],
+    sound: &[u8],
+    index: u16,
+) -> u8
+    requires { ⌜ (loadCall (now image) .number ≡ 0) × Ready (fixed (now rom) (now sound)) (world (loadCall (now image) .state) (now vram) (now wram) (now save) []) ⌝ }
+    ensures { λ r. ⌜ r ≡ readByte (fixed (now (rom .entry)) (now (sound .entry))) (loadCall (now (image .entry)) .state) (now (vram .entry)) (now (wram .entry)) (now (save .entry)) index ⌝ }
+{
+    if index < 0x8000 {
+        return lent_at(image, rom, vram, wram, index);
+    }
+    if 0xFE00 <= index {
+        return own_at(image, sound, index);
+    }
+    match memory::region_of(index) {
+        Region::Rom | Region::Vram | Region::Wram => lent_at(image, rom, vram, wram, index),
+        _ => apart_at(image, save, sound, index),
     }
 }

@@ -1,10 +1,9 @@
 -- By the region: one law for each.
 use mathlib.Core.Path.{sym, _∙_}
-use mathlib.Core.Logic.{inr}
 use native.Mathlib.Omega.{arith}
 use Rattle.image.proofs.OpenLaws.{load-length}
 use Rattle.memory.proofs.Regions.{within}
-use Rattle.take_bytes.proofs.ByteLaws.{byte-oam, byte-own, byte-page, byte-save, mapper-range, save-length, save-left}
+use Rattle.take_bytes.proofs.ByteLaws.{byte-oam, byte-high, byte-page, byte-save, mapper-range, save-length, save-left}
 use borrow.Author.Needs.{needs}
 use Rattle.take_bytes.proofs.other_at.Statement.{statement}
 use Rattle.take_bytes.proofs.other_at.Tie as tie
@@ -37,7 +36,7 @@ shared-slice-read-byte : tie.Need-shared-slice-read-byte
 shared-slice-read-byte c = omega (arith, load-length _ (c .before .before .before .before .before .before .before .pre .0 .number))
 
 returns : tie.Need-returns
-returns c = λ rom v w. byte-own _ (c .before .before .before .before .before .before .before .before .pre .0 .number) (λ k. c .before .before .before .before .before .before .before .shared-slice-known .given k .fits) _ _ _ _ _ (omega arith) (inr (c .if1 .taken))
+returns c = λ rom v w. byte-high _ (c .before .before .before .before .before .before .before .before .pre .0 .number) (λ k. c .before .before .before .before .before .before .before .shared-slice-known .given k .fits) _ _ _ _ _ (omega arith) (c .if1 .taken)
 
 banks-at-requires : tie.Need-banks-at-requires
 banks-at-requires c κs = load-length _ (c .before .before .before .before .before .before .before .before .pre .0 .number)
