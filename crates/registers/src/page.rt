@@ -54,11 +54,11 @@ pub enum Part {
 pub fn part_of(at: u8) -> Part
     ensures { λ r. ⌜ InPart r at ⌝ }
 {
-    if 0x50 <= at {
-        return Part::Colour;
-    }
     if at < 0x10 {
         return Part::Low;
+    }
+    if 0x50 <= at {
+        return Part::Colour;
     }
     if at == 0x44 {
         return Part::Line;
