@@ -11,7 +11,8 @@ use Rattle.dispatch.specs.declared.Call.the-variants as call
 use Rattle.image.proofs.GroupPatches.{loaded-core}
 use Rattle.image.proofs.OpenLaws.{load-range}
 use Rattle.image.specs.Load.{banksOf, loadCall}
-use Rattle.image.specs.Patches.{fields}
+use Rattle.image.specs.Patches.{fields, MapperFits, RestFits}
+use Rattle.memory.specs.Ranges.{soundLen}
 use Rattle.memory.specs.World.{world, Fixed, fixed}
 use Rattle.memory.specs.declared.Core.{Core}
 use Rattle.mmu.specs.Access.{Ready, readByte, readWord}
@@ -20,6 +21,7 @@ use Rattle.packing.specs.Packing.{Below}
 use Rattle.refusals.proofs.Answers.{both-pass, refused-byte, refused-word, accepted-byte, accepted-word}
 use Rattle.refusals.specs.Refusal.{orElse, stateRefused, refusedState, refusedRead, vramLengthRefused, vramRefused}
 use Rattle.rules.proofs.Tests.{by-cond}
+use Rattle.take_bytes.proofs.ByteLaws.{surely-loaded, surely-passes}
 use Rattle.entry.specs.Entry.{given, readEntry}
 use Rattle.entry.proofs.Entries.{unloaded-read, byte-read, word-read, lcd-ram-read}
 
@@ -58,6 +60,13 @@ module _ (x : Fixed) (i v w s : List ℕ) {n : ℕ}
 
     pub done-word-read : (k : ℕ) {b : ℕ} → b ≡ readWord x (loadCall i .state) v w s k → given 0 b ≡ readEntry x i v w s (call.ReadWord k)
     done-word-read k f = word-read i refl (passed .0) x v w s k (accepted-word refl (passed .1) f)
+
+-- where the tests that are enough pass
+
+module _ (x : Fixed) (i v w s : List ℕ) (b : Below 256 i)
+    (p : MapperFits i (length (x .rom)) (length s)) (q : RestFits i (length v) (length w)) (h : length (x .sound) ≡ soundLen) where
+  pub surely-ready : (loadCall i .number ≡ 0) × Ready x (world (loadCall i .state) v w s [])
+  surely-ready = (surely-loaded x i v w s b p q h, read-ready x i v w s (surely-passes x i v w s b p q h) refl)
 
 -- video memory by its bank
 

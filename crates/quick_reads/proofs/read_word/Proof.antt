@@ -3,8 +3,8 @@ use denote.Ref.{now}
 use mathlib.Core.Path.{refl, _∙_}
 use Rattle.memory.specs.World.{fixed}
 use Rattle.packing.specs.Packing.{Below}
-use Rattle.take_bytes.proofs.ByteLaws.{surely-loaded, surely-passes}
-use Rattle.quick_reads.proofs.ReadLaws.{read-ready, done-word-read}
+use Rattle.take_bytes.proofs.ByteLaws.{surely-passes}
+use Rattle.quick_reads.proofs.ReadLaws.{surely-ready, done-word-read}
 use borrow.Author.Needs.{needs}
 use Rattle.quick_reads.proofs.read_word.Statement.{statement}
 use Rattle.quick_reads.proofs.read_word.Tie as tie
@@ -21,9 +21,7 @@ byte-at-requires c κs = let a = c .before .before .before .before .before .befo
     let below : Below 256 (now (a .image)) = λ k. c .before .before .before .before .before .before .before .before .before .before .shared-slice-known .given k .fits in
     let p = c .before .before .before .before .mapper-surely-fits .ensures (c .before .before .before .if1 .taken) in
     let q = c .before .before .rest-surely-fits .ensures (c .before .if2 .taken) in
-    let z = surely-loaded x (now (a .image)) (now (a .vram)) (now (a .wram)) (now (a .save)) below p q (c .if3 .taken) in
-    let e = surely-passes x (now (a .image)) (now (a .vram)) (now (a .wram)) (now (a .save)) below p q (c .if3 .taken) in
-    (z, read-ready x (now (a .image)) (now (a .vram)) (now (a .wram)) (now (a .save)) e refl)
+    surely-ready x (now (a .image)) (now (a .vram)) (now (a .wram)) (now (a .save)) below p q (c .if3 .taken)
 
 wrapping-add-u16-requires : tie.Need-wrapping-add-u16-requires
 wrapping-add-u16-requires c κs = search needs
@@ -34,9 +32,7 @@ byte-at-requires-2 c κs = let a = c .before .before .before .before .before .be
     let below : Below 256 (now (a .image)) = λ k. c .before .before .before .before .before .before .before .before .before .before .before .before .shared-slice-known .given k .fits in
     let p = c .before .before .before .before .before .before .mapper-surely-fits .ensures (c .before .before .before .before .before .if1 .taken) in
     let q = c .before .before .before .before .rest-surely-fits .ensures (c .before .before .before .if2 .taken) in
-    let z = surely-loaded x (now (a .image)) (now (a .vram)) (now (a .wram)) (now (a .save)) below p q (c .before .before .if3 .taken) in
-    let e = surely-passes x (now (a .image)) (now (a .vram)) (now (a .wram)) (now (a .save)) below p q (c .before .before .if3 .taken) in
-    (z, read-ready x (now (a .image)) (now (a .vram)) (now (a .wram)) (now (a .save)) e refl)
+    surely-ready x (now (a .image)) (now (a .vram)) (now (a .wram)) (now (a .save)) below p q (c .before .before .if3 .taken)
 
 joined-requires : tie.Need-joined-requires
 joined-requires c κs = search needs
@@ -47,9 +43,7 @@ returns c = let a = c .before .before .before .before .before .before .before .b
     let below : Below 256 (now (a .image)) = λ k. c .before .before .before .before .before .before .before .before .before .before .before .before .before .before .shared-slice-known .given k .fits in
     let p = c .before .before .before .before .before .before .before .before .mapper-surely-fits .ensures (c .before .before .before .before .before .before .before .if1 .taken) in
     let q = c .before .before .before .before .before .before .rest-surely-fits .ensures (c .before .before .before .before .before .if2 .taken) in
-    let z = surely-loaded x (now (a .image)) (now (a .vram)) (now (a .wram)) (now (a .save)) below p q (c .before .before .before .before .if3 .taken) in
-    let e = surely-passes x (now (a .image)) (now (a .vram)) (now (a .wram)) (now (a .save)) below p q (c .before .before .before .before .if3 .taken) in
-    done-word-read x (now (a .image)) (now (a .vram)) (now (a .wram)) (now (a .save)) e refl _ (c .joined .ensures ∙ rw (c .before .byte-at2 .ensures, c .before .before .before .byte-at .ensures, c .before .before .wrapping-add-u16 .ensures))
+    done-word-read x (now (a .image)) (now (a .vram)) (now (a .wram)) (now (a .save)) (surely-passes x (now (a .image)) (now (a .vram)) (now (a .wram)) (now (a .save)) below p q (c .before .before .before .before .if3 .taken)) refl _ (c .joined .ensures ∙ rw (c .before .byte-at2 .ensures, c .before .before .before .byte-at .ensures, c .before .before .wrapping-add-u16 .ensures))
 
 plain-word-requires : tie.Need-plain-word-requires
 plain-word-requires c κs = search needs
