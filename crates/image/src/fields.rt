@@ -102,7 +102,7 @@ pub fn clock_at(image: &[u8]) -> Clock
 {
     Clock {
         div: places::u8_at(image, layout::DIV_AT, 8),
-        tima: places::u16_at(image, layout::TIMA_AT, 10),
+        tima: places::narrow_at(image, layout::TIMA_AT, 10),
     }
 }
 

@@ -21,15 +21,22 @@ pub fn field_at(bytes: &[u8], bit: usize, width: usize) -> u64
     (n >> shift) % (1 << width)
 }
 
-// From two bytes.
-pub fn u8_at(bytes: &[u8], bit: usize, width: usize) -> u8
-    requires { ⌜ (width ≤ 8) × Within 16 (now bytes) bit width ⌝ }
+// A field within two bytes. They are loaded apart: a load of more bytes than were stored at once has to wait for them.
+pub fn narrow_at(bytes: &[u8], bit: usize, width: usize) -> u16
+    requires { ⌜ ((bit + width + 7) / 8 * 8 ≤ bit + 16) × Within 16 (now bytes) bit width ⌝ }
     ensures { λ r. ⌜ (r ≡ fieldAt (now (bytes .entry)) bit width) × (r < 2 ^ width) ⌝ }
 {
     let end = (bit + width + 7) / 8;
     let shift = end * 8 - (bit + width);
     let n = two_at(bytes, end - 2);
-    ((n >> shift) % (1 << width)) as u8
+    ((n >> shift) % (1 << width)) as u16
+}
+
+pub fn u8_at(bytes: &[u8], bit: usize, width: usize) -> u8
+    requires { ⌜ (width ≤ 8) × Within 16 (now bytes) bit width ⌝ }
+    ensures { λ r. ⌜ (r ≡ fieldAt (now (bytes .entry)) bit width) × (r < 2 ^ width) ⌝ }
+{
+    narrow_at(bytes, bit, width) as u8
 }
 
 pub fn u16_at(bytes: &[u8], bit: usize, width: usize) -> u16
