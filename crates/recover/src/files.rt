@@ -1,11 +1,10 @@
-// Files: opened, measured, read in parts, and told apart.
+// Files: read in parts, and their names.
 ghost use mathlib.Core.Path.{_≡_};
 ghost use Prim.Native.Nat.{_≤_};
 ghost use lib.ListN.{length};
 ghost use Rattle.io.specs.Counts.{Counts};
 ghost use Rattle.libc.specs.Io.{Ended};
 use libc::PATH_MAX;
-use libc::SEEK_END;
 use libc::SEEK_SET;
 
 // How many bytes; `good`: they could be read, or counted.
@@ -29,7 +28,7 @@ pub fn hold_standard() {
 }
 
 // Of what a call answered, the number; 0 where it failed.
-fn count(n: i64) -> usize {
+pub fn count(n: i64) -> usize {
     if n < 0 {
         return 0;
     }
@@ -52,36 +51,6 @@ pub fn at_end(fd: i32) -> bool {
 // To the file's start.
 pub fn again(fd: i32) -> bool {
     libc::lseek(fd, 0, SEEK_SET) == 0
-}
-
-// The length of an open file, which then stands at its start. A pipe or a terminal has none, and a folder cannot be read.
-pub fn measure(fd: i32) -> Got {
-    let end = libc::lseek(fd, 0, SEEK_END);
-    let mut one = [0u8; 1];
-    if end < 0 {
-        return Got {
-            good: false,
-            len: 0,
-        };
-    }
-    if !again(fd) {
-        return Got {
-            good: false,
-            len: 0,
-        };
-    }
-    if libc::read(fd, &mut one) < 0 {
-        return Got {
-            good: false,
-            len: 0,
-        };
-    }
-    let good = again(fd);
-    let len = count(end);
-    Got {
-        good: good,
-        len: len,
-    }
 }
 
 // Reads on until `buf` is full or the file ends. It is no good where a read failed, or where the file went on after its end.
@@ -123,7 +92,7 @@ pub fn copied(from: &[u8], to: &mut [u8]) -> usize
 }
 
 // A path as C takes it. One that is too long is cut; the callers see that it is not.
-fn ended(path: &[u8]) -> [u8; PATH_MAX]
+pub fn ended(path: &[u8]) -> [u8; PATH_MAX]
     ensures { λ r. ⌜ Ended r ⌝ }
 {
     let mut out = io::buffer();
@@ -144,30 +113,6 @@ pub fn name_of(fd: i32, out: &mut [u8]) -> usize
     let path = ended(&link[..b]);
     let got = libc::readlink(&path, out);
     io::count(got, out)
-}
-
-pub enum Same {
-    Yes,
-    No,
-    Unknown,
-}
-
-// Whether two descriptors are of one file, by its name.
-pub fn same_file(a: i32, b: i32) -> Same {
-    let mut x = io::buffer();
-    let mut y = io::buffer();
-    let n = name_of(a, &mut x);
-    let m = name_of(b, &mut y);
-    if n == 0 {
-        return Same::Unknown;
-    }
-    if m == 0 {
-        return Same::Unknown;
-    }
-    if check::same(&x[..n], &y[..m]) {
-        return Same::Yes;
-    }
-    Same::No
 }
 
 // What stands under a name: nothing, something, or what the system does not tell.

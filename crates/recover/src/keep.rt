@@ -1,6 +1,7 @@
 // The recovered save, written beside the name that it is to have, flushed to the disk, and only then renamed.
 ghost use Prim.Native.Nat.{_≤_};
 ghost use lib.ListN.{length};
+ghost use Rattle.io.specs.Counts.{Counts};
 use crate::files;
 use crate::files::There;
 use recover_text::put::pair;
@@ -66,17 +67,20 @@ fn rename(beside: &[u8], path: &[u8]) -> Kept {
     flush_folder(path)
 }
 
+fn left_out(beside: &[u8], why: Kept) -> Kept {
+    os::unlink(beside);
+    why
+}
+
 // The file beside takes the name; where that was free, only if it still is.
-fn settle(beside: &[u8], path: &[u8], free: bool) -> Kept {
+pub fn settle(beside: &[u8], path: &[u8], free: bool) -> Kept {
     if !free {
         return rename(beside, path);
     }
     match files::look(path) {
         There::Nothing => rename(beside, path),
-        _ => {
-            os::unlink(beside);
-            Kept::Taken
-        }
+        There::Something => left_out(beside, Kept::Taken),
+        There::Unknown => left_out(beside, Kept::Failed),
     }
 }
 
@@ -105,22 +109,24 @@ fn fill_and_close(fd: i32, save: &[u8]) -> bool {
     true
 }
 
-pub fn keep(path: &[u8], save: &[u8], free: bool) -> Kept {
-    let mut name = io::buffer();
+// Puts the name beside into `name`, and makes the file there, all of it on the disk: the name's length, or 0 where it could not be.
+pub fn beside(path: &[u8], save: &[u8], name: &mut [u8]) -> usize
+    ensures { λ r. ⌜ Counts r (now (name .exit)) ⌝ }
+{
     let end = suffix();
-    let a = files::put(&mut name, 0, path);
-    let n = files::put(&mut name, a, &end);
-    if n >= 4096 {
-        return Kept::Failed;
+    let a = files::put(name, 0, path);
+    let n = files::put(name, a, &end);
+    if n >= name.len() {
+        return 0;
     }
     let fd = os::create(&name[..n]);
     if fd < 0 {
         os::fail(&name[..n]);
-        return Kept::Failed;
+        return 0;
     }
     if !fill_and_close(fd, save) {
         os::unlink(&name[..n]);
-        return Kept::Failed;
+        return 0;
     }
-    settle(&name[..n], path, free)
+    n
 }

@@ -6,6 +6,8 @@ mod keep;
 mod place;
 mod say;
 mod show;
+mod source;
+mod told;
 mod words;
 
 ghost use mathlib.Core.Path.{_≡_};
@@ -13,33 +15,19 @@ ghost use Prim.Native.Nat.{_+_, _≤_};
 ghost use lib.ListN.{length};
 ghost use Rattle.savelog.specs.Log.{saveLimit};
 ghost use Rattle.recover_text.specs.Journal.{Bounded, journalLimit};
-use files::Got;
 use keep::Kept;
 use recover_text::journal::LIMIT;
 use recover_text::journal::Scan;
 use recover_text::journal::journal_len;
 use recover_text::message::Why;
 use savelog::RECORD_LEN;
+use source::Source;
 use words::Asked;
 
-// Opens the file that argument i names, or tells why not.
-fn open(i: usize) -> i32 {
-    let mut path = io::buffer();
-    let n = os::arg(i, &mut path);
-    let fd = os::open_read(&path[..n]);
-    if fd < 0 {
-        say::failed_call(Why::Unread, i);
-    }
-    fd
-}
-
-// Measures an open file, or tells that it cannot be read.
-fn measured(fd: i32, i: usize) -> Got {
-    let size = files::measure(fd);
-    if !size.good {
-        say::failed_call(Why::Unread, i);
-    }
-    size
+// Both files that are read.
+struct Sources {
+    save: Source,
+    log: Source,
 }
 
 // What recovery takes off the log's end.
@@ -86,23 +74,67 @@ fn conclude(asked: Asked, kept: Kept, records: usize) {
     }
 }
 
+// Whether SAVE and LOG are what was read. If not, it is told.
+fn unchanged(asked: Asked, sources: Sources, old: &[u8]) -> bool {
+    let save = sources.save;
+    let log = sources.log;
+    if !source::stands(save, asked.save) {
+        return false;
+    }
+    if !source::holds(save, asked.save, old) {
+        return false;
+    }
+    source::stands(log, asked.log)
+}
+
+// The recovered save is beside NEW: it takes the name, unless what was read is no longer so.
+fn settle(
+    asked: Asked,
+    sources: Sources,
+    old: &[u8],
+    beside: &[u8],
+    path: &[u8],
+    free: bool,
+    records: usize,
+) {
+    if !unchanged(asked, sources, old) {
+        os::unlink(beside);
+        return;
+    }
+    conclude(asked, keep::settle(beside, path, free), records);
+}
+
 // Writes the recovered save, where that is asked for, and only then tells success.
-fn finish(asked: Asked, path: &[u8], free: bool, save: &[u8], records: usize) {
+fn finish(
+    asked: Asked,
+    sources: Sources,
+    old: &[u8],
+    path: &[u8],
+    free: bool,
+    save: &[u8],
+    records: usize,
+) {
     if path.len() == 0 {
         say::recovered(records);
         return;
     }
-    conclude(asked, keep::keep(path, save, free), records);
+    let mut name = io::buffer();
+    let n = keep::beside(path, save, &mut name);
+    if n == 0 {
+        say::failed(Why::Unwritten, asked.new);
+        return;
+    }
+    settle(asked, sources, old, &name[..n], path, free, records);
 }
 
 // Plays the log over the save and shows what came of it, then goes on to NEW.
-fn recover(asked: Asked, log: i32, save: &mut [u8], scan: Scan, path: &[u8], free: bool)
+fn recover(asked: Asked, sources: Sources, save: &mut [u8], scan: Scan, path: &[u8], free: bool)
     requires { ⌜ (length (now save) ≤ saveLimit + 1) × Bounded scan × (scan .len ≤ journalLimit) ⌝ }
 {
     let mut old = [0u8; savelog::SAVE_LIMIT + 1];
     let n = files::copied(save, &mut old);
     let kept = journal_len(scan);
-    if !journal::play_all(log, asked.log, save, scan, kept) {
+    if !journal::play_all(sources.log.fd, asked.log, save, scan, kept) {
         return;
     }
     if !note_end(asked, scan.len, kept) {
@@ -111,13 +143,23 @@ fn recover(asked: Asked, log: i32, save: &mut [u8], scan: Scan, path: &[u8], fre
     if !show_changes(asked, &old[..n], save) {
         return;
     }
-    finish(asked, path, free, save, kept / RECORD_LEN);
+    finish(
+        asked,
+        sources,
+        &old[..n],
+        path,
+        free,
+        save,
+        kept / RECORD_LEN,
+    );
 }
 
 // Scans the log, all of it or none.
-fn with_scan(asked: Asked, log: i32, len: usize, save: &mut [u8], path: &[u8], free: bool)
+fn with_scan(asked: Asked, sources: Sources, save: &mut [u8], path: &[u8], free: bool)
     requires { ⌜ length (now save) ≤ saveLimit + 1 ⌝ }
 {
+    let log = sources.log.fd;
+    let len = sources.log.told.len;
     let scan = journal::scan(log, len);
     if scan.len > LIMIT {
         say::failed(Why::Unread, asked.log);
@@ -135,60 +177,62 @@ fn with_scan(asked: Asked, log: i32, len: usize, save: &mut [u8], path: &[u8], f
         say::failed_call(Why::Unread, asked.log);
         return;
     }
-    recover(asked, log, save, scan, path, free);
+    recover(asked, sources, save, scan, path, free);
 }
 
 // Opens the log, and looks at NEW before anything is done.
-fn with_log(asked: Asked, fd: i32, save: &mut [u8])
-    requires { ⌜ length (now save) ≤ saveLimit + 1 ⌝ }
+fn with_log(asked: Asked, save: Source, bytes: &mut [u8])
+    requires { ⌜ length (now bytes) ≤ saveLimit + 1 ⌝ }
 {
-    let log = open(asked.log);
-    if log < 0 {
-        return;
-    }
-    let size = measured(log, asked.log);
-    if !size.good {
+    let log = source::open(asked.log);
+    if log.fd < 0 {
         return;
     }
     let mut path = io::buffer();
-    let place = place::choose(asked, fd, log, &mut path);
+    let place = place::choose(asked, save.told, log.told, &mut path);
     if !place.good {
         return;
     }
     let n = place.len;
-    with_scan(asked, log, size.len, save, &path[..n], place.free);
+    with_scan(
+        asked,
+        Sources {
+            save: save,
+            log: log,
+        },
+        bytes,
+        &path[..n],
+        place.free,
+    );
 }
 
-// Takes the bytes of a file of `len` bytes for the save, if they are all of it and a save.
-fn with_bytes(asked: Asked, fd: i32, len: usize, save: &mut [u8])
-    requires { ⌜ length (now save) ≤ saveLimit + 1 ⌝ }
+// Takes the bytes of SAVE for the save, if they are all of it and a save.
+fn with_bytes(asked: Asked, save: Source, bytes: &mut [u8])
+    requires { ⌜ length (now bytes) ≤ saveLimit + 1 ⌝ }
 {
-    if !place::is_save(save) {
+    let len = save.told.len;
+    if !place::is_save(bytes) {
         say::wrong_length(asked.save, len);
         return;
     }
-    if save.len() != len {
+    if bytes.len() != len {
         say::failed(Why::Changed, asked.save);
         return;
     }
-    with_log(asked, fd, save);
+    with_log(asked, save, bytes);
 }
 
 // Reads the save, with room for one byte more than a save may have.
 fn with_save(asked: Asked) {
-    let fd = open(asked.save);
-    if fd < 0 {
+    let save = source::open(asked.save);
+    if save.fd < 0 {
         return;
     }
-    let size = measured(fd, asked.save);
-    if !size.good {
-        return;
-    }
-    let mut save = [0u8; savelog::SAVE_LIMIT + 1];
-    let got = files::part(fd, &mut save);
+    let mut bytes = [0u8; savelog::SAVE_LIMIT + 1];
+    let got = files::part(save.fd, &mut bytes);
     let n = got.len;
     if got.good {
-        with_bytes(asked, fd, size.len, &mut save[..n]);
+        with_bytes(asked, save, &mut bytes[..n]);
         return;
     }
     say::failed(Why::Changed, asked.save);

@@ -4,9 +4,10 @@ ghost use lib.ListN.{length};
 ghost use Rattle.io.specs.Counts.{Counts};
 ghost use Rattle.savelog.specs.Log.{saveLengths, oneOf};
 use crate::files;
-use crate::files::Same;
 use crate::files::There;
 use crate::say;
+use crate::told;
+use crate::told::Told;
 use crate::words::Asked;
 use recover_text::message::Why;
 
@@ -17,16 +18,6 @@ pub struct Place {
     pub len: usize,
 }
 
-fn refused() -> Place
-    ensures { λ r. ⌜ r .len ≡ 0 ⌝ }
-{
-    Place {
-        good: false,
-        free: false,
-        len: 0,
-    }
-}
-
 // Whether recovery takes a save of these bytes: it is asked with no log, which leaves them as they are.
 pub fn is_save(bytes: &mut [u8]) -> bool
     ensures { λ r. ⌜ (r ≡ oneOf (length (now (bytes .entry))) saveLengths) × (now (bytes .exit) ≡ now (bytes .entry)) ⌝ }
@@ -35,52 +26,43 @@ pub fn is_save(bytes: &mut [u8]) -> bool
     savelog::recover(bytes, &none[..0]) == numbers::DONE
 }
 
-// Whether an open file is a save: one that can be read and flushed, of a save's length. If not, it is told.
-fn holds_save(fd: i32, i: usize) -> bool {
-    let mut bytes = [0u8; savelog::SAVE_LIMIT + 1];
-    let size = files::measure(fd);
-    if !size.good {
-        say::failed(Why::Irregular, i);
+// Whether it takes one of n bytes, where there is room for so many.
+fn is_length(room: &mut [u8], n: usize) -> bool {
+    if n > room.len() {
         return false;
     }
-    if libc::fsync(fd) != 0 {
-        say::failed(Why::Irregular, i);
-        return false;
-    }
-    let got = files::part(fd, &mut bytes);
-    let n = got.len;
-    if !is_save(&mut bytes[..n]) {
-        say::wrong_length(i, size.len);
-        return false;
-    }
-    if n != size.len {
-        say::failed(Why::Changed, i);
-        return false;
-    }
-    true
+    is_save(&mut room[..n])
 }
 
-// Whether the open file NEW may be replaced. If not, it is told.
-fn may_replace(asked: Asked, fd: i32, save: i32, log: i32) -> bool {
-    let i = asked.new;
-    match files::same_file(fd, log) {
-        Same::Yes => {
-            say::failed(Why::IsLog, i);
-            return false;
-        }
-        Same::Unknown => {
-            say::failed_call(Why::Unwritten, i);
-            return false;
-        }
-        Same::No => (),
+// Whether NEW has a save's length. If not, it is told.
+fn holds_save(told: Told, i: usize) -> bool {
+    let mut room = [0u8; savelog::SAVE_LIMIT];
+    let n = told.len;
+    if is_length(&mut room, n) {
+        return true;
     }
-    if !holds_save(fd, i) {
+    say::wrong_length(i, n);
+    false
+}
+
+// Whether what is told of NEW lets it be replaced. If not, it is told why.
+fn may_replace(asked: Asked, new: Told, save: Told, log: Told) -> bool {
+    let i = asked.new;
+    if !new.regular {
+        say::failed(Why::Irregular, i);
+        return false;
+    }
+    if told::same(new, log) {
+        say::failed(Why::IsLog, i);
+        return false;
+    }
+    if !holds_save(new, i) {
         return false;
     }
     if asked.replace {
         return true;
     }
-    if let Same::Yes = files::same_file(fd, save) {
+    if told::same(new, save) {
         say::failed(Why::IsSave, i);
         return false;
     }
@@ -88,46 +70,47 @@ fn may_replace(asked: Asked, fd: i32, save: i32, log: i32) -> bool {
     false
 }
 
-// Whether what may be replaced stands under the name that was found for it. If not, it is told.
-fn stands(may: bool, path: &[u8], i: usize) -> bool {
-    if !may {
-        return false;
-    }
-    if let There::Something = files::look(path) {
-        return true;
-    }
-    say::failed(Why::Unwritten, i);
-    false
-}
-
-// Something stands under the name: it is opened for writing, though nothing is written there, so that a file that is protected stays.
-fn over(asked: Asked, save: i32, log: i32, path: &mut [u8], n: usize) -> Place
+// Opened for writing, though nothing is written there, so that a file that is protected stays. Puts the name without links: what a link leads to is replaced,
+// not the link. The name has 0 bytes where it is not the file that was told of.
+fn real_name(new: Told, path: &mut [u8], n: usize) -> usize
     requires { ⌜ Counts n (now path) ⌝ }
-    ensures { λ r. ⌜ Counts (r .len) (now (path .exit)) ⌝ }
+    ensures { λ r. ⌜ Counts r (now (path .exit)) ⌝ }
 {
     let fd = os::open_update(&path[..n]);
     if fd < 0 {
-        if os::errno() == libc::EISDIR {
-            say::failed(Why::Irregular, asked.new);
-            return refused();
-        }
-        say::failed_call(Why::Unwritten, asked.new);
-        return refused();
+        os::fail(b"recover");
+        return 0;
     }
-    let may = may_replace(asked, fd, save, log);
-    // The name without links: what a link leads to is replaced, not the link.
     let len = files::name_of(fd, path);
     libc::close(fd);
-    let good = stands(may, &path[..len], asked.new);
-    Place {
-        good: good,
-        free: false,
-        len: len,
+    if told::same(new, told::of(&path[..len])) {
+        return len;
     }
+    0
+}
+
+// Something stands under the name: the name to replace, or 0 bytes where it is told why not.
+fn over(asked: Asked, save: Told, log: Told, path: &mut [u8], n: usize) -> usize
+    requires { ⌜ Counts n (now path) ⌝ }
+    ensures { λ r. ⌜ Counts r (now (path .exit)) ⌝ }
+{
+    let new = told::of(&path[..n]);
+    if !new.good {
+        say::failed_call(Why::Unwritten, asked.new);
+        return 0;
+    }
+    if !may_replace(asked, new, save, log) {
+        return 0;
+    }
+    let len = real_name(new, path, n);
+    if len == 0 {
+        say::failed(Why::Unwritten, asked.new);
+    }
+    len
 }
 
 // Puts the name to write under into `path`.
-pub fn choose(asked: Asked, save: i32, log: i32, path: &mut [u8]) -> Place
+pub fn choose(asked: Asked, save: Told, log: Told, path: &mut [u8]) -> Place
     ensures { λ r. ⌜ Counts (r .len) (now (path .exit)) ⌝ }
 {
     if asked.new == 0 {
@@ -140,7 +123,11 @@ pub fn choose(asked: Asked, save: i32, log: i32, path: &mut [u8]) -> Place
     let n = os::arg(asked.new, path);
     if n == 0 {
         say::failed(Why::Unwritten, asked.new);
-        return refused();
+        return Place {
+            good: false,
+            free: false,
+            len: 0,
+        };
     }
     match files::look(&path[..n]) {
         There::Nothing => Place {
@@ -148,10 +135,21 @@ pub fn choose(asked: Asked, save: i32, log: i32, path: &mut [u8]) -> Place
             free: true,
             len: n,
         },
-        There::Something => over(asked, save, log, path, n),
+        There::Something => {
+            let len = over(asked, save, log, path, n);
+            Place {
+                good: len != 0,
+                free: false,
+                len: len,
+            }
+        }
         There::Unknown => {
             say::failed_call(Why::Unwritten, asked.new);
-            refused()
+            Place {
+                good: false,
+                free: false,
+                len: 0,
+            }
         }
     }
 }

@@ -1,0 +1,36 @@
+-- The first n bytes of the room are n.
+use mathlib.Core.Path.{sym}
+use native.Mathlib.Omega.{arith}
+use lib.Seq.{length-take-le}
+use borrow.Author.Needs.{needs}
+use Rattle.recover.proofs.place.is_length.Statement.{statement}
+use Rattle.recover.proofs.place.is_length.Tie as tie
+
+returns : tie.Need-returns
+returns c = search needs
+
+slice-relend-prefix-is-save : tie.Need-slice-relend-prefix-is-save
+slice-relend-prefix-is-save c = search needs
+
+slice-aggregate-is-save : tie.Need-slice-aggregate-is-save
+slice-aggregate-is-save c = sym (length-take-le _ _ (omega arith))
+
+is-save-requires : tie.Need-is-save-requires
+is-save-requires c κs = search needs
+
+same-length : tie.Need-same-length
+same-length c = search needs
+
+returns-2 : tie.Need-returns-2
+returns-2 c = search needs
+
+pub is-length-spec : {M : Type 1} → statement M
+is-length-spec =
+    tie.close
+    (tie.spec
+    returns
+    slice-relend-prefix-is-save
+    slice-aggregate-is-save
+    is-save-requires
+    same-length
+    returns-2)
