@@ -1,7 +1,7 @@
 // Files: read in parts, and their names.
 ghost use mathlib.Core.Path.{_≡_};
 ghost use Prim.Native.Nat.{_≤_};
-ghost use lib.ListN.{length};
+ghost use lib.ListN.{length, take};
 ghost use Rattle.io.specs.Counts.{Counts};
 ghost use Rattle.libc.specs.Io.{Ended};
 use libc::PATH_MAX;
@@ -86,7 +86,7 @@ pub fn put(out: &mut [u8], at: usize, text: &[u8]) -> usize
 // Copies all of `from` to the start of `to`, and gives its length.
 pub fn copied(from: &[u8], to: &mut [u8]) -> usize
     requires { ⌜ length (now from) ≤ length (now to) ⌝ }
-    ensures { λ r. ⌜ Counts r (now (to .exit)) × (r ≡ length (now (from .entry))) ⌝ }
+    ensures { λ r. ⌜ Counts r (now (to .exit)) × (r ≡ length (now (from .entry))) × (take r (now (to .exit)) ≡ now (from .entry)) ⌝ }
 {
     bytes::copy(from, to)
 }

@@ -1,14 +1,15 @@
 // The log, read twice from one descriptor and in parts of whole records: first its length and where its zeros begin, then its records over the save.
+ghost use mathlib.Core.Bool.{true};
 ghost use mathlib.Core.Path.{_≡_};
-ghost use Prim.Native.Nat.{_-_, _≤_, min};
-ghost use lib.ListN.{length, take};
+ghost use Prim.Native.Nat.{_-_, _≤_, _<_, min};
+ghost use lib.ListN.{take};
 ghost use Rattle.savelog.specs.Log.{outcome, recovery};
-ghost use Rattle.recover_text.specs.Journal.{Bounded, journalLimit};
+ghost use Rattle.recover_messages.specs.Journal.{Bounded, journalLimit, keptOf, Played, PlayedPart};
 use crate::files;
 use crate::say;
-use recover_text::journal;
-use recover_text::journal::Scan;
-use recover_text::message::Why;
+use recover_messages::journal;
+use recover_messages::journal::Scan;
+use recover_messages::message::Why;
 use savelog::LOG_LIMIT;
 use savelog::RECORD_LEN;
 
@@ -57,59 +58,67 @@ fn before(n: usize, at: usize, kept: usize) -> usize
     n
 }
 
-// Plays a part of the log over the save. Where it is refused, its damaged record is told.
-fn play(save: &mut [u8], part: &[u8], log: usize, at: usize) -> u8
-    requires { ⌜ at ≤ journalLimit ⌝ }
+// Plays a part of the log over the save; s is the scan before it. Where it is refused, its damaged record is told.
+fn play(save: &mut [u8], part: &[u8], log: usize, len: usize, s: Scan) -> u8
+    requires { ⌜ s .len ≤ journalLimit ⌝ }
     ensures { λ r. ⌜ outcome r (now (save .exit)) ≡ recovery (now (save .entry)) (now (part .entry)) ⌝ }
 {
     let number = savelog::recover(save, part);
     if number != numbers::DONE {
-        say::damage(log, part, save.len(), at / RECORD_LEN);
+        say::damage(log, len, s, part, save.len());
     }
     number
 }
 
-// The part at `at`, as far as it stands before `kept`.
-fn play_kept(save: &mut [u8], part: &[u8], log: usize, at: usize, kept: usize) -> u8
-    requires { ⌜ at ≤ journalLimit ⌝ }
-    ensures { λ r. ⌜ outcome r (now (save .exit)) ≡ recovery (now (save .entry)) (take (min (length (now (part .entry))) (kept - at)) (now (part .entry))) ⌝ }
+// The same, as far as it stands before `kept`.
+fn play_kept(save: &mut [u8], part: &[u8], log: usize, len: usize, s: Scan, kept: usize) -> u8
+    requires { ⌜ s .len ≤ journalLimit ⌝ }
+    ensures { λ r. ⌜ outcome r (now (save .exit)) ≡ recovery (now (save .entry)) (take (kept - s .len) (now (part .entry))) ⌝ }
 {
-    let n = before(part.len(), at, kept);
-    play(save, &part[..n], log, at)
+    let n = before(part.len(), s.len, kept);
+    play(save, &part[..n], log, len, s)
 }
 
-// The next part scanned and played; the scan as it was, where it is told why not.
-fn play_next(fd: i32, log: usize, save: &mut [u8], s: Scan, kept: usize) -> Scan
+// The next part of a log of `len` bytes scanned and played; the scan as it was, where it is told why not. A part begins where a record does.
+fn play_next(fd: i32, log: usize, len: usize, save: &mut [u8], s: Scan, kept: usize) -> Scan
     requires { ⌜ Bounded s ⌝ }
-    ensures { λ r. ⌜ Bounded r ⌝ }
+    ensures { λ r. ⌜ Bounded r × (s .len < r .len → PlayedPart kept s (now (save .entry)) (now (save .exit)) r) ⌝ }
 {
     let at = s.len;
     if at > journal::LIMIT {
+        return s;
+    }
+    if at % RECORD_LEN != 0 {
+        say::failed(Why::Changed, log, len);
         return s;
     }
     let mut part = [0u8; LOG_LIMIT];
     let got = files::part(fd, &mut part);
     let n = got.len;
     if !got.good {
-        say::failed(Why::Changed, log);
+        say::failed(Why::Changed, log, len);
         return s;
     }
     if n == 0 {
-        say::failed(Why::Changed, log);
+        say::failed(Why::Changed, log, len);
         return s;
     }
-    if play_kept(save, &part[..n], log, at, kept) != numbers::DONE {
+    if play_kept(save, &part[..n], log, len, s, kept) != numbers::DONE {
         return s;
     }
     journal::scanned(s, &part[..n])
 }
 
-// The second time: the records before `kept` over the save. Whether all of it was as the first time, and sound; if not, it is told.
-pub fn play_all(fd: i32, log: usize, save: &mut [u8], first: Scan, kept: usize) -> bool {
-    let mut s = journal::unread();
+// The second time: the records of what is kept over the save. Whether all of it was as the first time, and sound; if not, it is told.
+pub fn play_all(fd: i32, log: usize, save: &mut [u8], first: Scan) -> bool
+    requires { ⌜ Bounded first × (first .len ≤ journalLimit) ⌝ }
+    ensures { λ r. ⌜ (r ≡ true → Played (keptOf first) first (now (save .entry)) (now (save .exit))) ⌝ }
+{
+    let kept = journal::journal_len(first);
     let len = first.len;
+    let mut s = journal::unread();
     while s.len < len {
-        let next = play_next(fd, log, save, s, kept);
+        let next = play_next(fd, log, len, save, s, kept);
         if next.len <= s.len {
             return false;
         }
@@ -122,6 +131,6 @@ pub fn play_all(fd: i32, log: usize, save: &mut [u8], first: Scan, kept: usize) 
             }
         }
     }
-    say::failed(Why::Changed, log);
+    say::failed(Why::Changed, log, len);
     false
 }

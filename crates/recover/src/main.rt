@@ -1,5 +1,5 @@
 // recover [--replace] [--speak] SAVE LOG [NEW]: plays a save log back over a save, shows what that changes, and writes the recovered save to NEW.
-// Everything is decided on what was read, before a byte is written. What is said is crate recover_text's, recovery savelog's.
+// Everything is decided on what was read, before a byte is written. What is shown is crate recover_text's, what is told recover_messages', recovery savelog's.
 mod files;
 mod journal;
 mod keep;
@@ -10,17 +10,16 @@ mod source;
 mod told;
 mod words;
 
+ghost use mathlib.Core.Bool.{true};
 ghost use mathlib.Core.Path.{_≡_};
-ghost use Prim.Native.Nat.{_+_, _≤_};
+ghost use Prim.Native.Nat.{_≤_};
 ghost use lib.ListN.{length};
-ghost use Rattle.savelog.specs.Log.{saveLimit};
-ghost use Rattle.recover_text.specs.Journal.{Bounded, journalLimit};
+ghost use Rattle.savelog.specs.Log.{saveLimit, saveLengths, oneOf};
+ghost use Rattle.recover_messages.specs.Journal.{Bounded, journalLimit};
 use keep::Kept;
-use recover_text::journal::LIMIT;
-use recover_text::journal::Scan;
-use recover_text::journal::journal_len;
-use recover_text::message::Why;
-use savelog::RECORD_LEN;
+use recover_messages::journal::LIMIT;
+use recover_messages::journal::Scan;
+use recover_messages::message::Why;
 use source::Source;
 use words::Asked;
 
@@ -30,46 +29,24 @@ struct Sources {
     log: Source,
 }
 
-// What recovery takes off the log's end.
-fn note_end(asked: Asked, len: usize, kept: usize) -> bool
-    requires { ⌜ kept ≤ len ⌝ }
+// Says how the writing of `len` bytes went; where it is done, by the last line.
+fn conclude(asked: Asked, kept: Kept, path: &[u8], len: usize, scan: Scan)
+    requires { ⌜ Bounded scan × (scan .len ≤ journalLimit) ⌝ }
 {
-    if kept < len {
-        return say::zeros(asked.log, len - kept, len);
-    }
-    if kept % RECORD_LEN == 0 {
-        return true;
-    }
-    say::torn(asked.log, kept % RECORD_LEN)
-}
-
-// Shows what changed.
-fn show_changes(asked: Asked, old: &[u8], new: &[u8]) -> bool
-    requires { ⌜ (length (now old) ≡ length (now new)) × (length (now old) ≤ 65536) ⌝ }
-{
-    if !asked.speak {
-        if !show::all_rows(old, new) {
-            return false;
-        }
-    }
-    show::all_spoken(old, new)
-}
-
-// Says how the writing went; where it is done, by the last line.
-fn conclude(asked: Asked, kept: Kept, records: usize) {
     match kept {
         Kept::Done => {
-            say::recovered(records);
+            say::recovered(scan);
         }
         Kept::Unflushed => {
-            say::note(Why::Unflushed, asked.new);
-            say::recovered(records);
+            say::note(Why::Unflushed, asked.new, len);
+            say::recovered(scan);
         }
         Kept::Taken => {
-            say::failed(Why::Exists, asked.new);
+            let new = told::of(path);
+            say::failed(Why::Exists, asked.new, new.len);
         }
         Kept::Failed => {
-            say::failed(Why::Unwritten, asked.new);
+            say::failed(Why::Unwritten, asked.new, len);
         }
     }
 }
@@ -95,13 +72,21 @@ fn settle(
     beside: &[u8],
     path: &[u8],
     free: bool,
-    records: usize,
-) {
+    scan: Scan,
+)
+    requires { ⌜ Bounded scan × (scan .len ≤ journalLimit) ⌝ }
+{
     if !unchanged(asked, sources, old) {
         os::unlink(beside);
         return;
     }
-    conclude(asked, keep::settle(beside, path, free), records);
+    conclude(
+        asked,
+        keep::settle(beside, path, free),
+        path,
+        old.len(),
+        scan,
+    );
 }
 
 // Writes the recovered save, where that is asked for, and only then tells success.
@@ -112,77 +97,88 @@ fn finish(
     path: &[u8],
     free: bool,
     save: &[u8],
-    records: usize,
-) {
+    scan: Scan,
+)
+    requires { ⌜ Bounded scan × (scan .len ≤ journalLimit) ⌝ }
+{
     if path.len() == 0 {
-        say::recovered(records);
+        say::recovered(scan);
         return;
     }
     let mut name = io::buffer();
     let n = keep::beside(path, save, &mut name);
     if n == 0 {
-        say::failed(Why::Unwritten, asked.new);
+        say::failed(Why::Unwritten, asked.new, save.len());
         return;
     }
-    settle(asked, sources, old, &name[..n], path, free, records);
+    settle(asked, sources, old, &name[..n], path, free, scan);
 }
 
-// Plays the log over the save and shows what came of it, then goes on to NEW.
-fn recover(asked: Asked, sources: Sources, save: &mut [u8], scan: Scan, path: &[u8], free: bool)
-    requires { ⌜ (length (now save) ≤ saveLimit + 1) × Bounded scan × (scan .len ≤ journalLimit) ⌝ }
+// Plays the log over the save and prints what came of it, then goes on to NEW.
+fn recover(
+    asked: Asked,
+    sources: Sources,
+    save: &mut [u8],
+    old: &mut [u8],
+    scan: Scan,
+    path: &[u8],
+    free: bool,
+)
+    requires { ⌜ (oneOf (length (now save)) saveLengths ≡ true) × (Bounded scan × (scan .len ≤ journalLimit)) × (saveLimit ≤ length (now old)) ⌝ }
 {
-    let mut old = [0u8; savelog::SAVE_LIMIT + 1];
-    let n = files::copied(save, &mut old);
-    let kept = journal_len(scan);
-    if !journal::play_all(sources.log.fd, asked.log, save, scan, kept) {
-        return;
-    }
-    if !note_end(asked, scan.len, kept) {
-        return;
-    }
-    if !show_changes(asked, &old[..n], save) {
-        return;
-    }
-    finish(
-        asked,
-        sources,
-        &old[..n],
-        path,
-        free,
+    let mut out = show::room();
+    let shown = show::changes(
+        sources.log.fd,
+        asked.log,
+        scan,
+        asked.speak,
         save,
-        kept / RECORD_LEN,
+        old,
+        &mut out,
     );
+    if !shown.good {
+        return;
+    }
+    if !say::end(asked.log, scan) {
+        return;
+    }
+    if !say::print(&out, shown.len) {
+        return;
+    }
+    let n = save.len();
+    finish(asked, sources, &old[..n], path, free, save, scan);
 }
 
 // Scans the log, all of it or none.
 fn with_scan(asked: Asked, sources: Sources, save: &mut [u8], path: &[u8], free: bool)
-    requires { ⌜ length (now save) ≤ saveLimit + 1 ⌝ }
+    requires { ⌜ oneOf (length (now save)) saveLengths ≡ true ⌝ }
 {
     let log = sources.log.fd;
     let len = sources.log.told.len;
     let scan = journal::scan(log, len);
     if scan.len > LIMIT {
-        say::failed(Why::Unread, asked.log);
+        say::failed(Why::Unread, asked.log, len);
         return;
     }
     if scan.len != len {
-        say::failed(Why::Changed, asked.log);
+        say::failed(Why::Changed, asked.log, len);
         return;
     }
     if !files::at_end(log) {
-        say::failed(Why::Changed, asked.log);
+        say::failed(Why::Changed, asked.log, len);
         return;
     }
     if !files::again(log) {
-        say::failed_call(Why::Unread, asked.log);
+        say::failed_call(Why::Unread, asked.log, len);
         return;
     }
-    recover(asked, sources, save, scan, path, free);
+    let mut old = [0u8; savelog::SAVE_LIMIT];
+    recover(asked, sources, save, &mut old, scan, path, free);
 }
 
 // Opens the log, and looks at NEW before anything is done.
 fn with_log(asked: Asked, save: Source, bytes: &mut [u8])
-    requires { ⌜ length (now bytes) ≤ saveLimit + 1 ⌝ }
+    requires { ⌜ oneOf (length (now bytes)) saveLengths ≡ true ⌝ }
 {
     let log = source::open(asked.log);
     if log.fd < 0 {
@@ -207,16 +203,14 @@ fn with_log(asked: Asked, save: Source, bytes: &mut [u8])
 }
 
 // Takes the bytes of SAVE for the save, if they are all of it and a save.
-fn with_bytes(asked: Asked, save: Source, bytes: &mut [u8])
-    requires { ⌜ length (now bytes) ≤ saveLimit + 1 ⌝ }
-{
+fn with_bytes(asked: Asked, save: Source, bytes: &mut [u8]) {
     let len = save.told.len;
     if !place::is_save(bytes) {
         say::wrong_length(asked.save, len);
         return;
     }
     if bytes.len() != len {
-        say::failed(Why::Changed, asked.save);
+        say::failed(Why::Changed, asked.save, len);
         return;
     }
     with_log(asked, save, bytes);
@@ -235,7 +229,7 @@ fn with_save(asked: Asked) {
         with_bytes(asked, save, &mut bytes[..n]);
         return;
     }
-    say::failed(Why::Changed, asked.save);
+    say::failed(Why::Changed, asked.save, save.told.len);
 }
 
 fn main() {

@@ -9,7 +9,7 @@ use crate::say;
 use crate::told;
 use crate::told::Told;
 use crate::words::Asked;
-use recover_text::message::Why;
+use recover_messages::message::Why;
 
 // The name's length; 0 where nothing is to be written. `good`: not refused. `free`: nothing stands under the name.
 pub struct Place {
@@ -49,11 +49,11 @@ fn holds_save(told: Told, i: usize) -> bool {
 fn may_replace(asked: Asked, new: Told, save: Told, log: Told) -> bool {
     let i = asked.new;
     if !new.regular {
-        say::failed(Why::Irregular, i);
+        say::failed(Why::Irregular, i, 0);
         return false;
     }
     if told::same(new, log) {
-        say::failed(Why::IsLog, i);
+        say::failed(Why::IsLog, i, new.len);
         return false;
     }
     if !holds_save(new, i) {
@@ -63,10 +63,10 @@ fn may_replace(asked: Asked, new: Told, save: Told, log: Told) -> bool {
         return true;
     }
     if told::same(new, save) {
-        say::failed(Why::IsSave, i);
+        say::failed(Why::IsSave, i, new.len);
         return false;
     }
-    say::failed(Why::Exists, i);
+    say::failed(Why::Exists, i, new.len);
     false
 }
 
@@ -96,7 +96,7 @@ fn over(asked: Asked, save: Told, log: Told, path: &mut [u8], n: usize) -> usize
 {
     let new = told::of(&path[..n]);
     if !new.good {
-        say::failed_call(Why::Unwritten, asked.new);
+        say::failed_call(Why::Unwritten, asked.new, save.len);
         return 0;
     }
     if !may_replace(asked, new, save, log) {
@@ -104,7 +104,7 @@ fn over(asked: Asked, save: Told, log: Told, path: &mut [u8], n: usize) -> usize
     }
     let len = real_name(new, path, n);
     if len == 0 {
-        say::failed(Why::Unwritten, asked.new);
+        say::failed(Why::Unwritten, asked.new, save.len);
     }
     len
 }
@@ -122,7 +122,7 @@ pub fn choose(asked: Asked, save: Told, log: Told, path: &mut [u8]) -> Place
     }
     let n = os::arg(asked.new, path);
     if n == 0 {
-        say::failed(Why::Unwritten, asked.new);
+        say::failed(Why::Unwritten, asked.new, save.len);
         return Place {
             good: false,
             free: false,
@@ -144,7 +144,7 @@ pub fn choose(asked: Asked, save: Told, log: Told, path: &mut [u8]) -> Place
             }
         }
         There::Unknown => {
-            say::failed_call(Why::Unwritten, asked.new);
+            say::failed_call(Why::Unwritten, asked.new, save.len);
             Place {
                 good: false,
                 free: false,

@@ -1,11 +1,13 @@
-// What is printed: the lines of crate recover_text, each written whole. Every function tells whether it could be written.
+// What is printed: the lines of crate recover_messages, each written whole. Every function tells whether it could be written.
 ghost use Prim.Native.Nat.{_≤_};
 ghost use lib.ListN.{length};
 ghost use Rattle.io.specs.Counts.{Counts};
+ghost use Rattle.recover_messages.specs.Journal.{Bounded, journalLimit};
 use libc::STDERR_FILENO;
 use libc::STDOUT_FILENO;
-use recover_text::message;
-use recover_text::message::Why;
+use recover_messages::journal::Scan;
+use recover_messages::message;
+use recover_messages::message::Why;
 
 // A line's room: the longest name and the most that is said beside one.
 const LINE: usize = 4400;
@@ -58,26 +60,26 @@ pub fn usage() {
     io::write_all(STDOUT_FILENO, b"failed: usage\n");
 }
 
-// A failure of the work on the file that argument i names.
-pub fn failed(why: Why, i: usize) -> bool {
+// A failure of the work on the file that argument i names, and its size.
+pub fn failed(why: Why, i: usize, len: usize) -> bool {
     let mut name = io::buffer();
     let n = name_at(i, &mut name);
     let mut line = [0u8; LINE];
-    let m = message::failed(&mut line, why, &name[..n]);
+    let m = message::failed(&mut line, why, &name[..n], len as u64);
     print(&line, m)
 }
 
 // The same after a call that failed: what the system says of it goes to standard error.
-pub fn failed_call(why: Why, i: usize) -> bool {
+pub fn failed_call(why: Why, i: usize, len: usize) -> bool {
     os::fail(b"recover");
-    failed(why, i)
+    failed(why, i, len)
 }
 
-pub fn note(why: Why, i: usize) -> bool {
+pub fn note(why: Why, i: usize, len: usize) -> bool {
     let mut name = io::buffer();
     let n = name_at(i, &mut name);
     let mut line = [0u8; LINE];
-    let m = message::note(&mut line, why, &name[..n]);
+    let m = message::note(&mut line, why, &name[..n], len as u64);
     print(&line, m)
 }
 
@@ -89,35 +91,32 @@ pub fn wrong_length(i: usize, len: usize) -> bool {
     print(&line, m)
 }
 
-pub fn torn(i: usize, left: usize) -> bool {
-    let mut name = io::buffer();
-    let n = name_at(i, &mut name);
-    let mut line = [0u8; LINE];
-    let m = message::torn(&mut line, &name[..n], left as u64);
-    print(&line, m)
-}
-
-pub fn zeros(i: usize, left: usize, len: usize) -> bool {
-    let mut name = io::buffer();
-    let n = name_at(i, &mut name);
-    let mut line = [0u8; LINE];
-    let m = message::zeros(&mut line, &name[..n], left as u64, len as u64);
-    print(&line, m)
-}
-
-// The first damaged record of a part of the log; `before` records stand before the part.
-pub fn damage(i: usize, part: &[u8], ram: usize, before: usize) -> bool
-    requires { ⌜ before ≤ 4611686018427387904 ⌝ }
+// What is left out at the end of the log.
+pub fn end(i: usize, s: Scan) -> bool
+    requires { ⌜ Bounded s × (s .len ≤ journalLimit) ⌝ }
 {
     let mut name = io::buffer();
     let n = name_at(i, &mut name);
     let mut line = [0u8; LINE];
-    let m = message::damage(&mut line, &name[..n], part, ram, before);
+    let m = message::end(&mut line, &name[..n], s);
     print(&line, m)
 }
 
-pub fn recovered(records: usize) -> bool {
+// The first damaged record of a part of a log of `len` bytes; s is the scan before the part.
+pub fn damage(i: usize, len: usize, s: Scan, part: &[u8], ram: usize) -> bool
+    requires { ⌜ s .len ≤ journalLimit ⌝ }
+{
+    let mut name = io::buffer();
+    let n = name_at(i, &mut name);
     let mut line = [0u8; LINE];
-    let m = message::recovered(&mut line, records as u64);
+    let m = message::damage(&mut line, &name[..n], len, s, part, ram);
+    print(&line, m)
+}
+
+pub fn recovered(s: Scan) -> bool
+    requires { ⌜ Bounded s × (s .len ≤ journalLimit) ⌝ }
+{
+    let mut line = [0u8; LINE];
+    let m = message::recovered(&mut line, s);
     print(&line, m)
 }

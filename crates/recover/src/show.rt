@@ -1,61 +1,57 @@
-// What changed, printed in parts: the rows in hex, and the lines that are heard.
+// The log played over the save, and all that this changes, put into one lent buffer before a line of it is printed.
+ghost use mathlib.Core.Bool.{true};
 ghost use mathlib.Core.Path.{_≡_};
-ghost use Prim.Native.Nat.{_≤_, _/_};
-ghost use lib.ListN.{length};
-use crate::say::print;
-use recover_text::rows;
-use recover_text::speak;
+ghost use Prim.Native.Nat.{_≤_};
+ghost use lib.ListN.{length, take};
+ghost use Rattle.savelog.specs.Log.{saveLimit, saveLengths, oneOf};
+ghost use Rattle.recover_text.specs.Text.{Put};
+ghost use Rattle.recover_text.specs.Report.{report, reportRoom};
+ghost use Rattle.recover_messages.specs.Journal.{Bounded, journalLimit, keptOf, Played};
+use crate::files;
+use crate::journal;
+use recover_messages::journal::Scan;
+use recover_text::report;
 
-// The lines of some rows from row `from` on: the row to go on with, or `from` where they could not be written.
-fn some_rows(old: &[u8], new: &[u8], from: usize) -> usize
-    requires { ⌜ (length (now old) ≡ length (now new)) × (length (now old) ≤ 65536) × (from ≤ length (now old) / 16) ⌝ }
-{
-    let mut out = [0u8; 16384];
-    let part = rows::rows(old, new, from, &mut out);
-    if print(&out, part.len) {
-        return part.next;
-    }
-    from
+// The room for every row of the longest save: 2,048 rows.
+pub const ROOM: usize = 1122704;
+
+// The bytes of the report; `good`: the log was played.
+pub struct Shown {
+    pub good: bool,
+    pub len: usize,
 }
 
-pub fn all_rows(old: &[u8], new: &[u8]) -> bool
-    requires { ⌜ (length (now old) ≡ length (now new)) × (length (now old) ≤ 65536) ⌝ }
-{
-    let count = old.len() / rows::ROW;
-    let mut row = 0;
-    while row < count {
-        let next = some_rows(old, new, row);
-        if next <= row {
-            return false;
-        }
-        row = next;
-    }
-    true
+// An array of that length, as a value: written out where it is used, it is too long for the prover.
+pub fn room() -> [u8; ROOM] {
+    [0u8; ROOM]
 }
 
-// The same of the lines that are heard.
-fn some_spoken(old: &[u8], new: &[u8], from: usize) -> usize
-    requires { ⌜ (length (now old) ≡ length (now new)) × (length (now old) ≤ 65536) × (from ≤ length (now old) / 16) ⌝ }
+// Plays the log over the save, of which a copy is made in `old`. The report says what changed from the save as it was to the save as it is.
+pub fn changes(
+    fd: i32,
+    log: usize,
+    scan: Scan,
+    speak: bool,
+    save: &mut [u8],
+    old: &mut [u8],
+    out: &mut [u8],
+) -> Shown
+    requires { ⌜ (oneOf (length (now save)) saveLengths ≡ true) × (Bounded scan × (scan .len ≤ journalLimit))
+        × ((saveLimit ≤ length (now old)) × (reportRoom 2048 ≤ length (now out))) ⌝ }
+    ensures { λ r. ⌜ (r .good ≡ true → Played (keptOf scan) scan (now (save .entry)) (now (save .exit))
+        × (Put (now (out .entry)) 0 (report speak (now (save .entry)) (now (save .exit))) (now (out .exit)) (r .len)
+        × (take (length (now (save .entry))) (now (old .exit)) ≡ now (save .entry)))) ⌝ }
 {
-    let mut out = [0u8; 16384];
-    let part = speak::spoken(old, new, from, &mut out);
-    if print(&out, part.len) {
-        return part.next;
+    let n = files::copied(save, old);
+    if !journal::play_all(fd, log, save, scan) {
+        return Shown {
+            good: false,
+            len: 0,
+        };
     }
-    from
-}
-
-pub fn all_spoken(old: &[u8], new: &[u8]) -> bool
-    requires { ⌜ (length (now old) ≡ length (now new)) × (length (now old) ≤ 65536) ⌝ }
-{
-    let count = old.len() / rows::ROW;
-    let mut row = 0;
-    while row < count {
-        let next = some_spoken(old, new, row);
-        if next <= row {
-            return false;
-        }
-        row = next;
+    let len = report::report(&old[..n], save, speak, out);
+    Shown {
+        good: true,
+        len: len,
     }
-    true
 }

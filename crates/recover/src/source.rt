@@ -3,7 +3,7 @@ use crate::files;
 use crate::say;
 use crate::told;
 use crate::told::Told;
-use recover_text::message::Why;
+use recover_messages::message::Why;
 
 // Its descriptor, below 0 where it was told why not, and what the system told of it.
 pub struct Source {
@@ -21,16 +21,16 @@ pub fn open(i: usize) -> Source {
     let n = os::arg(i, &mut path);
     let told = told::of(&path[..n]);
     if !told.good {
-        say::failed_call(Why::Unread, i);
+        say::failed_call(Why::Absent, i, 0);
         return closed(told);
     }
     if !told.regular {
-        say::failed(Why::Irregular, i);
+        say::failed(Why::Irregular, i, 0);
         return closed(told);
     }
     let fd = os::open_read(&path[..n]);
     if fd < 0 {
-        say::failed_call(Why::Unread, i);
+        say::failed_call(Why::Unread, i, told.len);
         return closed(told);
     }
     Source { fd: fd, told: told }
@@ -44,7 +44,7 @@ pub fn stands(source: Source, i: usize) -> bool {
     if told::unchanged(told, told::of(&path[..n])) {
         return true;
     }
-    say::failed(Why::Changed, i);
+    say::failed(Why::Changed, i, told.len);
     false
 }
 
@@ -58,6 +58,6 @@ pub fn holds(source: Source, i: usize, bytes: &[u8]) -> bool {
             return true;
         }
     }
-    say::failed(Why::Changed, i);
+    say::failed(Why::Changed, i, bytes.len());
     false
 }

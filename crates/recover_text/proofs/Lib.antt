@@ -3,7 +3,6 @@ pub mod Digits
 pub mod Same
 pub mod Lines
 pub mod Parts
-pub mod Scans
 pub mod Hearing
 pub mod Heard
-pub mod Choice
+pub mod Whole

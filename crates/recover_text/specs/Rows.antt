@@ -43,10 +43,11 @@ rowLines old new k = changedLines (k * rowBytes) (row k old) (row k new)
 abbrev pub rowRoom : ℕ
 rowRoom = 148
 
--- Two saves of the same length, whose addresses have four digits, and a row to begin with.
+-- Two saves of the same length, whole rows, whose addresses have four digits, and a row to begin with.
 pub record Rows (old new : List ℕ) (from : ℕ) : Type 0 where
   pub same : length old ≡ length new
   pub short : length old ≤ 65536
+  pub whole : length old ≡ rowCount old * rowBytes
   pub inside : from ≤ rowCount old
 
 -- What was put of the rows from `from` on, where `lines` is a row's text and `room` the most bytes that it has: the text of the rows up to `next`, in their order, and
@@ -61,3 +62,7 @@ pub record Shows (lines : List ℕ → List ℕ → ℕ → List ℕ) (room : �
 -- parts one after the other are the whole
 abbrev pub PartsLaw : Type 0
 PartsLaw = (f : ℕ → List ℕ) (from n m : ℕ) → numbered f from (n + m) ≡ numbered f from n ++ numbered f (from + n) m
+
+-- the rows of whole rows are all of a save
+abbrev pub RowsLaw : Type 0
+RowsLaw = (s : List ℕ) → length s ≡ rowCount s * rowBytes → numbered (λ k. row k s) 0 (rowCount s) ≡ s

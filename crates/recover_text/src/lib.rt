@@ -1,7 +1,5 @@
-// What `recover` says and decides: the rows that changed, in hex and to be heard, how much of a journal was written, which record is damaged, and every message.
-// All of it is put into buffers that the caller lends; the program prints them. specs/ says which bytes.
-pub mod journal;
-pub mod message;
+// What `recover` shows of a save: the rows that changed, in hex and to be heard. All of it is put into buffers that the caller lends; specs/ says which bytes.
 pub mod put;
+pub mod report;
 pub mod rows;
 pub mod speak;

@@ -3,7 +3,7 @@ ghost use mathlib.Core.Path.{_≡_};
 ghost use Prim.Native.Nat.{_+_, _*_, _≤_, _<_};
 ghost use lib.ListN.{length};
 ghost use Rattle.recover_text.specs.Text.{Put};
-ghost use Rattle.recover_text.specs.Rows.{head, rowLine, changedLines, rowLines, Rows, Shows, rowBytes, rowRoom, PartsLaw};
+ghost use Rattle.recover_text.specs.Rows.{head, rowLine, changedLines, rowLines, Rows, Shows, rowBytes, rowRoom, PartsLaw, RowsLaw};
 use crate::put;
 
 // The bytes of a row.
@@ -80,7 +80,7 @@ pub fn rows(old: &[u8], new: &[u8], from: usize, out: &mut [u8]) -> Part
     Part { next: k, len: end }
 }
 
-// The law of specs/Rows.antt, as a contract: its proof hands it over.
+// The laws of specs/Rows.antt, as a contract: its proof hands them over.
 pub fn laws_hold()
-    ensures { λ _. ⌜ PartsLaw ⌝ }
+    ensures { λ _. ⌜ PartsLaw × RowsLaw ⌝ }
 {}

@@ -1,23 +1,30 @@
--- Each turn plays more, over a save that keeps its length; what is left of the log falls.
-use mathlib.Core.Path.{_≡_}
+-- Each turn plays one part more, over a save that keeps its length; what is left of the log falls.
+use mathlib.Core.Path.{_≡_, refl}
 use Prim.Native.Nat.{_-_}
+use native.Mathlib.Omega.{arith}
 use lib.ListN.{length}
 use borrow.Author.Needs.{needs}
-use Rattle.recover_text.specs.Journal.{Bounded}
+use Rattle.rules.proofs.Tests.{untrue}
+use Rattle.recover_messages.specs.Journal.{Bounded, Played}
+use Rattle.recover_messages.proofs.Plays.{none-played, played-more}
+use Rattle.recover.proofs.Saves.{whole-journal}
 use Rattle.recover.proofs.journal.play_all.Statement.{statement}
 use Rattle.recover.proofs.journal.play_all.Tie as tie
 
 abbrev Inv-loop : tie.InvT-loop
-Inv-loop fd log save₀ first kept s₀ len save s = Bounded s × (length save ≡ length save₀)
+Inv-loop fd log save₀ first kept len s₀ save s = Bounded s × (length save ≡ length save₀) × Played kept s save₀ save
 
 abbrev μ-loop : tie.MeasureT-loop
-μ-loop fd log save₀ first kept s₀ len save s = len - s .len
+μ-loop fd log save₀ first kept len s₀ save s = len - s .len
+
+journal-len-requires : tie.Need-journal-len-requires Inv-loop μ-loop
+journal-len-requires c κs = search needs
 
 unread-requires : tie.Need-unread-requires Inv-loop μ-loop
 unread-requires c κs = search needs
 
 loop-holds : tie.Need-loop-holds Inv-loop μ-loop
-loop-holds c = search needs
+loop-holds c = (c .unread .ensures .1, refl, rw (c .unread .ensures .0) (none-played _ _))
 
 play-next-requires : tie.Need-play-next-requires Inv-loop μ-loop
 play-next-requires c κs = search needs
@@ -26,13 +33,13 @@ same-length : tie.Need-same-length Inv-loop μ-loop
 same-length c = search needs
 
 returns : tie.Need-returns Inv-loop μ-loop
-returns c = search needs
+returns c = λ h. untrue h
 
 loop-less : tie.Need-loop-less Inv-loop μ-loop
 loop-less c = search needs
 
 loop-again : tie.Need-loop-again Inv-loop μ-loop
-loop-again c = search needs
+loop-again c = (c .before .before .before .before .before .play-next .ensures .0, omega (arith, c .before .before .before .before .before .before .before .before .before .loop .inv .1), played-more _ _ _ _ _ _ (c .before .before .before .before .before .before .before .before .before .loop .inv .2) (c .before .before .before .before .before .play-next .ensures .1 (c .if2 .left)))
 
 at-end-requires : tie.Need-at-end-requires Inv-loop μ-loop
 at-end-requires c κs = search needs
@@ -41,7 +48,7 @@ same-length-2 : tie.Need-same-length-2 Inv-loop μ-loop
 same-length-2 c = search needs
 
 returns-2 : tie.Need-returns-2 Inv-loop μ-loop
-returns-2 c = search needs
+returns-2 c = λ h. whole-journal _ _ _ _ _ _ (c .before .before .before .before .before .before .before .before .before .before .before .journal-len .ensures .0) (c .before .before .before .before .before .if3 .taken) (c .before .before .if4 .taken) (c .before .before .before .before .before .before .before .before .before .loop .inv .2)
 
 failed-requires : tie.Need-failed-requires Inv-loop μ-loop
 failed-requires c κs = search needs
@@ -50,7 +57,7 @@ same-length-3 : tie.Need-same-length-3 Inv-loop μ-loop
 same-length-3 c = search needs
 
 returns-3 : tie.Need-returns-3 Inv-loop μ-loop
-returns-3 c = search needs
+returns-3 c = λ h. untrue h
 
 pub play-all-spec : {M : Type 1} → statement M
 play-all-spec =
@@ -58,6 +65,7 @@ play-all-spec =
     (tie.spec
     Inv-loop
     μ-loop
+    journal-len-requires
     unread-requires
     loop-holds
     play-next-requires

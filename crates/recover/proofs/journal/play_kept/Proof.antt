@@ -1,8 +1,10 @@
 -- What stands before `kept` is within the part, and has as many bytes.
-use mathlib.Core.Path.{sym}
+use mathlib.Core.Path.{sym, ap, _∙_}
 use native.Mathlib.Omega.{arith}
 use lib.Seq.{length-take-le}
 use borrow.Author.Needs.{needs}
+use Rattle.savelog.specs.Log.{recovery}
+use Rattle.recover.proofs.Saves.{take-before}
 use Rattle.recover.proofs.journal.play_kept.Statement.{statement}
 use Rattle.recover.proofs.journal.play_kept.Tie as tie
 
@@ -19,8 +21,14 @@ same-length : tie.Need-same-length
 same-length c = search needs
 
 returns : tie.Need-returns
-returns c = cc
+returns c = c .before .before .play .ensures ∙ ap (recovery _) (take-before _ _ _ (c .before .before .before .before .before .before2 .ensures))
 
 pub play-kept-spec : {M : Type 1} → statement M
 play-kept-spec =
-    tie.close (tie.spec before-requires slice-aggregate-play play-requires same-length returns)
+    tie.close
+    (tie.spec
+    before-requires
+    slice-aggregate-play
+    play-requires
+    same-length
+    returns)

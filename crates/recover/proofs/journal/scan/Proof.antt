@@ -1,7 +1,7 @@
 -- Each turn scans more; what is left of the length falls.
 use Prim.Native.Nat.{_-_}
 use borrow.Author.Needs.{needs}
-use Rattle.recover_text.specs.Journal.{Bounded}
+use Rattle.recover_messages.specs.Journal.{Bounded}
 use Rattle.recover.proofs.journal.scan.Statement.{statement}
 use Rattle.recover.proofs.journal.scan.Tie as tie
 

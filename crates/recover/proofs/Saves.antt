@@ -1,0 +1,70 @@
+-- A save's length is that of whole rows, whose addresses have four digits. As much of a copy as was copied is what was. What stands before a place.
+-- And what of a play and of a report the program's own proofs need.
+use mathlib.Core.Bool.{Bool, true, false, _||_}
+use mathlib.Core.Path.{_≡_, refl, sym, subst}
+use mathlib.Core.List.{List, [], _∷_, _++_}
+use Prim.Native.Nat.{ℕ, _-_, _*_, _/_, _%_, _≤_, _<_, min}
+use native.Mathlib.Decide.{decLt}
+use native.Mathlib.Omega.{arith}
+use lib.Dec.{eqb}
+use lib.ListN.{length, take, drop}
+use lib.Seq.{take-all, take-at, take-length}
+use borrow.Author.Tests.{eqb-true}
+use Rattle.rules.proofs.Tests.{untrue}
+use Rattle.numbers.specs.Numbers.{done}
+use Rattle.savelog.specs.Log.{width, saveLimit, saveLengths, oneOf, outcome, recovery}
+use Rattle.recover_text.specs.Text.{Put}
+use Rattle.recover_text.specs.Rows.{rowBytes, Rows}
+use Rattle.recover_text.specs.Report.{report}
+use Rattle.recover_messages.specs.declared.journal.Scan.{Scan}
+use Rattle.recover_messages.specs.Journal.{scanned, Played, PlayedPart}
+use Rattle.recover_messages.proofs.Plays.{played-all}
+
+one-case : (P : ℕ → Type 0) (n k : ℕ) (ks : List ℕ) → P k → (oneOf n ks ≡ true → P n) → oneOf n (k ∷ ks) ≡ true → P n
+unfolding oneOf
+one-case P n k ks p more e = pick (eqb n k) refl e
+  where
+    pick : (b : Bool) → eqb n k ≡ b → (b || oneOf n ks) ≡ true → P n
+    pick true q h = subst P (sym (eqb-true n k q)) p
+    pick false q h = more h
+
+abbrev WholeRows : ℕ → Type 0
+WholeRows n = (n ≡ n / rowBytes * rowBytes) × (n ≤ saveLimit)
+
+pub save-rows : (n : ℕ) → oneOf n saveLengths ≡ true → WholeRows n
+unfolding saveLengths oneOf
+save-rows n e =
+    one-case WholeRows n 0 (512 ∷ 8192 ∷ saveLimit ∷ []) (refl, omega arith)
+    (one-case WholeRows n 512 (8192 ∷ saveLimit ∷ []) (refl, omega arith)
+    (one-case WholeRows n 8192 (saveLimit ∷ []) (refl, omega arith) (one-case WholeRows n saveLimit [] (refl, omega arith) (λ h. untrue h))))
+    e
+
+pub rows-of : (old new : List ℕ) → oneOf (length old) saveLengths ≡ true → length new ≡ length old → Rows old new 0
+rows-of old new e l =
+    let w = save-rows (length old) e in
+    record { same = sym l; short = omega (arith, w .1); whole = w .0; inside = omega arith }
+
+pub copied-is : (from to o : List ℕ) (r : ℕ) → r ≡ length from → o ≡ take (length from) from ++ drop (length from) to → take r o ≡ from
+copied-is from to o r e f = rw (f, take-length from, e) (take-at from (drop (length from) to) (length from) refl)
+
+take-some : (p : List ℕ) (m n : ℕ) → n ≡ min (length p) m → Dec (m < length p) → take n p ≡ take m p
+take-some p m n e (yes h) = let q : n ≡ m = omega arith in rw q
+take-some p m n e (no h) = rw (take-all n p (omega (arith, h)), take-all m p (omega (arith, h)))
+
+pub take-before : (p : List ℕ) (m n : ℕ) → n ≡ min (length p) m → take n p ≡ take m p
+take-before p m n e = take-some p m n e (decLt m (length p))
+
+-- a part that recovery took
+pub a-part : (kept : ℕ) (s r : Scan) (part save save′ : List ℕ) (n : ℕ) → s .len % width ≡ 0 → r ≡ scanned s part → n ≡ done
+    → outcome n save′ ≡ recovery save (take (kept - s .len) part) → PlayedPart kept s save save′ r
+a-part kept s r part save save′ n w e d p = record { part = part; whole = w; read = sym e; recovered = rw d at p }
+
+-- a journal that was as the first time, played as far as it is kept
+pub whole-journal : (k k′ : ℕ) (s first : Scan) (save save′ : List ℕ) → k ≡ k′ → s .len ≡ first .len → s .end ≡ first .end
+    → Played k s save save′ → Played k′ first save save′
+whole-journal k k′ s first save save′ q l e p = rw q at (played-all k s first save save′ l e p)
+
+-- a report by a copy of the save
+pub by-copy : {o o′ : List ℕ} {end : ℕ} (speak : Bool) (copy old new : List ℕ) → copy ≡ old → Put o 0 (report speak copy new) o′ end
+    → Put o 0 (report speak old new) o′ end
+by-copy {o} {o′} {end} speak copy old new e p = rw e at p

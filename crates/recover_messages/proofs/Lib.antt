@@ -1,0 +1,3 @@
+pub mod Scans
+pub mod Choice
+pub mod Plays

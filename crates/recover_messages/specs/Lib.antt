@@ -1,0 +1,3 @@
+pub mod Journal
+pub mod Words
+pub mod Messages
