@@ -3,10 +3,10 @@
 use mathlib.Core.Bool.{cond, _&&_}
 use mathlib.Core.List.{List, [], _∷_, _++_}
 use mathlib.Core.Path.{_≡_}
-use Prim.Native.Nat.{ℕ, _+_, _*_, _/_, _%_, _≤_}
+use Prim.Native.Nat.{ℕ, _+_, _*_, _≤_}
 use lib.Dec.{eqb, leb, ltb}
 use lib.ListN.{length, take, drop, getD}
-use Rattle.lines.specs.Text.{digitOf, hexDigit}
+use Rattle.lines.specs.Text.{digitOf, byteText, indexText}
 use Rattle.commands.specs.declared.command.Command.{Command}
 use Rattle.commands.specs.declared.command.Command.the-variants.{Read, Write, Update, Strange}
 use Rattle.commands.specs.declared.command.Number.{Number}
@@ -75,13 +75,6 @@ commandOf s =
     Strange
 
 -- What is printed, with its line feed
-
--- a byte in two digits, an index in four
-abbrev pub byteText : ℕ → List ℕ
-byteText v = hexDigit (v / 16) ∷ hexDigit (v % 16) ∷ []
-
-abbrev pub indexText : ℕ → List ℕ
-indexText i = byteText (i / 256) ++ byteText (i % 256)
 
 -- letter and index, and the byte
 abbrev pub readText : ℕ → ℕ → List ℕ

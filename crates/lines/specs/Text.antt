@@ -1,7 +1,7 @@
 -- The bytes of a line: oracle/README.md, "Lines".
 use mathlib.Core.Bool.{cond, _&&_}
-use mathlib.Core.List.{List}
-use Prim.Native.Nat.{ℕ, _+_, _-_, _*_, _≤_}
+use mathlib.Core.List.{List, [], _∷_, _++_}
+use Prim.Native.Nat.{ℕ, _+_, _-_, _*_, _/_, _%_, _≤_}
 use lib.Dec.{leb, ltb}
 use lib.ListN.{length}
 use Rattle.lines.specs.declared.line.Pair.{Pair}
@@ -17,6 +17,13 @@ digitOf c =
 -- the uppercase hexadecimal digit of a number below 16
 unfoldable pub hexDigit : ℕ → ℕ
 hexDigit n = cond (ltb n 10) (48 + n) (55 + n)
+
+-- a byte in two of them, an index or an address in four
+abbrev pub byteText : ℕ → List ℕ
+byteText v = hexDigit (v / 16) ∷ hexDigit (v % 16) ∷ []
+
+abbrev pub indexText : ℕ → List ℕ
+indexText i = byteText (i / 256) ++ byteText (i % 256)
 
 -- the byte of two digits' numbers, the more significant first
 unfoldable pub byteOf : ℕ → ℕ → Pair

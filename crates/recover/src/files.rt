@@ -48,6 +48,12 @@ pub fn at_end(fd: i32) -> bool {
     libc::read(fd, &mut one) == 0
 }
 
+// Whether it cannot be read on, for the system says so.
+pub fn fails(fd: i32) -> bool {
+    let mut one = [0u8; 1];
+    libc::read(fd, &mut one) < 0
+}
+
 // To the file's start.
 pub fn again(fd: i32) -> bool {
     libc::lseek(fd, 0, SEEK_SET) == 0

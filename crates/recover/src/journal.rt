@@ -96,7 +96,7 @@ fn play_next(fd: i32, log: usize, len: usize, save: &mut [u8], s: Scan, kept: us
     let got = files::part(fd, &mut part);
     let n = got.len;
     if !got.good {
-        say::failed(Why::Changed, log, len);
+        say::failed_read(fd, log, len);
         return s;
     }
     if n == 0 {

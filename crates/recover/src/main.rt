@@ -21,12 +21,24 @@ use recover_messages::journal::LIMIT;
 use recover_messages::journal::Scan;
 use recover_messages::message::Why;
 use source::Source;
+use told::Told;
 use words::Asked;
 
 // Both files that are read.
 struct Sources {
     save: Source,
     log: Source,
+}
+
+// The name was free, and is so no longer.
+fn taken(asked: Asked, new: Told, len: usize) -> bool {
+    if !new.good {
+        return say::failed(Why::Unwritten, asked.new, len);
+    }
+    if !new.regular {
+        return say::failed(Why::Irregular, asked.new, 0);
+    }
+    say::failed(Why::Exists, asked.new, new.len)
 }
 
 // Says how the writing of `len` bytes went; where it is done, by the last line.
@@ -42,8 +54,7 @@ fn conclude(asked: Asked, kept: Kept, path: &[u8], len: usize, scan: Scan)
             say::recovered(scan);
         }
         Kept::Taken => {
-            let new = told::of(path);
-            say::failed(Why::Exists, asked.new, new.len);
+            taken(asked, told::of(path), len);
         }
         Kept::Failed => {
             say::failed(Why::Unwritten, asked.new, len);
@@ -161,11 +172,11 @@ fn with_scan(asked: Asked, sources: Sources, save: &mut [u8], path: &[u8], free:
         return;
     }
     if scan.len != len {
-        say::failed(Why::Changed, asked.log, len);
+        say::failed_read(log, asked.log, len);
         return;
     }
     if !files::at_end(log) {
-        say::failed(Why::Changed, asked.log, len);
+        say::failed_read(log, asked.log, len);
         return;
     }
     if !files::again(log) {
@@ -229,7 +240,7 @@ fn with_save(asked: Asked) {
         with_bytes(asked, save, &mut bytes[..n]);
         return;
     }
-    say::failed(Why::Changed, asked.save, save.told.len);
+    say::failed_read(save.fd, asked.save, save.told.len);
 }
 
 fn main() {

@@ -3,6 +3,7 @@ ghost use Prim.Native.Nat.{_≤_};
 ghost use lib.ListN.{length};
 ghost use Rattle.io.specs.Counts.{Counts};
 ghost use Rattle.recover_messages.specs.Journal.{Bounded, journalLimit};
+use crate::files;
 use libc::STDERR_FILENO;
 use libc::STDOUT_FILENO;
 use recover_messages::journal::Scan;
@@ -73,6 +74,14 @@ pub fn failed(why: Why, i: usize, len: usize) -> bool {
 pub fn failed_call(why: Why, i: usize, len: usize) -> bool {
     os::fail(b"recover");
     failed(why, i, len)
+}
+
+// The same of an open file that was not as the system told: it could not be read, or it changed.
+pub fn failed_read(fd: i32, i: usize, len: usize) -> bool {
+    if files::fails(fd) {
+        return failed_call(Why::Unread, i, len);
+    }
+    failed(Why::Changed, i, len)
 }
 
 pub fn note(why: Why, i: usize, len: usize) -> bool {

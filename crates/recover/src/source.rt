@@ -50,14 +50,17 @@ pub fn stands(source: Source, i: usize) -> bool {
 
 // Whether SAVE has these bytes still. If not, it is told.
 pub fn holds(source: Source, i: usize, bytes: &[u8]) -> bool {
+    let fd = source.fd;
     let mut buf = [0u8; savelog::SAVE_LIMIT + 1];
-    if files::again(source.fd) {
-        let got = files::part(source.fd, &mut buf);
-        let n = got.len;
-        if check::same(&buf[..n], bytes) {
-            return true;
-        }
+    if !files::again(fd) {
+        say::failed_call(Why::Unread, i, bytes.len());
+        return false;
     }
-    say::failed(Why::Changed, i, bytes.len());
+    let got = files::part(fd, &mut buf);
+    let n = got.len;
+    if check::same(&buf[..n], bytes) {
+        return true;
+    }
+    say::failed_read(fd, i, bytes.len());
     false
 }

@@ -16,7 +16,8 @@ use Rattle.recover_messages.specs.Journal.{scan, unread, scanned, Played
 use Rattle.recover_messages.proofs.Scans.{parts, whole}
 
 -- recovery that is done found every record sound, and applied them
-by-tests : (a b : Bool) (save save′ after : List ℕ) → outcome done save′ ≡ cond a (cond b (outcome done after) (outcome damaged save)) (outcome wrongLength save)
+by-tests : (a b : Bool) (save save′ after : List ℕ)
+    → outcome done save′ ≡ cond a (cond b (outcome done after) (outcome damaged save)) (outcome wrongLength save)
     → (b ≡ true) × (save′ ≡ after)
 by-tests true true save save′ after e = (refl, ap (λ (o : Outcome). o .save) e)
 by-tests true false save save′ after e = absurd (let n : done ≡ damaged = ap (λ (o : Outcome). o .number) e in omega arith)

@@ -50,7 +50,8 @@ wrongLengthLine name len = words.refused4 ++ (name ++ sized words.has len (words
 -- `6: refused, game.log has 300 bytes; its record 12 is damaged or not of a save of 512 bytes, its bytes are 12 34 56; nothing is written`
 abbrev pub damagedLine : List ℕ → ℕ → ℕ → ℕ → List ℕ → List ℕ
 damagedLine name len number ram bytes =
-    words.refused6 ++ (name ++ (sized words.has len words.itsRecord ++ (decimal number ++ (sized words.isDamaged ram words.itsBytes ++ (hexes bytes ++ words.unwritten)))))
+    words.refused6
+    ++ (name ++ (sized words.has len words.itsRecord ++ (decimal number ++ (sized words.isDamaged ram words.itsBytes ++ (hexes bytes ++ words.unwritten)))))
 
 -- the bytes of record n
 abbrev pub recordAt : ℕ → List ℕ → List ℕ

@@ -5,7 +5,8 @@ use mathlib.Core.Path.{_≡_}
 use Prim.Native.Nat.{ℕ, _+_, _-_, _*_, _/_, _≤_, _<_}
 use lib.Dec.{eqb}
 use lib.ListN.{length, take, drop}
-use Rattle.recover_text.specs.Text.{Put, numbered, address, hexes, shownAll}
+use Rattle.lines.specs.Text.{indexText}
+use Rattle.recover_text.specs.Text.{Put, numbered, hexes, shownAll}
 use Rattle.recover_text.specs.declared.rows.Part.{Part}
 
 abbrev pub rowBytes : ℕ
@@ -20,7 +21,7 @@ rowCount s = length s / rowBytes
 
 -- `- 0010  4C 55 ..  LU..`: a sign, the address, the bytes in hex and as text
 abbrev pub head : ℕ → ℕ → List ℕ
-head sign at = sign ∷ 32 ∷ (address at ++ (32 ∷ []))
+head sign at = sign ∷ 32 ∷ (indexText at ++ (32 ∷ []))
 
 abbrev pub rowLine : ℕ → ℕ → List ℕ → List ℕ
 rowLine sign at bytes = head sign at ++ (hexes bytes ++ ((32 ∷ 32 ∷ []) ++ (shownAll bytes ++ (10 ∷ []))))
@@ -50,8 +51,8 @@ pub record Rows (old new : List ℕ) (from : ℕ) : Type 0 where
   pub whole : length old ≡ rowCount old * rowBytes
   pub inside : from ≤ rowCount old
 
--- What was put of the rows from `from` on, where `lines` is a row's text and `room` the most bytes that it has: the text of the rows up to `next`, in their order, and
--- nothing else; it stops at the last row, or where there is no room for one row more.
+-- What was put of the rows from `from` on, where `lines` is a row's text and `room` the most bytes that it has: the text of the rows up to `next`, in their order,
+-- and nothing else; it stops at the last row, or where there is no room for one row more.
 pub record Shows (lines : List ℕ → List ℕ → ℕ → List ℕ) (room : ℕ) (old new : List ℕ) (from : ℕ) (o o′ : List ℕ) (part : Part) : Type 0 where
   pub onward : from ≤ part .next
   pub within : part .next ≤ rowCount old

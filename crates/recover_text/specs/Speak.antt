@@ -5,7 +5,8 @@ use mathlib.Core.Path.{_≡_}
 use Prim.Native.Nat.{ℕ, _+_, _*_}
 use lib.Dec.{ltb, eqb}
 use lib.ListN.{length, getD}
-use Rattle.recover_text.specs.Text.{numbered, pair, address}
+use Rattle.lines.specs.Text.{byteText, indexText}
+use Rattle.recover_text.specs.Text.{numbered}
 use Rattle.recover_text.specs.Rows.{rowBytes, row, sameBytes}
 
 -- a character of a word: 33 to 126
@@ -40,7 +41,7 @@ orNothing (b ∷ bs) = b ∷ bs
 
 -- an address and a colon
 abbrev pub place : ℕ → List ℕ
-place at = address at ++ (58 ∷ 32 ∷ [])
+place at = indexText at ++ (58 ∷ 32 ∷ [])
 
 -- `0010: LUNA becomes STELLA`
 abbrev pub textLine : ℕ → List ℕ → List ℕ → List ℕ
@@ -48,7 +49,7 @@ textLine at old new = place at ++ (orNothing old ++ (becomes ++ (orNothing new +
 
 -- `001A: 07 becomes 09`
 abbrev pub byteLine : ℕ → ℕ → ℕ → List ℕ
-byteLine at old new = place at ++ (pair old ++ (becomes ++ (pair new ++ (10 ∷ []))))
+byteLine at old new = place at ++ (byteText old ++ (becomes ++ (byteText new ++ (10 ∷ []))))
 
 -- a byte that changed has a line of its own: every one, or only where neither value is a character of a word
 unfoldable pub tells : Bool → ℕ → ℕ → Bool

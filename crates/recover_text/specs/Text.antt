@@ -5,7 +5,7 @@ use mathlib.Core.Path.{_≡_}
 use Prim.Native.Nat.{ℕ, zero, suc, _+_, _/_, _%_, _≤_}
 use lib.Dec.{ltb, eqb}
 use lib.ListN.{length, take, drop}
-use Rattle.lines.specs.Text.{hexDigit}
+use Rattle.lines.specs.Text.{byteText}
 
 -- The buffer `o` with the text `t` put at `at`: the text ends at `end`, and every other byte is as it was.
 pub record Put (o : List ℕ) (at : ℕ) (t : List ℕ) (o′ : List ℕ) (end : ℕ) : Type 0 where
@@ -36,15 +36,9 @@ decimal n = decimalWithin 20 n
 unfoldable pub counted : ℕ → List ℕ → List ℕ
 counted n noun = decimal n ++ ((32 ∷ []) ++ (noun ++ cond (eqb n 1) [] (115 ∷ [])))
 
--- a byte in two hex digits, the same behind a space, an address in four digits
-abbrev pub pair : ℕ → List ℕ
-pair b = hexDigit (b / 16) ∷ hexDigit (b % 16) ∷ []
-
+-- a byte in two hex digits behind a space
 abbrev pub spaced : ℕ → List ℕ
-spaced b = 32 ∷ pair b
-
-abbrev pub address : ℕ → List ℕ
-address at = pair (at / 256) ++ pair (at % 256)
+spaced b = 32 ∷ byteText b
 
 abbrev pub hexes : List ℕ → List ℕ
 hexes s = texts spaced s

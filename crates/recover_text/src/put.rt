@@ -3,7 +3,8 @@ ghost use mathlib.Core.List.{[], _∷_};
 ghost use mathlib.Core.Path.{_≡_};
 ghost use Prim.Native.Nat.{_+_, _*_, _≤_, _<_};
 ghost use lib.ListN.{length};
-ghost use Rattle.recover_text.specs.Text.{Put, decimal, counted, pair, spaced, shown, address, hexes, shownAll};
+ghost use Rattle.lines.specs.Text.{byteText, indexText};
+ghost use Rattle.recover_text.specs.Text.{Put, decimal, counted, spaced, shown, hexes, shownAll};
 use lines::line::hex_digit;
 
 pub fn byte(out: &mut [u8], at: usize, b: u8) -> usize
@@ -48,7 +49,7 @@ pub fn counted(out: &mut [u8], at: usize, n: u64, noun: &[u8]) -> usize
 
 // A byte in two hex digits.
 pub fn pair(b: u8) -> [u8; 2]
-    ensures { λ r. ⌜ r ≡ pair b ⌝ }
+    ensures { λ r. ⌜ r ≡ byteText b ⌝ }
 {
     [hex_digit(b / 16), hex_digit(b % 16)]
 }
@@ -63,7 +64,7 @@ fn spaced(b: u8) -> [u8; 3]
 // An address in four hex digits.
 pub fn address(at: usize) -> [u8; 4]
     requires { ⌜ at < 65536 ⌝ }
-    ensures { λ r. ⌜ r ≡ address at ⌝ }
+    ensures { λ r. ⌜ r ≡ indexText at ⌝ }
 {
     [
         hex_digit((at / 256 / 16) as u8),

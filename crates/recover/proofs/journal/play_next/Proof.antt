@@ -20,14 +20,14 @@ slice-aggregate-part c = search needs
 part-requires : tie.Need-part-requires
 part-requires c κs = search needs
 
-failed-requires-2 : tie.Need-failed-requires-2
-failed-requires-2 c κs = search needs
+failed-read-requires : tie.Need-failed-read-requires
+failed-read-requires c κs = search needs
 
 returns-3 : tie.Need-returns-3
 returns-3 c = (c .before .before .before .before .before .before .before .before .before .pre, λ h. absurd (omega (arith, h)))
 
-failed-requires-3 : tie.Need-failed-requires-3
-failed-requires-3 c κs = search needs
+failed-requires-2 : tie.Need-failed-requires-2
+failed-requires-2 c κs = search needs
 
 returns-4 : tie.Need-returns-4
 returns-4 c = (c .before .before .before .before .before .before .before .before .before .before .pre, λ h. absurd (omega (arith, h)))
@@ -71,9 +71,9 @@ play-next-spec =
     returns-2
     slice-aggregate-part
     part-requires
-    failed-requires-2
+    failed-read-requires
     returns-3
-    failed-requires-3
+    failed-requires-2
     returns-4
     array-share-prefix-part
     slice-aggregate-play-kept
