@@ -7,8 +7,8 @@ use Prim.Native.Nat.{ℕ, _-_, _*_, _/_, _%_, _≤_, _<_, min}
 use native.Mathlib.Decide.{decLt}
 use native.Mathlib.Omega.{arith}
 use lib.Dec.{eqb}
-use lib.ListN.{length, take, drop}
-use lib.Seq.{take-all, take-at, take-length}
+use lib.ListN.{length, take, drop, length-append, length-drop}
+use lib.Seq.{length-take-le, take-all, take-at, take-length}
 use borrow.Author.Tests.{eqb-true}
 use Rattle.rules.proofs.Tests.{untrue}
 use Rattle.numbers.specs.Numbers.{done}
@@ -68,3 +68,13 @@ whole-journal k k′ s first save save′ q l e p = rw q at (played-all k s firs
 pub by-copy : {o o′ : List ℕ} {end : ℕ} (speak : Bool) (copy old new : List ℕ) → copy ≡ old → Put o 0 (report speak copy new) o′ end
     → Put o 0 (report speak old new) o′ end
 by-copy {o} {o′} {end} speak copy old new e p = rw e at p
+
+-- a buffer whose rest was lent keeps its length
+pub after-part : (o l : List ℕ) (n : ℕ) → n ≤ length o → length l ≡ length (take (length o - n) (drop n o))
+    → (length (take n o ++ (l ++ drop (length o - n) (drop n o))) ≡ length o) × (length l ≡ length o - n)
+after-part o l n h e =
+    let d = length-drop n o in
+    let p : length (take (length o - n) (drop n o)) ≡ length o - n = length-take-le (length o - n) (drop n o) (omega arith) in
+    let q : length (take n o) ≡ n = length-take-le n o h in
+    let r = length-drop (length o - n) (drop n o) in
+    (rw (length-append (take n o) (l ++ drop (length o - n) (drop n o)), length-append l (drop (length o - n) (drop n o)), q) (omega arith), omega arith)

@@ -7,7 +7,7 @@ ghost use Rattle.libc.specs.Io.{Ended};
 use libc::PATH_MAX;
 use libc::SEEK_SET;
 
-// How many bytes; `good`: they could be read, or counted.
+// How many bytes were read; `good`: the system did not refuse.
 pub struct Got {
     pub good: bool,
     pub len: usize,
@@ -42,33 +42,43 @@ fn number(fd: i32) -> u64 {
     fd as u64
 }
 
-// Whether nothing is left to read.
-pub fn at_end(fd: i32) -> bool {
-    let mut one = [0u8; 1];
-    libc::read(fd, &mut one) == 0
-}
-
-// Whether it cannot be read on, for the system says so.
-pub fn fails(fd: i32) -> bool {
-    let mut one = [0u8; 1];
-    libc::read(fd, &mut one) < 0
-}
-
 // To the file's start.
 pub fn again(fd: i32) -> bool {
     libc::lseek(fd, 0, SEEK_SET) == 0
 }
 
-// Reads on until `buf` is full or the file ends. It is no good where a read failed, or where the file went on after its end.
+// One read: no bytes at the file's end.
+pub fn some(fd: i32, buf: &mut [u8]) -> Got
+    ensures { λ r. ⌜ Counts (r .len) (now (buf .exit)) ⌝ }
+{
+    let got = libc::read(fd, buf);
+    let n = io::count(got, buf);
+    Got {
+        good: got >= 0,
+        len: n,
+    }
+}
+
+// Reads on until `buf` is full or the file ends.
 pub fn part(fd: i32, buf: &mut [u8]) -> Got
     ensures { λ r. ⌜ Counts (r .len) (now (buf .exit)) ⌝ }
 {
-    let n = io::read_full(fd, buf);
-    if n == buf.len() {
-        return Got { good: true, len: n };
+    let mut n = 0;
+    while n < buf.len() {
+        let got = some(fd, &mut buf[n..]);
+        if !got.good {
+            return Got {
+                good: false,
+                len: n,
+            };
+        }
+        let k = got.len;
+        if k == 0 {
+            return Got { good: true, len: n };
+        }
+        n += k;
     }
-    let good = at_end(fd);
-    Got { good: good, len: n }
+    Got { good: true, len: n }
 }
 
 // Puts `text` into `out` from `at` on, as much of it as fits, and gives the place behind it. Where `out` is full then, it may not have been all.

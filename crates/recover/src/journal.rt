@@ -13,30 +13,36 @@ use recover_messages::message::Why;
 use savelog::LOG_LIMIT;
 use savelog::RECORD_LEN;
 
-// The next part scanned; the scan as it was, where there is none.
-fn scan_part(fd: i32, s: Scan) -> Scan
+// The next part of a log of `len` bytes scanned; the scan as it was, where it is told why not.
+fn scan_part(fd: i32, log: usize, len: usize, s: Scan) -> Scan
     requires { ⌜ Bounded s ⌝ }
     ensures { λ r. ⌜ Bounded r ⌝ }
 {
     if s.len > journal::LIMIT {
+        say::failed(Why::Unread, log, len);
         return s;
     }
     let mut part = [0u8; LOG_LIMIT];
     let got = files::part(fd, &mut part);
+    let n = got.len;
     if !got.good {
+        say::failed_call(Why::Unread, log, len);
         return s;
     }
-    let n = got.len;
+    if n == 0 {
+        say::failed(Why::Changed, log, len);
+        return s;
+    }
     journal::scanned(s, &part[..n])
 }
 
-// The first time: all of a log of `len` bytes, or less of it where it could not be read.
-pub fn scan(fd: i32, len: usize) -> Scan
+// The first time: all of a log of `len` bytes, or less of it where it is told why not.
+pub fn scan(fd: i32, log: usize, len: usize) -> Scan
     ensures { λ r. ⌜ Bounded r ⌝ }
 {
     let mut s = journal::unread();
     while s.len < len {
-        let next = scan_part(fd, s);
+        let next = scan_part(fd, log, len, s);
         if next.len <= s.len {
             return s;
         }
@@ -96,7 +102,7 @@ fn play_next(fd: i32, log: usize, len: usize, save: &mut [u8], s: Scan, kept: us
     let got = files::part(fd, &mut part);
     let n = got.len;
     if !got.good {
-        say::failed_read(fd, log, len);
+        say::failed_call(Why::Unread, log, len);
         return s;
     }
     if n == 0 {
@@ -124,13 +130,13 @@ pub fn play_all(fd: i32, log: usize, save: &mut [u8], first: Scan) -> bool
         }
         s = next;
     }
-    if s.len == len {
-        if s.end == first.end {
-            if files::at_end(fd) {
-                return true;
-            }
-        }
+    if s.len != len {
+        say::failed(Why::Changed, log, len);
+        return false;
     }
-    say::failed(Why::Changed, log, len);
-    false
+    if s.end != first.end {
+        say::failed(Why::Changed, log, len);
+        return false;
+    }
+    say::ends(fd, log, len)
 }

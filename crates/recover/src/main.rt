@@ -166,17 +166,19 @@ fn with_scan(asked: Asked, sources: Sources, save: &mut [u8], path: &[u8], free:
 {
     let log = sources.log.fd;
     let len = sources.log.told.len;
-    let scan = journal::scan(log, len);
+    let scan = journal::scan(log, asked.log, len);
+    if scan.len < len {
+        return;
+    }
+    if scan.len > len {
+        say::failed(Why::Changed, asked.log, len);
+        return;
+    }
     if scan.len > LIMIT {
         say::failed(Why::Unread, asked.log, len);
         return;
     }
-    if scan.len != len {
-        say::failed_read(log, asked.log, len);
-        return;
-    }
-    if !files::at_end(log) {
-        say::failed_read(log, asked.log, len);
+    if !say::ends(log, asked.log, len) {
         return;
     }
     if !files::again(log) {
@@ -240,7 +242,7 @@ fn with_save(asked: Asked) {
         with_bytes(asked, save, &mut bytes[..n]);
         return;
     }
-    say::failed_read(save.fd, asked.save, save.told.len);
+    say::failed_call(Why::Unread, asked.save, save.told.len);
 }
 
 fn main() {

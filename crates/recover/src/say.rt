@@ -76,12 +76,19 @@ pub fn failed_call(why: Why, i: usize, len: usize) -> bool {
     failed(why, i, len)
 }
 
-// The same of an open file that was not as the system told: it could not be read, or it changed.
-pub fn failed_read(fd: i32, i: usize, len: usize) -> bool {
-    if files::fails(fd) {
-        return failed_call(Why::Unread, i, len);
+// Whether the open file ends here. If not, it is told.
+pub fn ends(fd: i32, i: usize, len: usize) -> bool {
+    let mut one = [0u8; 1];
+    let got = files::some(fd, &mut one);
+    if !got.good {
+        failed_call(Why::Unread, i, len);
+        return false;
     }
-    failed(Why::Changed, i, len)
+    if got.len != 0 {
+        failed(Why::Changed, i, len);
+        return false;
+    }
+    true
 }
 
 pub fn note(why: Why, i: usize, len: usize) -> bool {

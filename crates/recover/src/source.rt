@@ -58,9 +58,13 @@ pub fn holds(source: Source, i: usize, bytes: &[u8]) -> bool {
     }
     let got = files::part(fd, &mut buf);
     let n = got.len;
+    if !got.good {
+        say::failed_call(Why::Unread, i, bytes.len());
+        return false;
+    }
     if check::same(&buf[..n], bytes) {
         return true;
     }
-    say::failed_read(fd, i, bytes.len());
+    say::failed(Why::Changed, i, bytes.len());
     false
 }

@@ -41,23 +41,32 @@ loop-less c = search needs
 loop-again : tie.Need-loop-again Inv-loop μ-loop
 loop-again c = (c .before .before .before .before .before .play-next .ensures .0, omega (arith, c .before .before .before .before .before .before .before .before .before .loop .inv .1), played-more _ _ _ _ _ _ (c .before .before .before .before .before .before .before .before .before .loop .inv .2) (c .before .before .before .before .before .play-next .ensures .1 (c .if2 .left)))
 
-at-end-requires : tie.Need-at-end-requires Inv-loop μ-loop
-at-end-requires c κs = search needs
+failed-requires : tie.Need-failed-requires Inv-loop μ-loop
+failed-requires c κs = search needs
 
 same-length-2 : tie.Need-same-length-2 Inv-loop μ-loop
 same-length-2 c = search needs
 
 returns-2 : tie.Need-returns-2 Inv-loop μ-loop
-returns-2 c = λ h. whole-journal _ _ _ _ _ _ (c .before .before .before .before .before .before .before .before .before .before .before .journal-len .ensures .0) (c .before .before .before .before .before .if3 .taken) (c .before .before .if4 .taken) (c .before .before .before .before .before .before .before .before .before .loop .inv .2)
+returns-2 c = λ h. untrue h
 
-failed-requires : tie.Need-failed-requires Inv-loop μ-loop
-failed-requires c κs = search needs
+failed-requires-2 : tie.Need-failed-requires-2 Inv-loop μ-loop
+failed-requires-2 c κs = search needs
 
 same-length-3 : tie.Need-same-length-3 Inv-loop μ-loop
 same-length-3 c = search needs
 
 returns-3 : tie.Need-returns-3 Inv-loop μ-loop
 returns-3 c = λ h. untrue h
+
+ends-requires : tie.Need-ends-requires Inv-loop μ-loop
+ends-requires c κs = search needs
+
+same-length-4 : tie.Need-same-length-4 Inv-loop μ-loop
+same-length-4 c = search needs
+
+returns-4 : tie.Need-returns-4 Inv-loop μ-loop
+returns-4 c = λ h. whole-journal _ _ _ _ _ _ (c .before .before .before .before .before .before .before .before .before .before .journal-len .ensures .0) (c .before .before .before .before .if3 .left) (c .before .if4 .left) (c .before .before .before .before .before .before .before .before .loop .inv .2)
 
 pub play-all-spec : {M : Type 1} → statement M
 play-all-spec =
@@ -73,9 +82,12 @@ play-all-spec =
     returns
     loop-less
     loop-again
-    at-end-requires
+    failed-requires
     same-length-2
     returns-2
-    failed-requires
+    failed-requires-2
     same-length-3
-    returns-3)
+    returns-3
+    ends-requires
+    same-length-4
+    returns-4)

@@ -20,8 +20,8 @@ slice-aggregate-part c = search needs
 part-requires : tie.Need-part-requires
 part-requires c κs = search needs
 
-failed-read-requires : tie.Need-failed-read-requires
-failed-read-requires c κs = search needs
+failed-call-requires : tie.Need-failed-call-requires
+failed-call-requires c κs = search needs
 
 returns-3 : tie.Need-returns-3
 returns-3 c = (c .before .before .before .before .before .before .before .before .before .pre, λ h. absurd (omega (arith, h)))
@@ -71,7 +71,7 @@ play-next-spec =
     returns-2
     slice-aggregate-part
     part-requires
-    failed-read-requires
+    failed-call-requires
     returns-3
     failed-requires-2
     returns-4
