@@ -1,4 +1,4 @@
--- The laws of the rows: parts one after the other are the whole; every change is heard, and nothing else is.
+-- The laws of the rows: parts one after the other are the whole; a row that changed is heard, and no other.
 use mathlib.Core.Bool.{Bool, true, false, cond}
 use mathlib.Core.Path.{_≡_, refl, sym, ap, _∙_}
 use mathlib.Core.List.{List, [], _∷_, _++_, append-assoc, append-nil}

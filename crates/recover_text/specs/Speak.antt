@@ -61,7 +61,7 @@ byteHeard every at old new = cond (tells every old new) (byteLine at old new) []
 abbrev pub byteLines : Bool → ℕ → List ℕ → List ℕ → List ℕ
 byteLines every at old new = numbered (λ i. byteHeard every (at + i) (getD old i 0) (getD new i 0)) 0 rowBytes
 
--- Where a row's text changed, a line says so, and its other bytes have lines; where it did not, every byte that changed has one. So no change goes unheard.
+-- Where a row's text changed, a line says so, and its other bytes have lines; where it did not, every byte that changed has one. So a row that changed is heard.
 unfoldable pub heard : ℕ → List ℕ → List ℕ → List ℕ
 heard at old new =
     cond (sameBytes (said old) (said new))
@@ -75,7 +75,7 @@ rowHeard old new k = heard (k * rowBytes) (row k old) (row k new)
 abbrev pub heardRoom : ℕ
 heardRoom = 400
 
--- every change of a row is heard, and nothing else is
+-- a row that changed is heard, and no other; which of two changes it was the words need not tell
 abbrev pub HeardLaw : Type 0
 HeardLaw =
     (at : ℕ) (old new : List ℕ)

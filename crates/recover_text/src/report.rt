@@ -1,4 +1,4 @@
-// All that is shown of what changed: the rows in hex, unless only what is heard is asked for, and then the same to be heard.
+// All that is shown of what changed: the rows in hex, unless only what is heard is asked for, and then what is heard of the same rows.
 ghost use Prim.Native.Nat.{_+_, _*_, _≤_};
 ghost use lib.ListN.{length};
 ghost use Rattle.recover_text.specs.Text.{Put};
