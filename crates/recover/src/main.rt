@@ -17,6 +17,7 @@ ghost use lib.ListN.{length};
 ghost use Rattle.savelog.specs.Log.{saveLimit, saveLengths, oneOf};
 ghost use Rattle.recover_messages.specs.Journal.{Bounded, journalLimit};
 use keep::Kept;
+use place::Place;
 use recover_messages::journal::LIMIT;
 use recover_messages::journal::Scan;
 use recover_messages::message::Why;
@@ -47,11 +48,11 @@ fn conclude(asked: Asked, kept: Kept, path: &[u8], len: usize, scan: Scan)
 {
     match kept {
         Kept::Done => {
-            say::recovered(scan);
+            say::written(scan, asked.new, len);
         }
         Kept::Unflushed => {
             say::note(Why::Unflushed, asked.new, len);
-            say::recovered(scan);
+            say::written(scan, asked.new, len);
         }
         Kept::Taken => {
             taken(asked, told::of(path), len);
@@ -62,8 +63,8 @@ fn conclude(asked: Asked, kept: Kept, path: &[u8], len: usize, scan: Scan)
     }
 }
 
-// Whether SAVE and LOG are what was read. If not, it is told.
-fn unchanged(asked: Asked, sources: Sources, old: &[u8]) -> bool {
+// Whether SAVE and LOG are what was read, and NEW what was looked at. If not, it is told.
+fn unchanged(asked: Asked, sources: Sources, old: &[u8], path: &[u8], place: Place) -> bool {
     let save = sources.save;
     let log = sources.log;
     if !source::stands(save, asked.save) {
@@ -72,7 +73,10 @@ fn unchanged(asked: Asked, sources: Sources, old: &[u8]) -> bool {
     if !source::holds(save, asked.save, old) {
         return false;
     }
-    source::stands(log, asked.log)
+    if !source::stands(log, asked.log) {
+        return false;
+    }
+    place::stands(place, asked.new, path)
 }
 
 // The recovered save is beside NEW: it takes the name, unless what was read is no longer so.
@@ -82,18 +86,18 @@ fn settle(
     old: &[u8],
     beside: &[u8],
     path: &[u8],
-    free: bool,
+    place: Place,
     scan: Scan,
 )
     requires { ⌜ Bounded scan × (scan .len ≤ journalLimit) ⌝ }
 {
-    if !unchanged(asked, sources, old) {
+    if !unchanged(asked, sources, old, path, place) {
         os::unlink(beside);
         return;
     }
     conclude(
         asked,
-        keep::settle(beside, path, free),
+        keep::settle(beside, path, place.free),
         path,
         old.len(),
         scan,
@@ -106,14 +110,14 @@ fn finish(
     sources: Sources,
     old: &[u8],
     path: &[u8],
-    free: bool,
+    place: Place,
     save: &[u8],
     scan: Scan,
 )
     requires { ⌜ Bounded scan × (scan .len ≤ journalLimit) ⌝ }
 {
     if path.len() == 0 {
-        say::recovered(scan);
+        say::shown(scan);
         return;
     }
     let mut name = io::buffer();
@@ -122,7 +126,7 @@ fn finish(
         say::failed(Why::Unwritten, asked.new, save.len());
         return;
     }
-    settle(asked, sources, old, &name[..n], path, free, scan);
+    settle(asked, sources, old, &name[..n], path, place, scan);
 }
 
 // Plays the log over the save and prints what came of it, then goes on to NEW.
@@ -133,7 +137,7 @@ fn recover(
     old: &mut [u8],
     scan: Scan,
     path: &[u8],
-    free: bool,
+    place: Place,
 )
     requires { ⌜ (oneOf (length (now save)) saveLengths ≡ true) × (Bounded scan × (scan .len ≤ journalLimit)) × (saveLimit ≤ length (now old)) ⌝ }
 {
@@ -157,11 +161,11 @@ fn recover(
         return;
     }
     let n = save.len();
-    finish(asked, sources, &old[..n], path, free, save, scan);
+    finish(asked, sources, &old[..n], path, place, save, scan);
 }
 
 // Scans the log, all of it or none.
-fn with_scan(asked: Asked, sources: Sources, save: &mut [u8], path: &[u8], free: bool)
+fn with_scan(asked: Asked, sources: Sources, save: &mut [u8], path: &[u8], place: Place)
     requires { ⌜ oneOf (length (now save)) saveLengths ≡ true ⌝ }
 {
     let log = sources.log.fd;
@@ -186,7 +190,7 @@ fn with_scan(asked: Asked, sources: Sources, save: &mut [u8], path: &[u8], free:
         return;
     }
     let mut old = [0u8; savelog::SAVE_LIMIT];
-    recover(asked, sources, save, &mut old, scan, path, free);
+    recover(asked, sources, save, &mut old, scan, path, place);
 }
 
 // Opens the log, and looks at NEW before anything is done.
@@ -211,28 +215,31 @@ fn with_log(asked: Asked, save: Source, bytes: &mut [u8])
         },
         bytes,
         &path[..n],
-        place.free,
+        place,
     );
 }
 
-// Takes the bytes of SAVE for the save, if they are all of it and a save.
+// Takes the bytes of SAVE for the save, if they are as many as the system told. That a save has so many was asked before; here it is known.
 fn with_bytes(asked: Asked, save: Source, bytes: &mut [u8]) {
     let len = save.told.len;
-    if !place::is_save(bytes) {
-        say::wrong_length(asked.save, len);
+    if bytes.len() != len {
+        say::failed(Why::Changed, asked.save, len);
         return;
     }
-    if bytes.len() != len {
+    if !place::is_save(bytes) {
         say::failed(Why::Changed, asked.save, len);
         return;
     }
     with_log(asked, save, bytes);
 }
 
-// Reads the save, with room for one byte more than a save may have.
+// Reads the save, if its length is one, with room for one byte more than a save may have.
 fn with_save(asked: Asked) {
     let save = source::open(asked.save);
     if save.fd < 0 {
+        return;
+    }
+    if !place::holds_save(save.told, asked.save) {
         return;
     }
     let mut bytes = [0u8; savelog::SAVE_LIMIT + 1];

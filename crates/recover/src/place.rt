@@ -11,11 +11,12 @@ use crate::told::Told;
 use crate::words::Asked;
 use recover_messages::message::Why;
 
-// The name's length; 0 where nothing is to be written. `good`: not refused. `free`: nothing stands under the name.
+// The name's length; 0 where nothing is to be written. `good`: not refused. `free`: nothing stands under the name; else `told` is of what does.
 pub struct Place {
     pub good: bool,
     pub free: bool,
     pub len: usize,
+    pub told: Told,
 }
 
 // Whether recovery takes a save of these bytes: it is asked with no log, which leaves them as they are.
@@ -34,8 +35,8 @@ fn is_length(room: &mut [u8], n: usize) -> bool {
     is_save(&mut room[..n])
 }
 
-// Whether NEW has a save's length. If not, it is told.
-fn holds_save(told: Told, i: usize) -> bool {
+// Whether the file that argument i names has a save's length. If not, it is told.
+pub fn holds_save(told: Told, i: usize) -> bool {
     let mut room = [0u8; savelog::SAVE_LIMIT];
     let n = told.len;
     if is_length(&mut room, n) {
@@ -89,12 +90,11 @@ fn real_name(new: Told, path: &mut [u8], n: usize) -> usize
     0
 }
 
-// Something stands under the name: the name to replace, or 0 bytes where it is told why not.
-fn over(asked: Asked, save: Told, log: Told, path: &mut [u8], n: usize) -> usize
+// `new` stands under the name: the name to replace, or 0 bytes where it is told why not.
+fn over(asked: Asked, new: Told, save: Told, log: Told, path: &mut [u8], n: usize) -> usize
     requires { ⌜ Counts n (now path) ⌝ }
     ensures { λ r. ⌜ Counts r (now (path .exit)) ⌝ }
 {
-    let new = told::of(&path[..n]);
     if !new.good {
         say::failed_call(Why::Unwritten, asked.new, save.len);
         return 0;
@@ -118,6 +118,7 @@ pub fn choose(asked: Asked, save: Told, log: Told, path: &mut [u8]) -> Place
             good: true,
             free: false,
             len: 0,
+            told: told::untold(),
         };
     }
     let n = os::arg(asked.new, path);
@@ -127,6 +128,7 @@ pub fn choose(asked: Asked, save: Told, log: Told, path: &mut [u8]) -> Place
             good: false,
             free: false,
             len: 0,
+            told: told::untold(),
         };
     }
     match files::look(&path[..n]) {
@@ -134,13 +136,16 @@ pub fn choose(asked: Asked, save: Told, log: Told, path: &mut [u8]) -> Place
             good: true,
             free: true,
             len: n,
+            told: told::untold(),
         },
         There::Something => {
-            let len = over(asked, save, log, path, n);
+            let new = told::of(&path[..n]);
+            let len = over(asked, new, save, log, path, n);
             Place {
                 good: len != 0,
                 free: false,
                 len: len,
+                told: new,
             }
         }
         There::Unknown => {
@@ -149,7 +154,21 @@ pub fn choose(asked: Asked, save: Told, log: Told, path: &mut [u8]) -> Place
                 good: false,
                 free: false,
                 len: 0,
+                told: told::untold(),
             }
         }
     }
+}
+
+// Whether what is to be replaced is what was looked at, so not the log either. If not, it is told. What is free is looked at as it is renamed.
+pub fn stands(place: Place, i: usize, path: &[u8]) -> bool {
+    if place.free {
+        return true;
+    }
+    let new = place.told;
+    if told::unchanged(new, told::of(path)) {
+        return true;
+    }
+    say::failed(Why::Changed, i, new.len);
+    false
 }

@@ -1,4 +1,4 @@
-// What is printed: the lines of crate recover_messages, each written whole. Every function tells whether it could be written.
+// What is printed: the lines of crate recover_messages, each written whole. But for `usage`, every function tells whether it could be written.
 ghost use Prim.Native.Nat.{_≤_};
 ghost use lib.ListN.{length};
 ghost use Rattle.io.specs.Counts.{Counts};
@@ -26,8 +26,11 @@ pub fn print(line: &[u8], n: usize) -> bool {
 }
 
 // A byte of a name as it is shown: a question mark stands for a control character, so that a name is on one line, whatever it is.
-fn shown(b: u8) -> u8 {
+fn plain_byte(b: u8) -> u8 {
     if b < 32 {
+        return b'?';
+    }
+    if b == 127 {
         return b'?';
     }
     b
@@ -39,7 +42,7 @@ fn plain(name: &mut [u8], n: usize) -> usize
 {
     let mut i = 0;
     while i < n {
-        name[i] = shown(name[i]);
+        name[i] = plain_byte(name[i]);
         i += 1;
     }
     n
@@ -129,10 +132,22 @@ pub fn damage(i: usize, len: usize, s: Scan, part: &[u8], ram: usize) -> bool
     print(&line, m)
 }
 
-pub fn recovered(s: Scan) -> bool
+// The last line, where NEW is written with so many bytes.
+pub fn written(s: Scan, i: usize, len: usize) -> bool
+    requires { ⌜ Bounded s × (s .len ≤ journalLimit) ⌝ }
+{
+    let mut name = io::buffer();
+    let n = name_at(i, &mut name);
+    let mut line = [0u8; LINE];
+    let m = message::written(&mut line, s, &name[..n], len as u64);
+    print(&line, m)
+}
+
+// The last line, where no NEW is named.
+pub fn shown(s: Scan) -> bool
     requires { ⌜ Bounded s × (s .len ≤ journalLimit) ⌝ }
 {
     let mut line = [0u8; LINE];
-    let m = message::recovered(&mut line, s);
+    let m = message::shown(&mut line, s);
     print(&line, m)
 }

@@ -36,7 +36,7 @@ pub fn open(i: usize) -> Source {
     Source { fd: fd, told: told }
 }
 
-// Whether the name leads to that file still, and to as many bytes. If not, it is told.
+// Whether the name leads to that file still, as it was. If not, it is told.
 pub fn stands(source: Source, i: usize) -> bool {
     let mut path = io::buffer();
     let n = os::arg(i, &mut path);

@@ -1,4 +1,4 @@
-// What the system tells of the file that a path leads to: whether it is a regular one, its length, and which file it is, whatever its names are.
+// What the system tells of the file that a path leads to: whether it is a regular one, its length, when it was written, and which file it is, whatever its names.
 ghost use Rattle.libc.specs.Io.{Ended};
 use crate::files;
 use libc::PATH_MAX;
@@ -22,11 +22,13 @@ fn ask(path: &[u8; PATH_MAX], mut s: stat) -> Answer
     }
 }
 
-// `good`: the system told it. A file is known by its device and its number there.
+// `good`: the system told it. A file is known by its device and its number there; it was last written at `seconds` and `nanoseconds`.
 pub struct Told {
     pub good: bool,
     pub regular: bool,
     pub len: usize,
+    pub seconds: i64,
+    pub nanoseconds: i64,
     pub device: u64,
     pub inode: u64,
 }
@@ -56,11 +58,13 @@ fn blank() -> stat {
     }
 }
 
-fn untold() -> Told {
+pub fn untold() -> Told {
     Told {
         good: false,
         regular: false,
         len: 0,
+        seconds: 0,
+        nanoseconds: 0,
         device: 0,
         inode: 0,
     }
@@ -71,11 +75,14 @@ fn read(a: Answer) -> Told {
         return untold();
     }
     let s = a.stat;
+    let written = s.st_mtim;
     let len = files::count(s.st_size);
     Told {
         good: true,
         regular: s.st_mode & libc::S_IFMT == libc::S_IFREG,
         len: len,
+        seconds: written.tv_sec,
+        nanoseconds: written.tv_nsec,
         device: s.st_dev,
         inode: s.st_ino,
     }
@@ -104,7 +111,14 @@ pub fn same(a: Told, b: Told) -> bool {
     a.inode == b.inode
 }
 
-// Whether it is the same file, and as long as it was.
+fn unwritten(a: Told, b: Told) -> bool {
+    if a.seconds != b.seconds {
+        return false;
+    }
+    a.nanoseconds == b.nanoseconds
+}
+
+// Whether it is the same file, as long as it was, and not written since.
 pub fn unchanged(a: Told, b: Told) -> bool {
     if !same(a, b) {
         return false;
@@ -112,5 +126,8 @@ pub fn unchanged(a: Told, b: Told) -> bool {
     if !b.regular {
         return false;
     }
-    a.len == b.len
+    if a.len != b.len {
+        return false;
+    }
+    unwritten(a, b)
 }

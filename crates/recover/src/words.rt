@@ -1,4 +1,5 @@
 // What the command line asks for: which argument names which file, and the words among them.
+use libc::PATH_MAX;
 
 // A file is the number of the argument that names it; 0 where none does. `good`: nothing is wrong so far.
 pub struct Asked {
@@ -45,6 +46,9 @@ fn word_at(i: usize) -> Word {
     let mut text = io::buffer();
     let n = os::arg(i, &mut text);
     if os::errno() != 0 {
+        return Word::Wrong;
+    }
+    if n >= PATH_MAX {
         return Word::Wrong;
     }
     word_of(&text[..n])

@@ -21,8 +21,16 @@ abbrev pub sized : List ℕ → ℕ → List ℕ → List ℕ
 sized before n behind = before ++ (counted n words.byteNoun ++ behind)
 
 -- `0: recovered, 10 records`: the whole records of what is kept of a journal
-abbrev pub recoveredLine : Scan → List ℕ
-recoveredLine s = words.recovered ++ (counted (keptOf s / width) words.recordNoun ++ words.lineEnd)
+abbrev pub recoveredText : Scan → List ℕ
+recoveredText s = words.recovered ++ counted (keptOf s / width) words.recordNoun
+
+-- `0: recovered, 10 records; game.new is written and has 512 bytes`
+abbrev pub writtenLine : Scan → List ℕ → ℕ → List ℕ
+writtenLine s name len = recoveredText s ++ (words.semicolon ++ (name ++ sized words.isWritten len words.lineEnd))
+
+-- `0: recovered, 10 records; no NEW is named, nothing is written`
+abbrev pub shownLine : Scan → List ℕ
+shownLine s = recoveredText s ++ words.noNew
 
 -- `game.log: its last record is torn; left out: 2 bytes of 32`
 -- `game.log: it ends in zeros, as a power cut leaves them; left out: 512 bytes of 1024`

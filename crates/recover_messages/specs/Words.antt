@@ -7,6 +7,14 @@ use Rattle.numbers.specs.Numbers.{done, wrongLength, damaged}
 abbrev pub recovered : List ℕ
 recovered = (48 + done) ∷ 58 ∷ 32 ∷ 114 ∷ 101 ∷ 99 ∷ 111 ∷ 118 ∷ 101 ∷ 114 ∷ 101 ∷ 100 ∷ 44 ∷ 32 ∷ []
 
+-- "; "
+abbrev pub semicolon : List ℕ
+semicolon = 59 ∷ 32 ∷ []
+
+-- "; no NEW is named, nothing is written\n"
+abbrev pub noNew : List ℕ
+noNew = 59 ∷ 32 ∷ 110 ∷ 111 ∷ 32 ∷ 78 ∷ 69 ∷ 87 ∷ 32 ∷ 105 ∷ 115 ∷ 32 ∷ 110 ∷ 97 ∷ 109 ∷ 101 ∷ 100 ∷ 44 ∷ 32 ∷ 110 ∷ 111 ∷ 116 ∷ 104 ∷ 105 ∷ 110 ∷ 103 ∷ 32 ∷ 105 ∷ 115 ∷ 32 ∷ 119 ∷ 114 ∷ 105 ∷ 116 ∷ 116 ∷ 101 ∷ 110 ∷ 10 ∷ []
+
 -- "record"
 abbrev pub recordNoun : List ℕ
 recordNoun = 114 ∷ 101 ∷ 99 ∷ 111 ∷ 114 ∷ 100 ∷ []
@@ -115,9 +123,9 @@ isLog = 32 ∷ 105 ∷ 115 ∷ 32 ∷ 116 ∷ 104 ∷ 101 ∷ 32 ∷ 108 ∷ 111
 abbrev pub noReplace : List ℕ
 noReplace = 59 ∷ 32 ∷ 110 ∷ 111 ∷ 116 ∷ 104 ∷ 105 ∷ 110 ∷ 103 ∷ 32 ∷ 114 ∷ 101 ∷ 112 ∷ 108 ∷ 97 ∷ 99 ∷ 101 ∷ 115 ∷ 32 ∷ 105 ∷ 116 ∷ 10 ∷ []
 
--- " changed while it was read: it had "
+-- " changed meanwhile: it had "
 abbrev pub changed : List ℕ
-changed = 32 ∷ 99 ∷ 104 ∷ 97 ∷ 110 ∷ 103 ∷ 101 ∷ 100 ∷ 32 ∷ 119 ∷ 104 ∷ 105 ∷ 108 ∷ 101 ∷ 32 ∷ 105 ∷ 116 ∷ 32 ∷ 119 ∷ 97 ∷ 115 ∷ 32 ∷ 114 ∷ 101 ∷ 97 ∷ 100 ∷ 58 ∷ 32 ∷ 105 ∷ 116 ∷ 32 ∷ 104 ∷ 97 ∷ 100 ∷ 32 ∷ []
+changed = 32 ∷ 99 ∷ 104 ∷ 97 ∷ 110 ∷ 103 ∷ 101 ∷ 100 ∷ 32 ∷ 109 ∷ 101 ∷ 97 ∷ 110 ∷ 119 ∷ 104 ∷ 105 ∷ 108 ∷ 101 ∷ 58 ∷ 32 ∷ 105 ∷ 116 ∷ 32 ∷ 104 ∷ 97 ∷ 100 ∷ 32 ∷ []
 
 -- " is written and has "
 abbrev pub isWritten : List ℕ

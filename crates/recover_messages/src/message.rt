@@ -5,15 +5,12 @@ ghost use lib.ListN.{length};
 ghost use Rattle.savelog.specs.Log.{width};
 ghost use Rattle.recover_text.specs.Text.{Put};
 ghost use Rattle.recover_messages.specs.Journal.{Bounded, journalLimit};
-ghost use Rattle.recover_messages.specs.Messages.{room, sized, whyText, recoveredLine, leftOutLine, endLine, wrongLengthLine, damagedLine, damageLine, noteLine, failedLine};
+ghost use Rattle.recover_messages.specs.Messages.{room, sized, whyText, recoveredText, writtenLine, shownLine, leftOutLine, endLine, wrongLengthLine, damagedLine, damageLine, noteLine, failedLine};
 use crate::journal::Scan;
 use crate::journal::journal_len;
 use crate::journal::sound_records;
 use recover_text::put;
 use savelog::RECORD_LEN;
-
-// The most bytes of a message beside the name in it.
-pub const ROOM: usize = 200;
 
 // What a file is told for.
 pub enum Why {
@@ -43,15 +40,34 @@ fn sized(out: &mut [u8], at: usize, before: &[u8], n: u64, behind: &[u8]) -> usi
     put::text(out, b, behind)
 }
 
-// How many records were played.
-pub fn recovered(out: &mut [u8], s: Scan) -> usize
+// How many records were played: the last line's beginning.
+fn recovered(out: &mut [u8], s: Scan) -> usize
     requires { ⌜ (room ≤ length (now out)) × Bounded s × (s .len ≤ journalLimit) ⌝ }
-    ensures { λ r. ⌜ Put (now (out .entry)) 0 (recoveredLine s) (now (out .exit)) r ⌝ }
+    ensures { λ r. ⌜ Put (now (out .entry)) 0 (recoveredText s) (now (out .exit)) r × (r ≤ 42) ⌝ }
 {
     let records = journal_len(s) / RECORD_LEN;
     let a = put::text(out, 0, b"0: recovered, ");
-    let b = put::counted(out, a, records as u64, b"record");
-    put::byte(out, b, b'\n')
+    put::counted(out, a, records as u64, b"record")
+}
+
+// The last line, where the new save of `len` bytes is written.
+pub fn written(out: &mut [u8], s: Scan, name: &[u8], len: u64) -> usize
+    requires { ⌜ (length (now name) + room ≤ length (now out)) × Bounded s × (s .len ≤ journalLimit) ⌝ }
+    ensures { λ r. ⌜ Put (now (out .entry)) 0 (writtenLine s (now (name .entry)) len) (now (out .exit)) r ⌝ }
+{
+    let a = recovered(out, s);
+    let b = put::text(out, a, b"; ");
+    let c = put::text(out, b, name);
+    sized(out, c, b" is written and has ", len, b"\n")
+}
+
+// The last line, where no new save is asked for.
+pub fn shown(out: &mut [u8], s: Scan) -> usize
+    requires { ⌜ (room ≤ length (now out)) × Bounded s × (s .len ≤ journalLimit) ⌝ }
+    ensures { λ r. ⌜ Put (now (out .entry)) 0 (shownLine s) (now (out .exit)) r ⌝ }
+{
+    let a = recovered(out, s);
+    put::text(out, a, b"; no NEW is named, nothing is written\n")
 }
 
 // Of its `len` bytes so many are left out.
@@ -205,7 +221,7 @@ fn reason(out: &mut [u8], at: usize, w: Why, len: u64) -> usize
         Why::Changed => sized(
             out,
             at,
-            b" changed while it was read: it had ",
+            b" changed meanwhile: it had ",
             len,
             b"; nothing is written\n",
         ),

@@ -17,11 +17,11 @@ abbrev μ-loop : tie.MeasureT-loop
 loop-holds : tie.Need-loop-holds Inv-loop μ-loop
 loop-holds c = search needs
 
-slice-read-shown : tie.Need-slice-read-shown Inv-loop μ-loop
-slice-read-shown c = search needs
+slice-read-plain-byte : tie.Need-slice-read-plain-byte Inv-loop μ-loop
+slice-read-plain-byte c = search needs
 
-shown-requires : tie.Need-shown-requires Inv-loop μ-loop
-shown-requires c κs = search needs
+plain-byte-requires : tie.Need-plain-byte-requires Inv-loop μ-loop
+plain-byte-requires c κs = search needs
 
 slice-write-name : tie.Need-slice-write-name Inv-loop μ-loop
 slice-write-name c = search needs
@@ -48,8 +48,8 @@ plain-spec =
     Inv-loop
     μ-loop
     loop-holds
-    slice-read-shown
-    shown-requires
+    slice-read-plain-byte
+    plain-byte-requires
     slice-write-name
     add-i
     loop-less

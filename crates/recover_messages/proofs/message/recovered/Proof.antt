@@ -1,4 +1,4 @@
--- The pieces of the line, one behind the other; the number is of what is kept.
+-- The pieces of the text, one behind the other; the number is of what is kept.
 use mathlib.Core.List.{_++_}
 use mathlib.Core.Path.{ap}
 use Prim.Native.Nat.{_/_}
@@ -6,7 +6,7 @@ use native.Mathlib.Omega.{arith}
 use borrow.Author.Needs.{needs}
 use Rattle.savelog.specs.Log.{width}
 use Rattle.recover_text.specs.Text.{counted}
-use Rattle.recover_text.proofs.Pieces.{named, and-then, kept-length}
+use Rattle.recover_text.proofs.Pieces.{named, and-then}
 use Rattle.recover_text.proofs.Digits.{counted-length}
 use Rattle.recover_messages.specs.Words as words
 use Rattle.recover_messages.proofs.message.recovered.Statement.{statement}
@@ -27,14 +27,17 @@ slice-aggregate-counted c = search needs
 counted-requires : tie.Need-counted-requires
 counted-requires c κs = search needs
 
-byte-requires : tie.Need-byte-requires
-byte-requires c κs = let t = c .before .before .before .before .before .before .before .before .text .ensures in let u = c .before .before .before .counted .ensures in omega (arith, c .before .before .before .before .before .before .before .before .before .before .before .before .before .pre .0, t .ends, u .ends, kept-length t, kept-length u, counted-length (c .before .before .before .before .before .before .before .before .before .before .before .journal-len .result / width) words.recordNoun)
-
 same-length : tie.Need-same-length
 same-length c = search needs
 
 returns : tie.Need-returns
-returns c = named (ap (λ k. words.recovered ++ (counted (k / width) words.recordNoun ++ words.lineEnd)) (c .before .before .before .before .before .before .before .before .before .before .before .before .before .before .journal-len .ensures .0)) (and-then (c .before .before .before .before .before .before .before .before .before .before .before .text .ensures) (and-then (c .before .before .before .before .before .before .counted .ensures) (c .before .before .byte .ensures)))
+returns c =
+    let j = c .before .before .before .before .before .before .before .before .before .before .journal-len in
+    let t = c .before .before .before .before .before .before .before .text .ensures in
+    let u = c .before .before .counted .ensures in (
+      named (ap (λ k. words.recovered ++ counted (k / width) words.recordNoun) (j .ensures .0)) (and-then t u),
+      omega (arith, t .ends, u .ends, counted-length (j .result / width) words.recordNoun),
+    )
 
 pub recovered-spec : {M : Type 1} → statement M
 recovered-spec =
@@ -45,6 +48,5 @@ recovered-spec =
     text-requires
     slice-aggregate-counted
     counted-requires
-    byte-requires
     same-length
     returns)
