@@ -1,4 +1,5 @@
 // NEW: whether it may be written, and under which name.
+ghost use mathlib.Core.Bool.{true};
 ghost use mathlib.Core.Path.{_≡_};
 ghost use lib.ListN.{length};
 ghost use Rattle.io.specs.Counts.{Counts};
@@ -28,7 +29,9 @@ pub fn is_save(bytes: &mut [u8]) -> bool
 }
 
 // Whether it takes one of n bytes, where there is room for so many.
-fn is_length(room: &mut [u8], n: usize) -> bool {
+fn is_length(room: &mut [u8], n: usize) -> bool
+    ensures { λ r. ⌜ (r ≡ true → oneOf n saveLengths ≡ true) ⌝ }
+{
     if n > room.len() {
         return false;
     }
@@ -36,7 +39,9 @@ fn is_length(room: &mut [u8], n: usize) -> bool {
 }
 
 // Whether the file that argument i names has a save's length. If not, it is told.
-pub fn holds_save(told: Told, i: usize) -> bool {
+pub fn holds_save(told: Told, i: usize) -> bool
+    ensures { λ r. ⌜ (r ≡ true → oneOf (told .len) saveLengths ≡ true) ⌝ }
+{
     let mut room = [0u8; savelog::SAVE_LIMIT];
     let n = told.len;
     if is_length(&mut room, n) {
@@ -47,7 +52,9 @@ pub fn holds_save(told: Told, i: usize) -> bool {
 }
 
 // Whether what is told of NEW lets it be replaced. If not, it is told why.
-fn may_replace(asked: Asked, new: Told, save: Told, log: Told) -> bool {
+fn may_replace(asked: Asked, new: Told, save: Told, log: Told) -> bool
+    ensures { λ r. ⌜ (r ≡ true → (new .regular ≡ true) × (oneOf (new .len) saveLengths ≡ true)) ⌝ }
+{
     let i = asked.new;
     if !new.regular {
         say::failed(Why::Irregular, i, 0);

@@ -1,13 +1,17 @@
 -- The first n bytes of the room are n.
-use mathlib.Core.Path.{sym}
+use mathlib.Core.Path.{_≡_, sym, ap, _∙_}
+use mathlib.Core.Bool.{Bool, true}
+use Prim.Native.Nat.{ℕ}
 use native.Mathlib.Omega.{arith}
 use lib.Seq.{length-take-le}
+use Rattle.rules.proofs.Tests.{untrue}
+use Rattle.savelog.specs.Log.{oneOf, saveLengths}
 use borrow.Author.Needs.{needs}
 use Rattle.recover.proofs.place.is_length.Statement.{statement}
 use Rattle.recover.proofs.place.is_length.Tie as tie
 
 returns : tie.Need-returns
-returns c = search needs
+returns c = λ z. untrue z
 
 slice-relend-prefix-is-save : tie.Need-slice-relend-prefix-is-save
 slice-relend-prefix-is-save c = search needs
@@ -22,7 +26,7 @@ same-length : tie.Need-same-length
 same-length c = search needs
 
 returns-2 : tie.Need-returns-2
-returns-2 c = search needs
+returns-2 c = λ z. ap (λ (k : ℕ). oneOf k saveLengths) (sym (length-take-le _ _ (omega arith))) ∙ sym (c .before .before .is-save .ensures .0) ∙ z
 
 pub is-length-spec : {M : Type 1} → statement M
 is-length-spec =
