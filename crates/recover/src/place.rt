@@ -1,9 +1,10 @@
 // NEW: whether it may be written, and under which name.
-ghost use mathlib.Core.Bool.{true};
+ghost use mathlib.Core.Bool.{true, false};
 ghost use mathlib.Core.Path.{_≡_};
 ghost use lib.ListN.{length};
 ghost use Rattle.io.specs.Counts.{Counts};
 ghost use Rattle.savelog.specs.Log.{saveLengths, oneOf};
+ghost use Rattle.recover.specs.Files.{oneFile};
 use crate::files;
 use crate::files::There;
 use crate::say;
@@ -53,7 +54,7 @@ pub fn holds_save(told: Told, i: usize) -> bool
 
 // Whether what is told of NEW lets it be replaced. If not, it is told why.
 fn may_replace(asked: Asked, new: Told, save: Told, log: Told) -> bool
-    ensures { λ r. ⌜ (r ≡ true → (new .regular ≡ true) × (oneOf (new .len) saveLengths ≡ true)) ⌝ }
+    ensures { λ r. ⌜ (r ≡ true → (new .regular ≡ true) × ((oneFile new log ≡ false) × (oneOf (new .len) saveLengths ≡ true))) ⌝ }
 {
     let i = asked.new;
     if !new.regular {

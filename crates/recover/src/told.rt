@@ -1,5 +1,8 @@
-// What the system tells of the file that a path leads to: whether it is a regular one, its length, when it was written, and which file it is, whatever its names.
+// What the system tells of the file that a path leads to: whether it is a regular one, its length, when it was written, and which file it is.
+ghost use mathlib.Core.Bool.{true};
+ghost use mathlib.Core.Path.{_≡_};
 ghost use Rattle.libc.specs.Io.{Ended};
+ghost use Rattle.recover.specs.Files.{oneFile};
 use crate::files;
 use libc::PATH_MAX;
 use libc::types::stat;
@@ -98,7 +101,9 @@ pub fn of(path: &[u8]) -> Told {
 }
 
 // Whether two are of one file.
-pub fn same(a: Told, b: Told) -> bool {
+pub fn same(a: Told, b: Told) -> bool
+    ensures { λ r. ⌜ r ≡ oneFile a b ⌝ }
+{
     if !a.good {
         return false;
     }
@@ -119,7 +124,9 @@ fn unwritten(a: Told, b: Told) -> bool {
 }
 
 // Whether it is the same file, as long as it was, and not written since.
-pub fn unchanged(a: Told, b: Told) -> bool {
+pub fn unchanged(a: Told, b: Told) -> bool
+    ensures { λ r. ⌜ (r ≡ true → (oneFile a b ≡ true) × ((b .regular ≡ true) × (a .len ≡ b .len))) ⌝ }
+{
     if !same(a, b) {
         return false;
     }

@@ -1,5 +1,5 @@
 -- Each test that is passed, at the one return that grants.
-use mathlib.Core.Path.{refl}
+use mathlib.Core.Path.{refl, sym, _∙_}
 use Rattle.rules.proofs.Tests.{granted, untrue}
 use borrow.Author.Needs.{needs}
 use Rattle.recover.proofs.place.may_replace.Statement.{statement}
@@ -27,7 +27,7 @@ returns-3 : tie.Need-returns-3
 returns-3 c = λ z. untrue z
 
 returns-4 : tie.Need-returns-4
-returns-4 c = λ z. (granted refl (c .before .before .before .before .before .if1 .left), c .before .before .holds-save .ensures (granted refl (c .before .if3 .left)))
+returns-4 c = λ z. (granted refl (c .before .before .before .before .before .if1 .left), (sym (c .before .before .before .before .same .ensures) ∙ c .before .before .before .if2 .left, c .before .before .holds-save .ensures (granted refl (c .before .if3 .left))))
 
 same-requires-2 : tie.Need-same-requires-2
 same-requires-2 c κs = search needs

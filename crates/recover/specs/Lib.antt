@@ -1,0 +1,2 @@
+-- What the contracts of recover cite.
+pub mod Files
