@@ -8,7 +8,8 @@ use Rattle.memory.specs.World.{World, Fixed}
 use Rattle.mmu.specs.Write.{writeAt}
 use Rattle.packing.specs.Packing.{Below}
 use Rattle.put_bytes.proofs.Whole.{Whole, after-whole, write-whole, word-whole}
-use Rattle.registers.specs.Transfers.{oamCopy, blockCopy}
+use Rattle.copies.specs.Copies.{oamCopy}
+use Rattle.registers.specs.Transfers.{blockCopy}
 use Rattle.boundary.specs.Types.{CallTyped}
 use Rattle.boundary.proofs.Fine.{state-fine}
 

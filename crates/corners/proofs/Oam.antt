@@ -18,8 +18,9 @@ use Rattle.mmu.proofs.Places.{read-by, put-by}
 use Rattle.mmu.specs.Access.{byteIn, readIn, inState, put}
 use Rattle.mmu.specs.PanDocs.{echo, wramAt}
 use Rattle.mmu.specs.Write.{copyBy, transferred, writeAt}
-use Rattle.registers.specs.Transfers.{nothing, oamCopy, copyOf, finished}
-use Rattle.registers.specs.declared.transfers.Finish.the-variants.{Nothing}
+use Rattle.copies.specs.Copies.{nothing, oamCopy}
+use Rattle.registers.specs.Transfers.{copyOf, finished}
+use Rattle.copies.specs.declared.Finish.the-variants.{Nothing}
 
 -- the first n bytes, each by its place
 unfoldable pub laid : (ℕ → ℕ) → ℕ → List ℕ → List ℕ

@@ -31,7 +31,8 @@ use Rattle.refusals.specs.Answers.{changed}
 use Rattle.refusals.specs.Refusal.{refusedWrite, refusedState, lentRefused, writeRefused}
 use Rattle.refusals.specs.declared.Done.{Done}
 use Rattle.registers.proofs.Kept.{Kept}
-use Rattle.registers.specs.Transfers.{oamCopy, blockCopy}
+use Rattle.copies.specs.Copies.{oamCopy}
+use Rattle.registers.specs.Transfers.{blockCopy}
 use Rattle.rules.proofs.Tests.{both-true, by-cond}
 use Rattle.savelog.proofs.Use.{use-wider}
 use Rattle.savelog.specs.Log.{logLimit, useInRange}

@@ -14,7 +14,7 @@ use Rattle.lcd.specs.Lcd.{numbersOf}
 use Rattle.lcd.specs.declared.Lcd.{Lcd}
 use Rattle.memory.specs.World.{Fixed, withUsed}
 use Rattle.numbers.specs.Numbers.{done, outOfRange, wrongLength}
-use Rattle.registers.specs.PanDocs.{oamBytes}
+use Rattle.copies.specs.PanDocs.{oamBytes}
 use Rattle.registers.specs.State.{timerOf}
 use Rattle.savelog.specs.Log.{width, logLimit, useInRange}
 use Rattle.timer.specs.Overflow.{leftOf}

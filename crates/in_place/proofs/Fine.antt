@@ -57,8 +57,8 @@ use Rattle.registers.specs.State.{loaded, stored, screenOf, withScreen, onScree
 use Rattle.registers.specs.Transfers.{transferPut, sourceHighPut, sourceLowPut, destinationHighPut, destinationLowPut, startedBy, started, startPut, withEnded, finished}
 use Rattle.registers.specs.declared.register.Register.{Register}
 use Rattle.registers.specs.declared.register.Register.the-variants as is
-use Rattle.registers.specs.declared.transfers.Finish.{Finish}
-use Rattle.registers.specs.declared.transfers.Finish.the-variants.{Nothing, Block, General}
+use Rattle.copies.specs.declared.Finish.{Finish}
+use Rattle.copies.specs.declared.Finish.the-variants.{Nothing, Block, General}
 use Rattle.registers.specs.declared.transfers.Started.{Started}
 use Rattle.rules.proofs.Tests.{cond-both}
 

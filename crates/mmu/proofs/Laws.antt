@@ -24,8 +24,8 @@ use Rattle.memory.specs.declared.region.Region.the-variants.{Rom, Vram, Save, W
 use Rattle.registers.proofs.Kept.{Kept, oam-kept, write-kept, finished-kept}
 use Rattle.registers.specs.Page.{writeRegister}
 use Rattle.registers.specs.Transfers.{copyOf, finished}
-use Rattle.registers.specs.declared.transfers.Copy.{Copy}
-use Rattle.registers.specs.declared.transfers.Finish.{Finish}
+use Rattle.copies.specs.declared.Copy.{Copy}
+use Rattle.copies.specs.declared.Finish.{Finish}
 use Rattle.savelog.proofs.Use.{has-room, use-more, appended-length}
 use Rattle.savelog.specs.Log.{width, useInRange, full}
 use Rattle.mmu.specs.PanDocs.{vramAt, wramAt}

@@ -15,8 +15,9 @@ use Rattle.memory.specs.declared.region.Region.{Region}
 use Rattle.memory.specs.declared.region.Region.the-variants.{Rom, Vram, Save, Wram, Oam, Page}
 use Rattle.registers.proofs.Kept.{Kept, oam-kept, write-kept, finished-kept}
 use Rattle.registers.proofs.Starts.{by-copy}
-use Rattle.registers.specs.Transfers.{oamCopy, blockCopy, generalCopy, copyOf, nothing, finished}
-use Rattle.registers.specs.declared.transfers.Copy.{Copy}
+use Rattle.copies.specs.Copies.{oamCopy, nothing}
+use Rattle.registers.specs.Transfers.{blockCopy, generalCopy, copyOf, finished}
+use Rattle.copies.specs.declared.Copy.{Copy}
 use Rattle.mmu.specs.Access.{inState, putIn, put}
 use Rattle.mmu.specs.Write.{copyBy, transferred, writeAt}
 

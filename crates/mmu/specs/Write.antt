@@ -4,7 +4,7 @@ use Prim.Native.Nat.{ℕ, zero, suc, _+_, _/_, _%_}
 use lib.Dec.{eqb}
 use Rattle.memory.specs.World.{World, Fixed}
 use Rattle.registers.specs.Transfers.{copyOf, finished}
-use Rattle.registers.specs.declared.transfers.Copy.{Copy}
+use Rattle.copies.specs.declared.Copy.{Copy}
 use Rattle.mmu.specs.Access.{readIn, put, inState}
 
 -- n bytes from `source` on, each read and then written from `destination` on by the write f: bytes copy in rising order, the source wraps

@@ -4,7 +4,8 @@ ghost use mathlib.Core.List.{[]};
 ghost use mathlib.Core.Path.{_≡_};
 ghost use Prim.Native.Nat.{_<_};
 ghost use Rattle.memory.specs.World.{world, fixed};
-ghost use Rattle.registers.specs.Transfers.{oamCopy, blockCopy, Bounded};
+ghost use Rattle.copies.specs.Copies.{oamCopy, Bounded};
+ghost use Rattle.registers.specs.Transfers.{blockCopy};
 ghost use Rattle.mmu.specs.Access.{Holds, Ready, readByte, readWord, put};
 ghost use Rattle.mmu.specs.Write.{transferred, starting, writeAt, wordAt};
 use memory::Memory;
@@ -13,12 +14,12 @@ use memory::region_of;
 
 pub mod regions;
 
+use copies::Copy;
 use regions::put_mapper;
 use regions::put_save;
 use regions::read_lent;
 use regions::write_cgb_lcd_ram;
 use regions::write_cgb_wram;
-use registers::transfers::Copy;
 
 pub fn read_byte(
     memory: Memory,
@@ -225,7 +226,7 @@ pub fn do_oam_dma(
     requires { ⌜ Ready (fixed (now rom) (now sound)) (world memory (now vram) (now wram) (now save) (now log)) ⌝ }
     ensures { λ r. ⌜ world r (now (vram .exit)) (now (wram .exit)) (now (save .exit)) (now (log .exit)) ≡ transferred (fixed (now (rom .entry)) (now (sound .entry))) (writeAt (fixed (now (rom .entry)) (now (sound .entry))) 1) (oamCopy page) 0 (world memory (now (vram .entry)) (now (wram .entry)) (now (save .entry)) (now (log .entry))) ⌝ }
 {
-    let copy = registers::transfers::oam_copy(page);
+    let copy = copies::oam_copy(page);
     do_dma_transfer(1, memory, rom, vram, wram, save, log, sound, copy, 0)
 }
 

@@ -27,9 +27,10 @@ use Rattle.mmu.specs.PanDocs.{vramAt}
 use Rattle.mmu.specs.Write.{copyBy, writeAt}
 use Rattle.packing.specs.Packing.{Below}
 use Rattle.registers.specs.State.{loaded}
-use Rattle.registers.specs.Transfers.{nothing, oamCopy, blockCopy, generalCopy, finished, withEnded}
-use Rattle.registers.specs.declared.transfers.Copy.{Copy}
-use Rattle.registers.specs.declared.transfers.Finish.the-variants.{Nothing}
+use Rattle.copies.specs.Copies.{nothing, oamCopy}
+use Rattle.registers.specs.Transfers.{blockCopy, generalCopy, finished, withEnded}
+use Rattle.copies.specs.declared.Copy.{Copy}
+use Rattle.copies.specs.declared.Finish.the-variants.{Nothing}
 use Rattle.rules.proofs.Tests.{by-cond}
 use Rattle.put_bytes.specs.Left.{left, worldOf, leftBy}
 use Rattle.move_bytes.specs.Transfers.{Lent, Row, Read, Lands, Copied, Moved, endedPut}

@@ -28,8 +28,9 @@ use Rattle.mmu.specs.Write.{copyBy, transferred, starting, writeAt}
 use Rattle.registers.proofs.Kept as state
 use Rattle.registers.specs.Register.{registerOf, byteAs}
 use Rattle.registers.specs.State.{stored}
-use Rattle.registers.specs.Transfers.{transferPut, nothing, oamCopy, blockCopy, generalCopy, startedBy, started, copyOf, finished}
-use Rattle.registers.specs.declared.transfers.Copy.{Copy}
+use Rattle.copies.specs.Copies.{nothing, oamCopy}
+use Rattle.registers.specs.Transfers.{transferPut, blockCopy, generalCopy, startedBy, started, copyOf, finished}
+use Rattle.copies.specs.declared.Copy.{Copy}
 use Rattle.registers.specs.declared.transfers.Started.{Started}
 use Rattle.rules.proofs.Tests.{cond-true, cond-false}
 use Rattle.put_bytes.specs.Left.{left, worldOf, leftBy}

@@ -16,7 +16,7 @@ use Rattle.mmu.specs.Access.{Ready, readByte}
 use Rattle.mmu.specs.Write.{copyBy, transferred, writeAt}
 use Rattle.numbers.specs.Numbers.{done}
 use Rattle.packing.specs.Packing.{Below}
-use Rattle.registers.specs.declared.transfers.Copy.{Copy}
+use Rattle.copies.specs.declared.Copy.{Copy}
 use Rattle.put_bytes.specs.Left.{left, worldOf, leftBy}
 
 -- an image that is taken, its fields, and memories of the lengths that they ask for

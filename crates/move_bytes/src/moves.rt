@@ -5,7 +5,8 @@ ghost use lib.ListN.{length};
 ghost use Rattle.image.specs.Layout.{imageLen};
 ghost use Rattle.image.specs.Load.{loadCall};
 ghost use Rattle.memory.specs.World.{fixed};
-ghost use Rattle.registers.specs.Transfers.{oamCopy, blockCopy};
+ghost use Rattle.copies.specs.Copies.{oamCopy};
+ghost use Rattle.registers.specs.Transfers.{blockCopy};
 ghost use Rattle.move_bytes.specs.Transfers.{Own, Moved, endedPut};
 use crate::blocks;
 use crate::rows;
@@ -39,7 +40,7 @@ pub fn move_oam(
     requires { ⌜ Own (fixed (now rom) (now sound)) (now image) (now vram) (now wram) (now save) ⌝ }
     ensures { λ _. ⌜ ((value : ℕ) → Moved (fixed (now (rom .entry)) (now (sound .entry))) (now (image .entry)) (now (vram .entry)) (now (wram .entry)) (now (save .entry)) (oamCopy page) value (now (image .exit)) (now (vram .entry))) ⌝ }
 {
-    let copy = registers::transfers::oam_copy(page);
+    let copy = copies::oam_copy(page);
     if copy.count == 0 {
         return;
     }

@@ -31,7 +31,7 @@ fn move_general(
     let hdma = hdma_at(image);
     let source = hdma::source_of(hdma);
     let destination = hdma::destination_of(hdma);
-    let count = registers::transfers::landing(destination, hdma::length(value));
+    let count = copies::landing(destination, hdma::length(value));
     blocks::copy_all(
         image,
         rom,

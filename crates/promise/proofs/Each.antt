@@ -10,8 +10,9 @@ use Rattle.memory.specs.declared.Memory.{Memory}
 use Rattle.mmu.proofs.Saves.{Spares, Clear, spares-trans, write-spares, transfer-spares, oam-clear, block-clear}
 use Rattle.mmu.specs.Access.{put}
 use Rattle.mmu.specs.Write.{transferred, writeAt, wordAt}
-use Rattle.registers.specs.Transfers.{oamCopy, blockCopy}
-use Rattle.registers.specs.declared.transfers.Copy.{Copy}
+use Rattle.copies.specs.Copies.{oamCopy}
+use Rattle.registers.specs.Transfers.{blockCopy}
+use Rattle.copies.specs.declared.Copy.{Copy}
 use Rattle.rules.proofs.Tests.{by-cond, neither}
 use Rattle.promise.specs.Bus.{Outcome, outcome, step, inSave, nextIndex, Performed, Done, Kind, Reading, Clearing, Other, kindOf}
 use Rattle.promise.specs.Bus.call as call

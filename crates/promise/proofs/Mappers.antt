@@ -20,8 +20,9 @@ use Rattle.mmu.specs.Access.{saved, putIn, put}
 use Rattle.mmu.specs.Write.{copyBy, transferred, writeAt}
 use Rattle.registers.proofs.Kept.{oam-kept, write-kept, finished-kept}
 use Rattle.registers.proofs.Starts.{by-copy}
-use Rattle.registers.specs.Transfers.{oamCopy, blockCopy, generalCopy, copyOf, nothing}
-use Rattle.registers.specs.declared.transfers.Copy.{Copy}
+use Rattle.copies.specs.Copies.{oamCopy, nothing}
+use Rattle.registers.specs.Transfers.{blockCopy, generalCopy, copyOf}
+use Rattle.copies.specs.declared.Copy.{Copy}
 
 abbrev pub SameMapper : World → World → Type 0
 SameMapper w u = u .state .core .mapper ≡ w .state .core .mapper

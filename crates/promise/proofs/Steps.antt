@@ -17,8 +17,9 @@ use Rattle.mmu.proofs.Saves.{Clear, transfer-spares, oam-clear, block-clear}
 use Rattle.mmu.specs.Access.{Holds, inState}
 use Rattle.mmu.specs.Write.{transferred, writeAt, wordAt}
 use Rattle.refusals.proofs.Answers.{both-pass}
-use Rattle.registers.specs.Transfers.{oamCopy, blockCopy}
-use Rattle.registers.specs.declared.transfers.Copy.{Copy}
+use Rattle.copies.specs.Copies.{oamCopy}
+use Rattle.registers.specs.Transfers.{blockCopy}
+use Rattle.copies.specs.declared.Copy.{Copy}
 use Rattle.rules.proofs.Tests.{by-cond}
 use Rattle.savelog.specs.Log.{width, logLimit, joined, applyAll, useInRange}
 use Rattle.promise.specs.Bus.{Outcome, outcome, step, Performed, Call, inSave, nextIndex, Done, refused, Kind, Reading, Clearing, Other, kindOf}

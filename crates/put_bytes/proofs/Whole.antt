@@ -26,7 +26,7 @@ use Rattle.packing.specs.Packing.{Below}
 use Rattle.registers.specs.Page.{byKind, lineRead, plainRead, shownAs, readRegister}
 use Rattle.registers.specs.State.{loaded}
 use Rattle.registers.specs.Transfers.{copyOf}
-use Rattle.registers.specs.declared.transfers.Copy.{Copy}
+use Rattle.copies.specs.declared.Copy.{Copy}
 use Rattle.rules.proofs.Tests.{cond-both}
 use Rattle.savelog.specs.Log.{width, full}
 

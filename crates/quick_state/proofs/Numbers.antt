@@ -28,7 +28,7 @@ use Rattle.in_place.proofs.Images.{state, size, held}
 use Rattle.in_place.specs.Held.{Held}
 use Rattle.memory.specs.declared.Memory.{Memory}
 use Rattle.places.specs.Places.{setAll}
-use Rattle.registers.specs.PanDocs.{oamBytes}
+use Rattle.copies.specs.PanDocs.{oamBytes}
 use Rattle.registers.specs.State.{hosted}
 use Rattle.quick_state.proofs.Calls.{closed-state, state-done}
 

@@ -23,7 +23,8 @@ use Rattle.packing.specs.Packing.{Below}
 use Rattle.refusals.proofs.Answers.{both-pass}
 use Rattle.refusals.proofs.Core.{write-lent}
 use Rattle.refusals.specs.Refusal.{orElse, useRefused, lengthsRefused, logRefused, lentRefused, writeRefused, refusedWrite}
-use Rattle.registers.specs.Transfers.{oamCopy, blockCopy}
+use Rattle.copies.specs.Copies.{oamCopy}
+use Rattle.registers.specs.Transfers.{blockCopy}
 use Rattle.entry.specs.Entry.{encodedIn, worldEntry}
 use Rattle.move_bytes.specs.Transfers.{Own, Moved}
 use Rattle.put_bytes.specs.Left.{Left, left, worldOf, leftBy}

@@ -72,9 +72,9 @@ use Rattle.registers.specs.Page.{writeIn, writeRegister}
 use Rattle.registers.specs.Register.{registerOf, byteAs}
 use Rattle.registers.specs.declared.register.Register.{Register}
 use Rattle.registers.specs.declared.register.Register.the-variants as is
-use Rattle.registers.specs.declared.transfers.Finish.{Finish}
+use Rattle.copies.specs.declared.Finish.{Finish}
 use Rattle.registers.specs.declared.transfers.Started.{Started}
-use Rattle.registers.specs.declared.transfers.Finish.the-variants.{Nothing, Block, General}
+use Rattle.copies.specs.declared.Finish.the-variants.{Nothing, Block, General}
 
 pub record Kept (m n : Memory) : Type 0 where
   pub range : stateInRange m ≡ true → stateInRange n ≡ true

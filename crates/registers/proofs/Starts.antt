@@ -5,8 +5,9 @@ use Rattle.hdma.proofs.Laws.{by-start}
 use Rattle.hdma.specs.declared.Start.{Start}
 use Rattle.memory.specs.declared.Memory.{Memory}
 use Rattle.rules.proofs.Tests.{cond-both}
-use Rattle.registers.specs.Transfers.{nothing, oamCopy, blockCopy, generalCopy, startedBy, started, copyOf}
-use Rattle.registers.specs.declared.transfers.Copy.{Copy}
+use Rattle.copies.specs.Copies.{nothing, oamCopy}
+use Rattle.registers.specs.Transfers.{blockCopy, generalCopy, startedBy, started, copyOf}
+use Rattle.copies.specs.declared.Copy.{Copy}
 use Rattle.registers.specs.declared.transfers.Started.{Started}
 
 pub by-copy : (P : Copy → Type 0) (m : Memory) (index v : ℕ) → P nothing → P (oamCopy v) → P (blockCopy m) → P (generalCopy m v)

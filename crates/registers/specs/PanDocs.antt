@@ -1,4 +1,4 @@
--- From Pan Docs: which bits read 1, and the ends of OAM DMA and of video memory; with what FF4D, FF4F and FF70 keep and select (crate selects).
+-- From Pan Docs: which bits read 1; with what FF4D, FF4F and FF70 keep and select (crate selects).
 use Prim.Native.Nat.{ℕ}
 pub use Rattle.selects.specs.PanDocs.{speedOf, vramBankOf}
 unfoldable pub use Rattle.selects.specs.PanDocs.{wramBankOf}
@@ -17,14 +17,3 @@ vramBankOnes = 0xFE
 -- Timer and Divider Registers: a write of any value sets DIV to 00
 abbrev pub divReset : ℕ
 divReset = 0x00
-
--- OAM DMA Transfer: XX00..XX9F to FE00..FE9F
-abbrev pub oamBytes : ℕ
-oamBytes = 160
-
-abbrev pub oamStart : ℕ
-oamStart = 0xFE00
-
--- Memory Map: video memory ends before A000
-abbrev pub vramEnd : ℕ
-vramEnd = 0xA000

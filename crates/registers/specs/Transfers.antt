@@ -1,9 +1,13 @@
 -- The transfers (document 01, "The bus": OAM DMA, HDMA block, FF55, "Our one change"): FF51..FF55, which bytes a write copies, and the registers
 -- after the last byte.
 use mathlib.Core.Bool.{cond}
-use Prim.Native.Nat.{ℕ, _+_, _*_, _-_, _≤_, min}
-use lib.Dec.{eqb, ltb}
+use Prim.Native.Nat.{ℕ}
+use lib.Dec.{eqb}
 use lib.ListN.{set}
+use Rattle.copies.specs.Copies.{nothing, oamCopy, landed}
+use Rattle.copies.specs.declared.Copy.{Copy}
+use Rattle.copies.specs.declared.Finish.{Finish}
+use Rattle.copies.specs.declared.Finish.the-variants.{Nothing, Block, General}
 use Rattle.hdma.specs.Hdma.{sourceHigh, sourceLow, destinationHigh, destinationLow, starts, sourceUsed, destinationUsed, blockEnded, generalEnded}
 use Rattle.hdma.specs.PanDocs.{lengthOf}
 use Rattle.hdma.specs.declared.Ended.{Ended}
@@ -12,12 +16,8 @@ use Rattle.hdma.specs.declared.Start.the-variants as start
 use Rattle.hdma.specs.declared.Written.{Written}
 use Rattle.memory.specs.World.{withHdma}
 use Rattle.memory.specs.declared.Memory.{Memory}
-use Rattle.registers.specs.PanDocs.{oamBytes, oamStart, vramEnd}
 use Rattle.registers.specs.Colour.{inColour}
 use Rattle.registers.specs.State.{loaded, stored}
-use Rattle.registers.specs.declared.transfers.Copy.{Copy}
-use Rattle.registers.specs.declared.transfers.Finish.{Finish}
-use Rattle.registers.specs.declared.transfers.Finish.the-variants.{Nothing, Block, General}
 use Rattle.registers.specs.declared.transfers.Started.{Started}
 
 -- the hidden addresses, and a byte of the page
@@ -42,15 +42,6 @@ withEnded m e =
     withHdma m (e .hdma)
     (set (set (set (set (set (m .page) 0x51 (e .r51)) 0x52 (e .r52)) 0x53 (e .r53)) 0x54 (e .r54)) 0x55 (e .r55))
 
-abbrev pub nothing : Copy
-nothing = record { source = 0; destination = 0; count = 0; finish = Nothing }
-
--- OAM DMA: pages 80..DF copy 160 bytes to FE00..FE9F; other pages copy nothing
-unfoldable pub oamCopy : ℕ → Copy
-oamCopy page =
-    cond (ltb page 0x80) nothing
-    (cond (ltb page 0xE0) (record { source = page * 256; destination = oamStart; count = oamBytes; finish = Nothing }) nothing)
-
 -- an HDMA block: 16 bytes
 abbrev pub blockCopy : Memory → Copy
 blockCopy m =
@@ -62,7 +53,7 @@ generalCopy m v =
     record {
       source = sourceUsed (m .core .hdma);
       destination = destinationUsed (m .core .hdma);
-      count = min (lengthOf v) (vramEnd - destinationUsed (m .core .hdma));
+      count = landed (destinationUsed (m .core .hdma)) (lengthOf v);
       finish = General;
     }
 
@@ -87,10 +78,6 @@ startCopy m v = started m v .copy
 -- what a byte write copies, from the state before it
 unfoldable pub copyOf : Memory → ℕ → ℕ → Copy
 copyOf m index v = cond (eqb index 0xFF46) (oamCopy v) (cond (eqb index 0xFF55) (startCopy m v) nothing)
-
--- where a copy may write: below FEA0, so that no address wraps
-abbrev pub Bounded : Copy → Type 0
-Bounded c = c .destination + c .count ≤ 0xFEA0
 
 -- the registers after the last byte
 unfoldable pub finished : Memory → Finish → ℕ → Memory

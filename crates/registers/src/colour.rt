@@ -1,12 +1,24 @@
 // The registers that only a colour machine has: monochrome just stores them.
 ghost use mathlib.Core.Path.{_≡_};
+ghost use Rattle.memory.specs.World.{withBanks};
 ghost use Rattle.registers.specs.Colour.{speedPut, vramBankPut, wramBankPut, backgroundOf, withBackgroundPalette, spritesOf, withSpritePalette, backgroundIndexPut, backgroundDataPut, spriteIndexPut, spriteDataPut};
+use crate::load;
 use crate::store;
+use memory::Banks;
 use memory::Memory;
 use palette::Palette;
 use selects::speed;
 use selects::vram_bank;
 use selects::wram_bank;
+
+fn with_banks(mut memory: Memory, banks: Banks) -> Memory
+    ensures { λ r. ⌜ r ≡ withBanks memory banks (memory .page) ⌝ }
+{
+    let mut core = memory.core;
+    core.banks = banks;
+    memory.core = core;
+    memory
+}
 
 // FF4D.
 pub fn write_speed(memory: Memory, value: u8) -> Memory
@@ -14,8 +26,7 @@ pub fn write_speed(memory: Memory, value: u8) -> Memory
 {
     let banks = memory.core.banks;
     if banks.colour {
-        let next = speed(memory.page[0x4D], value);
-        return store(memory, 0x4D, next);
+        return store(memory, 0x4D, speed(load(memory, 0x4D), value));
     }
     store(memory, 0x4D, value)
 }
@@ -27,12 +38,7 @@ pub fn write_vram_bank(memory: Memory, value: u8) -> Memory
     let mut banks = memory.core.banks;
     if banks.colour {
         banks.vram = vram_bank(value);
-        let mut core = memory.core;
-        core.banks = banks;
-        let mut next = memory;
-        next.page[0x4F] = value % 2;
-        next.core = core;
-        return next;
+        return with_banks(store(memory, 0x4F, value % 2), banks);
     }
     store(memory, 0x4F, value)
 }
@@ -44,12 +50,7 @@ pub fn write_wram_bank(memory: Memory, value: u8) -> Memory
     let mut banks = memory.core.banks;
     if banks.colour {
         banks.wram = wram_bank(value);
-        let mut core = memory.core;
-        core.banks = banks;
-        let mut next = memory;
-        next.page[0x70] = value % 8;
-        next.core = core;
-        return next;
+        return with_banks(store(memory, 0x70, value % 8), banks);
     }
     store(memory, 0x70, value)
 }
@@ -59,21 +60,20 @@ fn background_of(memory: Memory) -> Palette
 {
     let colors = memory.background;
     Palette {
-        index: memory.page[0x68],
-        data: memory.page[0x69],
+        index: load(memory, 0x68),
+        data: load(memory, 0x69),
         colors: colors,
     }
 }
 
-fn with_background(memory: Memory, palette: Palette) -> Memory
+fn with_background(mut memory: Memory, palette: Palette) -> Memory
     ensures { λ r. ⌜ r ≡ withBackgroundPalette memory palette ⌝ }
 {
     let colors = palette.colors;
-    let mut next = memory;
-    next.page[0x68] = palette.index;
-    next.page[0x69] = palette.data;
-    next.background = colors;
-    next
+    memory.page[0x68] = palette.index;
+    memory.page[0x69] = palette.data;
+    memory.background = colors;
+    memory
 }
 
 fn sprites_of(memory: Memory) -> Palette
@@ -81,21 +81,20 @@ fn sprites_of(memory: Memory) -> Palette
 {
     let colors = memory.sprites;
     Palette {
-        index: memory.page[0x6A],
-        data: memory.page[0x6B],
+        index: load(memory, 0x6A),
+        data: load(memory, 0x6B),
         colors: colors,
     }
 }
 
-fn with_sprites(memory: Memory, palette: Palette) -> Memory
+fn with_sprites(mut memory: Memory, palette: Palette) -> Memory
     ensures { λ r. ⌜ r ≡ withSpritePalette memory palette ⌝ }
 {
     let colors = palette.colors;
-    let mut next = memory;
-    next.page[0x6A] = palette.index;
-    next.page[0x6B] = palette.data;
-    next.sprites = colors;
-    next
+    memory.page[0x6A] = palette.index;
+    memory.page[0x6B] = palette.data;
+    memory.sprites = colors;
+    memory
 }
 
 // FF68.

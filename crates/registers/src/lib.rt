@@ -23,11 +23,10 @@ pub fn load(memory: Memory, at: u8) -> u8
     memory.page[i]
 }
 
-pub fn store(memory: Memory, at: u8, value: u8) -> Memory
+pub fn store(mut memory: Memory, at: u8, value: u8) -> Memory
     ensures { λ r. ⌜ r ≡ stored memory at value ⌝ }
 {
     let i = at as usize;
-    let mut next = memory;
-    next.page[i] = value;
-    next
+    memory.page[i] = value;
+    memory
 }

@@ -2,6 +2,7 @@
 ghost use mathlib.Core.Path.{_≡_};
 ghost use Rattle.lcd.specs.Lcd.{screenEnabled, screenDisabled, windowLineReset, lyCompared, scanlineWritten, lycWritten, controlWritten, statusWritten};
 ghost use Rattle.registers.specs.State.{screenOf, withScreen, onScreen, hosted};
+use crate::load;
 use lcd::Lcd;
 use lcd::Screen;
 use memory::Memory;
@@ -12,27 +13,26 @@ fn screen_of(memory: Memory) -> Screen
     let lcd = memory.core.lcd;
     Screen {
         lcd: lcd,
-        control: memory.page[0x40],
-        status: memory.page[0x41],
-        compare: memory.page[0x45],
-        wy: memory.page[0x4A],
-        flags: memory.page[0x0F],
+        control: load(memory, 0x40),
+        status: load(memory, 0x41),
+        compare: load(memory, 0x45),
+        wy: load(memory, 0x4A),
+        flags: load(memory, 0x0F),
     }
 }
 
-fn with_screen(memory: Memory, screen: Screen) -> Memory
+fn with_screen(mut memory: Memory, screen: Screen) -> Memory
     ensures { λ r. ⌜ r ≡ withScreen memory screen ⌝ }
 {
     let lcd = screen.lcd;
     let mut core = memory.core;
     core.lcd = lcd;
-    let mut next = memory;
-    next.page[0x40] = screen.control;
-    next.page[0x41] = screen.status;
-    next.page[0x45] = screen.compare;
-    next.page[0x0F] = screen.flags;
-    next.core = core;
-    next
+    memory.page[0x40] = screen.control;
+    memory.page[0x41] = screen.status;
+    memory.page[0x45] = screen.compare;
+    memory.page[0x0F] = screen.flags;
+    memory.core = core;
+    memory
 }
 
 pub fn enable_screen(memory: Memory) -> Memory
@@ -100,12 +100,11 @@ pub fn do_lcd_status_write(memory: Memory, value: u8) -> Memory
 }
 
 // The host's call: the eight numbers of the screen.
-pub fn host(memory: Memory, lcd: Lcd) -> Memory
+pub fn host(mut memory: Memory, lcd: Lcd) -> Memory
     ensures { λ r. ⌜ r ≡ hosted memory lcd ⌝ }
 {
     let mut core = memory.core;
     core.lcd = lcd;
-    let mut next = memory;
-    next.core = core;
-    next
+    memory.core = core;
+    memory
 }

@@ -1,28 +1,18 @@
 // FF46 and FF51..FF55: the registers of the transfers, which transfer a write starts, and how the registers end. The bytes are copied by the crate mmu.
 ghost use mathlib.Core.Path.{_≡_};
-ghost use Prim.Native.Nat.{_≤_, _+_, _-_, min};
+ghost use Prim.Native.Nat.{_-_};
+ghost use Rattle.copies.specs.Copies.{Bounded};
 ghost use Rattle.registers.specs.Page.{writeRegister};
-ghost use Rattle.registers.specs.Transfers.{transferPut, sourceHighPut, sourceLowPut, destinationHighPut, destinationLowPut, startPut, withEnded, oamCopy, blockCopy, generalCopy, startedBy, started, copyOf, nothing, finished, Bounded};
+ghost use Rattle.registers.specs.Transfers.{transferPut, sourceHighPut, sourceLowPut, destinationHighPut, destinationLowPut, startPut, withEnded, blockCopy, generalCopy, startedBy, started, copyOf, finished};
+use crate::load;
 use crate::store;
+use copies::Copy;
+use copies::Finish;
+use copies::no_copy;
 use hdma::Ended;
 use hdma::Start;
 use hdma::Written;
 use memory::Memory;
-
-// Which registers a copy sets at its end.
-pub enum Finish {
-    Nothing,
-    Block,
-    General,
-}
-
-// `count` bytes from `source` on, each to the next place from `destination` on.
-pub struct Copy {
-    pub source: u16,
-    pub destination: u16,
-    pub count: u16,
-    pub finish: Finish,
-}
 
 // A write that starts a transfer: the state before any byte is copied, and what is copied.
 pub struct Started {
@@ -90,49 +80,19 @@ pub fn write_destination_low(memory: Memory, value: u8) -> Memory
     store(memory, 0x54, value)
 }
 
-fn with_ended(memory: Memory, ended: Ended) -> Memory
+fn with_ended(mut memory: Memory, ended: Ended) -> Memory
     ensures { λ r. ⌜ r ≡ withEnded memory ended ⌝ }
 {
     let after = ended.hdma;
     let mut core = memory.core;
     core.hdma = after;
-    let mut next = memory;
-    next.page[0x51] = ended.r51;
-    next.page[0x52] = ended.r52;
-    next.page[0x53] = ended.r53;
-    next.page[0x54] = ended.r54;
-    next.page[0x55] = ended.r55;
-    next.core = core;
-    next
-}
-
-// OAM DMA: pages 80..DF copy 160 bytes, the others none.
-pub fn oam_copy(page: u8) -> Copy
-    ensures { λ r. ⌜ (r ≡ oamCopy page) × Bounded r ⌝ }
-{
-    if page < 0x80 {
-        return no_copy();
-    }
-    if 0xE0 <= page {
-        return no_copy();
-    }
-    Copy {
-        source: page as u16 * 256,
-        destination: 0xFE00,
-        count: 160,
-        finish: Finish::Nothing,
-    }
-}
-
-fn no_copy() -> Copy
-    ensures { λ r. ⌜ (r ≡ nothing) × Bounded r ⌝ }
-{
-    Copy {
-        source: 0,
-        destination: 0,
-        count: 0,
-        finish: Finish::Nothing,
-    }
+    memory.page[0x51] = ended.r51;
+    memory.page[0x52] = ended.r52;
+    memory.page[0x53] = ended.r53;
+    memory.page[0x54] = ended.r54;
+    memory.page[0x55] = ended.r55;
+    memory.core = core;
+    memory
 }
 
 // An HDMA block: 16 bytes. From a multiple of 16 below A000 it stays there.
@@ -148,25 +108,13 @@ pub fn block_copy(memory: Memory) -> Copy
     }
 }
 
-// Bytes of a general transfer that land: none past 9FFF.
-pub fn landing(destination: u16, length: u16) -> u16
-    requires { ⌜ destination ≤ 0xA000 ⌝ }
-    ensures { λ r. ⌜ (r ≡ min length (0xA000 - destination)) × (destination + r ≤ 0xA000) ⌝ }
-{
-    let room = 0xA000 - destination;
-    if length < room {
-        return length;
-    }
-    room
-}
-
 // A general transfer.
 fn general_copy(memory: Memory, value: u8) -> Copy
     ensures { λ r. ⌜ (r ≡ generalCopy memory value) × Bounded r ⌝ }
 {
     let hdma = memory.core.hdma;
     let destination = hdma::destination_of(hdma);
-    let count = landing(destination, hdma::length(value));
+    let count = copies::landing(destination, hdma::length(value));
     Copy {
         source: hdma::source_of(hdma),
         destination: destination,
@@ -227,7 +175,7 @@ pub fn start_transfer(memory: Memory, index: u16, value: u8) -> Started
     if index == 0xFF46 {
         return Started {
             memory: store(memory, 0x46, value),
-            copy: oam_copy(value),
+            copy: copies::oam_copy(value),
         };
     }
     do_cgb_dma(memory, value)
@@ -240,7 +188,7 @@ pub fn end_copy(memory: Memory, kind: Finish, value: u8) -> Memory
     let hdma = memory.core.hdma;
     match kind {
         Finish::Nothing => memory,
-        Finish::Block => with_ended(memory, hdma::end_block(hdma, memory.page[0x55])),
+        Finish::Block => with_ended(memory, hdma::end_block(hdma, load(memory, 0x55))),
         Finish::General => with_ended(memory, hdma::end_general(hdma, value)),
     }
 }

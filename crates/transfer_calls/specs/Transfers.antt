@@ -5,7 +5,8 @@ use Rattle.memory.specs.World.{World, Fixed}
 use Rattle.mmu.specs.Write.{writeAt, transferred}
 use Rattle.numbers.specs.Numbers.{done}
 use Rattle.refusals.specs.Refusal.{refusedWrite}
-use Rattle.registers.specs.Transfers.{oamCopy, blockCopy}
+use Rattle.copies.specs.Copies.{oamCopy}
+use Rattle.registers.specs.Transfers.{blockCopy}
 
 -- 3, then 4: a transfer appends nothing
 abbrev pub doDmaTransferCall : Fixed → World → ℕ → Outcome

@@ -3,18 +3,17 @@ use borrow.Author.Needs.{needs}
 use Rattle.registers.proofs.interrupts.request_interrupt.Statement.{statement}
 use Rattle.registers.proofs.interrupts.request_interrupt.Tie as tie
 
-element-copy-out-request : tie.Need-element-copy-out-request
-element-copy-out-request c = search needs
+load-requires : tie.Need-load-requires
+load-requires c κs = search needs
 
 request-requires : tie.Need-request-requires
 request-requires c κs = search needs
 
-element-write-next : tie.Need-element-write-next
-element-write-next c = search needs
+store-requires : tie.Need-store-requires
+store-requires c κs = search needs
 
 returns : tie.Need-returns
-returns c = rw (c .request .ensures)
+returns c = rw (c .store .ensures, c .before .request .ensures, c .before .before .load .ensures)
 
 pub request-interrupt-spec : {M : Type 1} → statement M
-request-interrupt-spec =
-    tie.close (tie.spec element-copy-out-request request-requires element-write-next returns)
+request-interrupt-spec = tie.close (tie.spec load-requires request-requires store-requires returns)

@@ -10,8 +10,8 @@ enum-told c = search needs
 enum-told-2 : tie.Need-enum-told-2
 enum-told-2 c = search needs
 
-element-copy-out-end-block : tie.Need-element-copy-out-end-block
-element-copy-out-end-block c = search needs
+load-requires : tie.Need-load-requires
+load-requires c κs = search needs
 
 end-block-requires : tie.Need-end-block-requires
 end-block-requires c κs = search needs
@@ -34,7 +34,7 @@ returns c = rw (c .enum-told .given .1)
 
 returns-2 : tie.Need-returns-2
 unfolding finished
-returns-2 c = rw (c .with-ended .ensures, c .before .end-block .ensures, c .before .before .before .enum-told2 .given .1)
+returns-2 c = rw (c .with-ended .ensures, c .before .end-block .ensures, c .before .before .load .ensures, c .before .before .before .enum-told2 .given .1)
 
 returns-3 : tie.Need-returns-3
 unfolding finished
@@ -46,7 +46,7 @@ end-copy-spec =
     (tie.spec
     enum-told
     enum-told-2
-    element-copy-out-end-block
+    load-requires
     end-block-requires
     with-ended-requires
     enum-told-3

@@ -1,7 +1,7 @@
 -- The smaller of two, by the test.
 use borrow.Author.Needs.{needs}
-use Rattle.registers.proofs.transfers.landing.Statement.{statement}
-use Rattle.registers.proofs.transfers.landing.Tie as tie
+use Rattle.copies.proofs.landing.Statement.{statement}
+use Rattle.copies.proofs.landing.Tie as tie
 
 sub-room : tie.Need-sub-room
 sub-room c = search needs

@@ -1,9 +1,9 @@
 -- By the page.
-use Rattle.registers.specs.Transfers.{oamCopy}
+use Rattle.copies.specs.Copies.{oamCopy}
 use Rattle.rules.proofs.Tests.{tests}
 use borrow.Author.Needs.{needs}
-use Rattle.registers.proofs.transfers.oam_copy.Statement.{statement}
-use Rattle.registers.proofs.transfers.oam_copy.Tie as tie
+use Rattle.copies.proofs.oam_copy.Statement.{statement}
+use Rattle.copies.proofs.oam_copy.Tie as tie
 
 no-copy-requires : tie.Need-no-copy-requires
 no-copy-requires c κs = search needs

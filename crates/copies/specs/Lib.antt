@@ -1,0 +1,2 @@
+pub mod PanDocs
+pub mod Copies
