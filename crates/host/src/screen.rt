@@ -1,6 +1,5 @@
 // What a host that draws takes from an image and sets in it: the screen's numbers, the colours, OAM.
 use entry::HostNumber;
-use quick_state::screen;
 ghost use mathlib.Core.Path.{_≡_};
 ghost use Rattle.entry.specs.Entry.{changed};
 ghost use Rattle.entry.specs.declared.HostNumber.the-variants.{Disabled, Line, Signal, Mode, Delay, Counter, Aux, Window};
@@ -29,7 +28,7 @@ pub extern "C" fn pouch_host_numbers(
 ) -> u8
     ensures { λ r. ⌜ shown r (now (disabled .exit)) (now (line .exit)) (now (signal .exit)) (now (mode .exit)) (now (delay .exit)) (now (counter .exit)) (now (aux .exit)) (now (window .exit)) ≡ numbersEntry (now (image .entry)) ⌝ }
 {
-    let shown = screen::host_numbers(image);
+    let shown = quick_screen::host_numbers(image);
     let lcd = shown.lcd;
     *disabled = bit(lcd.disabled);
     *line = lcd.line;
@@ -76,7 +75,7 @@ pub extern "C" fn pouch_colors(image: &[u8], colors: &mut [u8]) -> u8
 pub extern "C" fn pouch_oam(image: &[u8], oam: &mut [u8]) -> u8
     ensures { λ r. ⌜ stored r (now (oam .exit)) ≡ oamEntry (now (image .entry)) (now (oam .entry)) ⌝ }
 {
-    screen::oam(image, oam)
+    quick_screen::oam(image, oam)
 }
 
 // One of the eight numbers, the others as they stand.
@@ -85,54 +84,54 @@ pub extern "C" fn pouch_oam(image: &[u8], oam: &mut [u8]) -> u8
 pub extern "C" fn pouch_set_screen_disabled(image: &mut [u8], disabled: bool) -> u8
     ensures { λ r. ⌜ changed r (now (image .exit)) ≡ setEntry (now (image .entry)) (Disabled disabled) ⌝ }
 {
-    screen::set(image, HostNumber::Disabled(disabled))
+    quick_screen::set(image, HostNumber::Disabled(disabled))
 }
 
 #[no_mangle]
 pub extern "C" fn pouch_set_scan_line(image: &mut [u8], line: u8) -> u8
     ensures { λ r. ⌜ changed r (now (image .exit)) ≡ setEntry (now (image .entry)) (Line line) ⌝ }
 {
-    screen::set(image, HostNumber::Line(line))
+    quick_screen::set(image, HostNumber::Line(line))
 }
 
 #[no_mangle]
 pub extern "C" fn pouch_set_irq48_signal(image: &mut [u8], signal: u8) -> u8
     ensures { λ r. ⌜ changed r (now (image .exit)) ≡ setEntry (now (image .entry)) (Signal signal) ⌝ }
 {
-    screen::set(image, HostNumber::Signal(signal))
+    quick_screen::set(image, HostNumber::Signal(signal))
 }
 
 #[no_mangle]
 pub extern "C" fn pouch_set_lcd_status_mode(image: &mut [u8], mode: u8) -> u8
     ensures { λ r. ⌜ changed r (now (image .exit)) ≡ setEntry (now (image .entry)) (Mode mode) ⌝ }
 {
-    screen::set(image, HostNumber::Mode(mode))
+    quick_screen::set(image, HostNumber::Mode(mode))
 }
 
 #[no_mangle]
 pub extern "C" fn pouch_set_screen_enable_delay_cycles(image: &mut [u8], delay: i32) -> u8
     ensures { λ r. ⌜ changed r (now (image .exit)) ≡ setEntry (now (image .entry)) (Delay delay) ⌝ }
 {
-    screen::set(image, HostNumber::Delay(delay))
+    quick_screen::set(image, HostNumber::Delay(delay))
 }
 
 #[no_mangle]
 pub extern "C" fn pouch_set_cycles_counter(image: &mut [u8], counter: i32) -> u8
     ensures { λ r. ⌜ changed r (now (image .exit)) ≡ setEntry (now (image .entry)) (Counter counter) ⌝ }
 {
-    screen::set(image, HostNumber::Counter(counter))
+    quick_screen::set(image, HostNumber::Counter(counter))
 }
 
 #[no_mangle]
 pub extern "C" fn pouch_set_aux_cycles_counter(image: &mut [u8], aux: i32) -> u8
     ensures { λ r. ⌜ changed r (now (image .exit)) ≡ setEntry (now (image .entry)) (Aux aux) ⌝ }
 {
-    screen::set(image, HostNumber::Aux(aux))
+    quick_screen::set(image, HostNumber::Aux(aux))
 }
 
 #[no_mangle]
 pub extern "C" fn pouch_set_window_line(image: &mut [u8], window: i32) -> u8
     ensures { λ r. ⌜ changed r (now (image .exit)) ≡ setEntry (now (image .entry)) (Window window) ⌝ }
 {
-    screen::set(image, HostNumber::Window(window))
+    quick_screen::set(image, HostNumber::Window(window))
 }

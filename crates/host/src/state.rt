@@ -10,7 +10,6 @@ use quick_state::fields;
 use quick_state::input;
 use quick_state::interrupts;
 use quick_state::page;
-use quick_state::screen;
 
 // Raw: the page, FF00..FFFF.
 #[no_mangle]
@@ -58,56 +57,56 @@ pub extern "C" fn pouch_are_direction_keys_enabled(image: &[u8], value: &mut u16
 pub extern "C" fn pouch_do_lcd_control_write(image: &mut [u8], byte: u8) -> u8
     ensures { λ r. ⌜ changed r (now (image .exit)) ≡ stateEntry (now (image .entry)) (DoLcdControlWrite byte) ⌝ }
 {
-    screen::do_lcd_control_write(image, byte)
+    quick_screen::do_lcd_control_write(image, byte)
 }
 
 #[no_mangle]
 pub extern "C" fn pouch_do_lcd_status_write(image: &mut [u8], byte: u8) -> u8
     ensures { λ r. ⌜ changed r (now (image .exit)) ≡ stateEntry (now (image .entry)) (DoLcdStatusWrite byte) ⌝ }
 {
-    screen::do_lcd_status_write(image, byte)
+    quick_screen::do_lcd_status_write(image, byte)
 }
 
 #[no_mangle]
 pub extern "C" fn pouch_do_scanline_write(image: &mut [u8], byte: u8) -> u8
     ensures { λ r. ⌜ changed r (now (image .exit)) ≡ stateEntry (now (image .entry)) (DoScanlineWrite byte) ⌝ }
 {
-    screen::do_scanline_write(image, byte)
+    quick_screen::do_scanline_write(image, byte)
 }
 
 #[no_mangle]
 pub extern "C" fn pouch_do_lyc_write(image: &mut [u8], byte: u8) -> u8
     ensures { λ r. ⌜ changed r (now (image .exit)) ≡ stateEntry (now (image .entry)) (DoLycWrite byte) ⌝ }
 {
-    screen::do_lyc_write(image, byte)
+    quick_screen::do_lyc_write(image, byte)
 }
 
 #[no_mangle]
 pub extern "C" fn pouch_compare_ly_to_lyc(image: &mut [u8]) -> u8
     ensures { λ r. ⌜ changed r (now (image .exit)) ≡ stateEntry (now (image .entry)) CompareLyToLyc ⌝ }
 {
-    screen::compare_ly_to_lyc(image)
+    quick_screen::compare_ly_to_lyc(image)
 }
 
 #[no_mangle]
 pub extern "C" fn pouch_enable_screen(image: &mut [u8]) -> u8
     ensures { λ r. ⌜ changed r (now (image .exit)) ≡ stateEntry (now (image .entry)) EnableScreen ⌝ }
 {
-    screen::enable_screen(image)
+    quick_screen::enable_screen(image)
 }
 
 #[no_mangle]
 pub extern "C" fn pouch_disable_screen(image: &mut [u8]) -> u8
     ensures { λ r. ⌜ changed r (now (image .exit)) ≡ stateEntry (now (image .entry)) DisableScreen ⌝ }
 {
-    screen::disable_screen(image)
+    quick_screen::disable_screen(image)
 }
 
 #[no_mangle]
 pub extern "C" fn pouch_reset_window_line(image: &mut [u8]) -> u8
     ensures { λ r. ⌜ changed r (now (image .exit)) ≡ stateEntry (now (image .entry)) ResetWindowLine ⌝ }
 {
-    screen::reset_window_line(image)
+    quick_screen::reset_window_line(image)
 }
 
 // The interrupt that is served first, by its bit; 5 for none.
@@ -216,5 +215,5 @@ pub extern "C" fn pouch_host(
         aux: aux,
         window: window,
     };
-    screen::host(image, lcd)
+    quick_screen::host(image, lcd)
 }

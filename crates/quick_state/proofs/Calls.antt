@@ -1,5 +1,5 @@
--- A call on the state made on the image itself. Its number refuses an image that is not taken; the state of one that is taken is in range, so that the call is
--- refused by its own number alone; and where none is due, the image of the call's next state is the entry's (`state-done`, `own-done`).
+-- Calls that have a number of their own to refuse by, or a value to give: a byte of the page, a button, an interrupt, the timer. What they share with all calls
+-- on an image stands in crate entry (proofs/Held.antt).
 use mathlib.Core.Bool.{Bool, true, false, cond}
 use mathlib.Core.List.{List}
 use mathlib.Core.Path.{_≡_, refl, sym, ap, _∙_}
@@ -7,12 +7,12 @@ use Prim.Native.Nat.{ℕ, _%_, _<_, _≤_}
 use native.Mathlib.Omega.{arith}
 use lib.Dec.{leb, ltb}
 use borrow.Author.Tests.{ne-eqb}
-use Rattle.dispatch.specs.Step.{stateStep, performed, performedDone, performedFlag, flagNumber, pendingNumber}
+use Rattle.dispatch.specs.Step.{stateStep, performed, performedDone, pendingNumber}
 use Rattle.dispatch.specs.declared.StateCall.{StateCall}
 use Rattle.dispatch.specs.declared.StateCall.the-variants as on
-use Rattle.entry.proofs.Entries.{unloaded-state, unloaded-ask, asked, refused-state, done-state}
+use Rattle.entry.proofs.Entries.{asked}
+use Rattle.entry.proofs.Held.{passes, state-done, own-refused, own-done}
 use Rattle.entry.specs.Entry.{Given, changed, stateEntry, given, askEntry}
-use Rattle.image.proofs.OpenLaws.{load-range}
 use Rattle.image.specs.Layout.{imageOf}
 use Rattle.image.specs.Load.{loadCall}
 use Rattle.in_place.proofs.Images.{state}
@@ -31,25 +31,11 @@ use Rattle.joypad.specs.declared.buttons.Button.{Button}
 use Rattle.joypad.specs.declared.buttons.Named.{Named}
 use Rattle.joypad.specs.declared.buttons.Named.the-variants as button
 use Rattle.memory.specs.declared.Memory.{Memory}
-use Rattle.packing.specs.Packing.{Below}
 use Rattle.refusals.specs.Answers as answer
-use Rattle.refusals.specs.Refusal.{orElse, stateRefused, refusedState, rawRefused, cyclesRefused}
+use Rattle.refusals.specs.Refusal.{orElse, rawRefused, cyclesRefused}
 use Rattle.registers.specs.State.{loaded, timerOf, withTimer, withController}
 use Rattle.state_calls.specs.State.{onInterrupt}
 use Rattle.timer.specs.Timer.{updated}
-
--- By the image's number
-
-module _ (i : List ℕ) {n : ℕ} (e : n ≡ loadCall i .number) where
-  pub taken : n ≡ 0 → Below 256 i → Held i
-  taken z below = (below, sym e ∙ z)
-
-  module _ (h : n ≡ 0 → ⊥) where
-    pub closed-state : (c : StateCall) → changed n i ≡ stateEntry i c
-    closed-state c = rw e (unloaded-state i {d = loadCall i} refl (λ k. h (e ∙ k)) c)
-
-    pub closed-ask : (c : StateCall) {r : Given} → r ≡ given n 0 → r ≡ askEntry i c
-    closed-ask c f = f ∙ rw e (unloaded-ask i {d = loadCall i} refl (λ k. h (e ∙ k)) c)
 
 -- the numbers by which a call itself refuses are those of a refusal
 
@@ -78,50 +64,17 @@ module _ {k : ℕ} (h : k ≡ 0 → ⊥) where
   button-due f c button.None e = rw e (omega arith)
 
 module _ (i : List ℕ) (h : Held i) where
-  passes : refusedState (state i h) ≡ 0
-  unfolding stateRefused
-  passes = rw (load-range i (h .1) (h .0))
-
-  module _ (c : StateCall) where
-    -- A call that the state alone could refuse
-
-    pub state-done : (m : Memory) → performedDone (answer.changed (refusedState (state i h)) (state i h) m) ≡ stateStep (state i h) c
-        → {j : List ℕ} → j ≡ imageOf m → changed 0 j ≡ stateEntry i c
-    unfolding answer.changed
-    state-done m s g = done-state i {d = loadCall i} refl (h .1) c {p = performed 0 0 m} (rw (← s, passes)) (omega arith) g
-
-    pub flag-asked : {b : Bool} → performedFlag (state i h) (answer.flagGiven (refusedState (state i h)) b) ≡ stateStep (state i h) c
-        → {a : Bool} → a ≡ b → {r : Given} → r ≡ given 0 (flagNumber a) → r ≡ askEntry i c
-    unfolding answer.flagGiven
-    flag-asked {b} s e f =
-        f ∙ ap (λ (x : Bool). given 0 (flagNumber x)) e
-        ∙ asked i {d = loadCall i} refl (h .1) c {p = performed 0 (flagNumber b) (state i h)} (rw (← s, passes))
-
-    -- One that has a number of its own
-
-    module _ {n : ℕ} (m : Memory) (s : performedDone (answer.changed (orElse (refusedState (state i h)) n) (state i h) m) ≡ stateStep (state i h) c) {k : ℕ} (e : k ≡ n) where
-      pub own-refused : 1 < k → changed k i ≡ stateEntry i c
-      unfolding answer.changed orElse
-      own-refused l =
-          refused-state i {d = loadCall i} refl (h .1) c {p = performed k 0 (state i h)}
-          (rw (← s, passes, ← e, ne-eqb k 0 (λ z. omega (arith, z, l)))) l
-
-      pub own-done : k ≡ 0 → {j : List ℕ} → j ≡ imageOf m → changed 0 j ≡ stateEntry i c
-      unfolding answer.changed orElse
-      own-done z g =
-          done-state i {d = loadCall i} refl (h .1) c {p = performed 0 0 m} (rw (← s, passes, ← e, z)) (omega arith) g
-
   -- a byte of the page, raw
   module _ (x : ℕ) {k : ℕ} (e : k ≡ rawRefused x) where
     pub load-refused : (k ≡ 0 → ⊥) → {r : Given} → r ≡ given k 0 → r ≡ askEntry i (on.Load x)
     unfolding stateStep answer.byteGiven orElse
     load-refused z f =
-        f ∙ asked i {d = loadCall i} refl (h .1) (on.Load x) {p = performed k 0 (state i h)} (rw (passes, ← e, ne-eqb k 0 z))
+        f ∙ asked i {d = loadCall i} refl (h .1) (on.Load x) {p = performed k 0 (state i h)} (rw (passes i h, ← e, ne-eqb k 0 z))
 
     pub load-given : k ≡ 0 → {v : ℕ} → v ≡ loaded (state i h) (x % 256) → given 0 v ≡ askEntry i (on.Load x)
     unfolding stateStep answer.byteGiven orElse
     load-given z {v} g =
-        asked i {d = loadCall i} refl (h .1) (on.Load x) {p = performed 0 v (state i h)} (rw (passes, ← e, z, ← g))
+        asked i {d = loadCall i} refl (h .1) (on.Load x) {p = performed 0 v (state i h)} (rw (passes i h, ← e, z, ← g))
 
   -- a button
   module _ (c : StateCall) (f : Controller → Button → Controller) {k : Controller} (x : Named)
@@ -134,10 +87,10 @@ module _ (i : List ℕ) (h : Held i) where
     number = ap (λ (q : Pressed). q .number) same
 
     pub button-refused : (p .number ≡ 0 → ⊥) → changed (p .number) i ≡ stateEntry i c
-    button-refused z = own-refused c _ s number (button-due z f (state i h .core .joypad) x number)
+    button-refused z = own-refused i h c _ s number (button-due z f (state i h .core .joypad) x number)
 
     pub button-done : p .number ≡ 0 → {j : List ℕ} → j ≡ imageOf (withController (state i h) (p .controller)) → changed 0 j ≡ stateEntry i c
-    button-done z g = own-done c _ s number z (g ∙ ap (λ (q : Pressed). imageOf (withController (state i h) (q .controller))) same)
+    button-done z g = own-done i h c _ s number z (g ∙ ap (λ (q : Pressed). imageOf (withController (state i h) (q .controller))) same)
 
   -- Interrupts: which is served first; a request and a removal, each by what it makes of the state
 
@@ -145,22 +98,22 @@ module _ (i : List ℕ) (h : Held i) where
       → given 0 v ≡ askEntry i on.GetInterrupts
   unfolding stateStep answer.waitingGiven
   pending-given {p} e {v} f =
-      asked i {d = loadCall i} refl (h .1) on.GetInterrupts {p = performed 0 v (state i h)} (rw (passes, ← e, f))
+      asked i {d = loadCall i} refl (h .1) on.GetInterrupts {p = performed 0 v (state i h)} (rw (passes i h, ← e, f))
 
   module _ (f : Memory → Interrupt → Memory) (n : ℕ) (c : StateCall) (s : performedDone (onInterrupt (state i h) f (named n)) ≡ stateStep (state i h) c)
       {p : Pending} (e : p ≡ named n) where
     pub unnamed : p ≡ None → changed 7 i ≡ stateEntry i c
-    unnamed z = own-refused c (state i h) (ap (λ (x : Pending). performedDone (onInterrupt (state i h) f x)) (sym z ∙ e) ∙ s) refl (omega arith)
+    unnamed z = own-refused i h c (state i h) (ap (λ (x : Pending). performedDone (onInterrupt (state i h) f x)) (sym z ∙ e) ∙ s) refl (omega arith)
 
     pub flagged : {k : Interrupt} → p ≡ Some k → {j : List ℕ} → j ≡ imageOf (f (state i h) k) → changed 0 j ≡ stateEntry i c
-    flagged {k} z g = state-done c (f (state i h) k) (ap (λ (x : Pending). performedDone (onInterrupt (state i h) f x)) (sym z ∙ e) ∙ s) g
+    flagged {k} z g = state-done i h c (f (state i h) k) (ap (λ (x : Pending). performedDone (onInterrupt (state i h) f x)) (sym z ∙ e) ∙ s) g
 
   -- The timer
 
   module _ (n : ℕ) {k : ℕ} (e : k ≡ cyclesRefused n) where
     pub timer-refused : (k ≡ 0 → ⊥) → changed k i ≡ stateEntry i (on.UpdateTimer n)
     unfolding stateStep
-    timer-refused z = own-refused (on.UpdateTimer n) _ refl e (cycles-due z n e)
+    timer-refused z = own-refused i h (on.UpdateTimer n) _ refl e (cycles-due z n e)
 
     module _ (z : k ≡ 0) where
       pub cycles-below : n ≤ 65536
@@ -168,4 +121,4 @@ module _ (i : List ℕ) (h : Held i) where
 
       pub timer-done : {j : List ℕ} → j ≡ imageOf (withTimer (state i h) (updated (timerOf (state i h)) n)) → changed 0 j ≡ stateEntry i (on.UpdateTimer n)
       unfolding stateStep
-      timer-done g = own-done (on.UpdateTimer n) _ refl e z g
+      timer-done g = own-done i h (on.UpdateTimer n) _ refl e z g

@@ -1,28 +1,25 @@
--- The log's use, HDMA's flag, the cycles left and the screen's numbers: fields of the state that was loaded, and the image with the use put.
+-- The log's use, HDMA's flag and the cycles left: fields of the state that was loaded, and the image with the use put.
 use mathlib.Core.Bool.{Bool, true, false, not}
 use mathlib.Core.List.{List}
 use mathlib.Core.Path.{_≡_, refl, ap, _∙_}
 use Prim.Native.Nat.{ℕ}
 use lib.Dec.{eqb}
-use lib.IntN.{pos}
 use borrow.Author.Tests.{ne-eqb, eqb-true, eqb-false}
 use Rattle.dispatch.specs.Step.{stateStep, flagNumber}
 use Rattle.dispatch.specs.declared.StateCall.the-variants as on
 use Rattle.entry.proofs.Entries.{unloaded-state}
 use Rattle.entry.proofs.Laws.{used-storable}
 use Rattle.entry.specs.Entry.{Changed, Given, changed, stateEntry, given, askEntry, usedEntry}
-use Rattle.entry.specs.Host.{shownOf, numbersEntry, overflowEntry, useEntry}
+use Rattle.entry.specs.Host.{overflowEntry, useEntry}
 use Rattle.hdma.specs.declared.Hdma.{Hdma}
 use Rattle.image.proofs.LoadedPatches.{loaded-used}
 use Rattle.image.proofs.OpenLaws.{load-refused}
 use Rattle.image.specs.Layout.{imageOf, usedField}
-use Rattle.image.specs.Load.{at, lcdOf, hdmaOf, loaded, loadCall}
+use Rattle.image.specs.Load.{at, hdmaOf, loaded, loadCall}
 use Rattle.image.specs.Patches.{fields, usedPut}
 use Rattle.image.specs.declared.Loaded.{Loaded}
 use Rattle.in_place.proofs.Images.{state, held, core}
 use Rattle.in_place.specs.Held.{Held}
-use Rattle.lcd.specs.Lcd.{numbersOf}
-use Rattle.lcd.specs.declared.Lcd.{Lcd}
 use Rattle.memory.specs.Start.{zeroed}
 use Rattle.memory.specs.World.{withUsed}
 use Rattle.memory.specs.declared.Core.{Core}
@@ -31,7 +28,7 @@ use Rattle.registers.specs.State.{timerOf}
 use Rattle.rules.proofs.Tests.{by-cond, denied, granted}
 use Rattle.savelog.specs.Log.{logLimit, useInRange, clearedUse}
 use Rattle.timer.specs.Overflow.{leftOf}
-use Rattle.quick_state.proofs.Calls.{flag-asked, state-done}
+use Rattle.entry.proofs.Held.{flag-asked, state-done}
 
 -- an image that is refused: its state is the all-zero one
 module _ (i : List ℕ) {n : ℕ} (e : n ≡ loadCall i .number) (h : n ≡ 0 → ⊥) where
@@ -41,11 +38,6 @@ module _ (i : List ℕ) {n : ℕ} (e : n ≡ loadCall i .number) (h : n ≡ 0 �
   pub closed-used : {r : Given} → r ≡ given n 0 → r ≡ usedEntry i
   unfolding zeroed
   closed-used f = f ∙ ap (λ (x : ℕ). given x 0) e ∙ ap (λ (d : Loaded). given (d .number) (d .state .core .used)) zero-state
-
-  pub closed-numbers : {l : Lcd} → l ≡ numbersOf false 0 0 0 (pos 0) (pos 0) (pos 0) (pos 0) → shownOf n l ≡ numbersEntry i
-  unfolding zeroed
-  closed-numbers f =
-      ap (shownOf n) f ∙ ap (λ (x : ℕ). shownOf x (zeroed .core .lcd)) e ∙ ap (λ (d : Loaded). shownOf (d .number) (d .state .core .lcd)) zero-state
 
   pub closed-overflow : {r : Given} → r ≡ given n 0 → r ≡ overflowEntry i
   unfolding overflowEntry
@@ -67,9 +59,6 @@ module _ (i : List ℕ) (h : Held i) where
   pub overflow-given : {v : ℕ} → v ≡ leftOf (timerOf (state i h)) → given 0 v ≡ overflowEntry i
   unfolding overflowEntry
   overflow-given e = rw (h .1) (ap (given 0) e)
-
-  pub numbers-given : {l : Lcd} → l ≡ lcdOf (fields i) → shownOf 0 l ≡ numbersEntry i
-  numbers-given e = rw (e ∙ ap (λ (k : Core). k .lcd) (core i h), h .1)
 
   -- the log's use set; to clear the log is to set it to 0
   pub use-set : (u : ℕ) {t : Bool} → t ≡ useInRange u logLimit → not t ≡ false → {j : List ℕ} → j ≡ usedPut i u → changed 0 j ≡ useEntry i u

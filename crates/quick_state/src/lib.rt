@@ -1,7 +1,7 @@
 // Calls on the state alone, on the image itself (crate in_place), which take and put no more of it than they need. Each is what crate entry makes of it:
 // decode, call, encode. None has a `requires`: an image that is not taken is refused by its number, then what the call itself refuses.
-// The timer's, the joypad's and the interrupts' calls, and those that set one number of the screen, ask for that number in two (`image::mapper_number`,
-// `image::rest_number`), each put in place.
+// The timer's, the joypad's and the interrupts' calls ask for that number in two (`image::mapper_number`, `image::rest_number`), each put in place.
+// The screen's calls are in crate quick_screen.
 use entry::Given;
 ghost use mathlib.Core.Path.{_≡_};
 ghost use Rattle.dispatch.specs.Step.{flagNumber};
@@ -12,7 +12,6 @@ pub mod fields;
 pub mod input;
 pub mod interrupts;
 pub mod page;
-pub mod screen;
 
 // A refused question gives 0.
 fn refused(number: u8) -> Given

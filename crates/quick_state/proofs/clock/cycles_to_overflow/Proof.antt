@@ -1,6 +1,6 @@
 -- The image, then what it has left.
 use mathlib.Core.Path.{refl}
-use Rattle.quick_state.proofs.Calls.{taken}
+use Rattle.entry.proofs.Held.{taken}
 use Rattle.quick_state.proofs.Parts.{closed-overflow, overflow-given}
 use borrow.Author.Needs.{needs}
 use Rattle.quick_state.proofs.clock.cycles_to_overflow.Statement.{statement}

@@ -1,5 +1,6 @@
 -- The image, the cycles, then the call on it.
-use Rattle.quick_state.proofs.Calls.{taken, closed-state, timer-refused, cycles-below, timer-done}
+use Rattle.entry.proofs.Held.{taken, closed-state}
+use Rattle.quick_state.proofs.Calls.{timer-refused, cycles-below, timer-done}
 use borrow.Author.Needs.{needs}
 use Rattle.quick_state.proofs.clock.update_timer.Statement.{statement}
 use Rattle.quick_state.proofs.clock.update_timer.Tie as tie

@@ -1,6 +1,6 @@
 -- The image, then its field.
 use Rattle.in_place.proofs.Images.{size}
-use Rattle.quick_state.proofs.Calls.{taken, closed-ask}
+use Rattle.entry.proofs.Held.{taken, closed-ask}
 use Rattle.quick_state.proofs.Parts.{hdma-asked}
 use borrow.Author.Needs.{needs}
 use Rattle.quick_state.proofs.fields.is_hdma_enabled.Statement.{statement}

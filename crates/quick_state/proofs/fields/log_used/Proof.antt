@@ -1,6 +1,6 @@
 -- The image, then its field.
 use Rattle.in_place.proofs.Images.{size}
-use Rattle.quick_state.proofs.Calls.{taken}
+use Rattle.entry.proofs.Held.{taken}
 use Rattle.quick_state.proofs.Parts.{closed-used, used-given}
 use borrow.Author.Needs.{needs}
 use Rattle.quick_state.proofs.fields.log_used.Statement.{statement}

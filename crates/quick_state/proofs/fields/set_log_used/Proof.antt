@@ -1,6 +1,6 @@
 -- The image, the use, then the use put.
 use Rattle.in_place.proofs.Images.{size}
-use Rattle.quick_state.proofs.Calls.{taken}
+use Rattle.entry.proofs.Held.{taken}
 use Rattle.quick_state.proofs.Parts.{closed-use, use-refused, use-set}
 use borrow.Author.Needs.{needs}
 use Rattle.quick_state.proofs.fields.set_log_used.Statement.{statement}

@@ -1,7 +1,7 @@
 -- The image, then the question.
 use mathlib.Core.Path.{refl}
 use Rattle.dispatch.specs.Step.{stateStep}
-use Rattle.quick_state.proofs.Calls.{taken, closed-ask, flag-asked}
+use Rattle.entry.proofs.Held.{taken, closed-ask, flag-asked}
 use borrow.Author.Needs.{needs}
 use Rattle.quick_state.proofs.input.are_action_keys_enabled.Statement.{statement}
 use Rattle.quick_state.proofs.input.are_action_keys_enabled.Tie as tie

@@ -2,7 +2,8 @@
 use mathlib.Core.Path.{refl}
 use Rattle.dispatch.specs.Step.{stateStep}
 use Rattle.joypad.specs.Joypad.{named, afterPress}
-use Rattle.quick_state.proofs.Calls.{taken, closed-state, button-refused, button-done}
+use Rattle.entry.proofs.Held.{taken, closed-state}
+use Rattle.quick_state.proofs.Calls.{button-refused, button-done}
 use borrow.Author.Needs.{needs}
 use Rattle.quick_state.proofs.input.press.Statement.{statement}
 use Rattle.quick_state.proofs.input.press.Tie as tie

@@ -1,7 +1,7 @@
 -- The image, then the call on it.
 use mathlib.Core.Path.{refl}
 use Rattle.dispatch.specs.Step.{stateStep}
-use Rattle.quick_state.proofs.Calls.{taken, closed-state, state-done}
+use Rattle.entry.proofs.Held.{taken, closed-state, state-done}
 use borrow.Author.Needs.{needs}
 use Rattle.quick_state.proofs.input.set_joypad_state.Statement.{statement}
 use Rattle.quick_state.proofs.input.set_joypad_state.Tie as tie

@@ -1,5 +1,6 @@
 -- The image, then the question.
-use Rattle.quick_state.proofs.Calls.{taken, closed-ask, pending-given}
+use Rattle.entry.proofs.Held.{taken, closed-ask}
+use Rattle.quick_state.proofs.Calls.{pending-given}
 use borrow.Author.Needs.{needs}
 use Rattle.quick_state.proofs.interrupts.get_interrupts.Statement.{statement}
 use Rattle.quick_state.proofs.interrupts.get_interrupts.Tie as tie

@@ -1,5 +1,6 @@
 -- The image, the index, then the byte.
-use Rattle.quick_state.proofs.Calls.{taken, closed-ask, load-refused, load-given}
+use Rattle.entry.proofs.Held.{taken, closed-ask}
+use Rattle.quick_state.proofs.Calls.{load-refused, load-given}
 use borrow.Author.Needs.{needs}
 use Rattle.quick_state.proofs.page.load.Statement.{statement}
 use Rattle.quick_state.proofs.page.load.Tie as tie

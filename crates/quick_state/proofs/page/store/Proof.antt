@@ -1,7 +1,8 @@
 -- The image, the index, then the byte put.
 use mathlib.Core.Path.{refl}
 use Rattle.dispatch.specs.Step.{stateStep}
-use Rattle.quick_state.proofs.Calls.{taken, closed-state, raw-due, own-refused, own-done}
+use Rattle.entry.proofs.Held.{taken, closed-state, own-refused, own-done}
+use Rattle.quick_state.proofs.Calls.{raw-due}
 use borrow.Author.Needs.{needs}
 use Rattle.quick_state.proofs.page.store.Statement.{statement}
 use Rattle.quick_state.proofs.page.store.Tie as tie
