@@ -1,7 +1,8 @@
 -- From Pan Docs, "Interrupts": FFFF enables, FF0F requests; bit 0 VBlank, 1 LCD, 2 Timer, 3 Serial, 4 Joypad;
--- the lowest bit that is set in both is served first.
+-- the lowest bit that is set in both is served first. FF0F has five bits: the upper three read 1.
 use mathlib.Core.Bool.{Bool, cond, _&&_}
 use Prim.Native.Nat.{ℕ}
+use lib.Bits.{bitOr}
 use Rattle.bit_utils.specs.Bits.{isSet}
 use Rattle.interrupt.specs.declared.Interrupt.{Interrupt}
 use Rattle.interrupt.specs.declared.Interrupt.the-variants.{Vblank, Lcd, Timer, Serial, Joypad}
@@ -26,3 +27,6 @@ firstOf enable flags =
     (cond (waits enable flags Timer) (Some Timer)
     (cond (waits enable flags Serial) (Some Serial)
     (cond (waits enable flags Joypad) (Some Joypad) None))))
+
+abbrev pub flagsRead : ℕ → ℕ
+flagsRead flags = bitOr flags 0xE0

@@ -2,7 +2,7 @@
 // FF0F (flags) and FFFF (enable). Leans on bit_utils.
 ghost use mathlib.Core.Path.{_≡_};
 ghost use Prim.Native.Nat.{_<_};
-ghost use Rattle.interrupt.specs.PanDocs.{bitOf, firstOf};
+ghost use Rattle.interrupt.specs.PanDocs.{bitOf, firstOf, flagsRead};
 ghost use Rattle.interrupt.specs.Flags.{requested, removed, named};
 
 pub enum Interrupt {
@@ -44,6 +44,13 @@ pub fn from_number(n: u8) -> Pending
         4 => Pending::Some(Interrupt::Joypad),
         _ => Pending::None,
     }
+}
+
+// FF0F as it reads: the upper three bits are 1.
+pub fn read(flags: u8) -> u8
+    ensures { λ r. ⌜ r ≡ flagsRead flags ⌝ }
+{
+    flags | 0xE0
 }
 
 // FF0F after a request. The Rust goes through read and write, which keep five bits.

@@ -6,12 +6,13 @@ use Prim.Native.Nat.{ℕ, _-_, _<_, _≤_}
 use lib.Bits.{bitOr}
 use lib.Dec.{eqb, ltb}
 use lib.ListN.{getD}
+use Rattle.interrupt.specs.PanDocs.{flagsRead}
 use Rattle.joypad.specs.Joypad.{padRead}
 use Rattle.lcd.specs.Lcd.{scanlineWritten, lycWritten, controlWritten, statusWritten}
 use Rattle.lcd.specs.declared.Lcd.{Lcd}
 use Rattle.memory.specs.declared.Memory.{Memory}
 use Rattle.registers.specs.Colour.{speedPut, vramBankPut, wramBankPut, backgroundIndexPut, backgroundDataPut, spriteIndexPut, spriteDataPut}
-use Rattle.registers.specs.PanDocs.{flagsOnes, statusOnes, vramBankOnes}
+use Rattle.registers.specs.PanDocs.{statusOnes, vramBankOnes}
 use Rattle.registers.specs.Register.{registerOf, byteAs}
 use Rattle.registers.specs.State.{loaded, stored, onScreen}
 use Rattle.registers.specs.Transfers.{sourceHighPut, sourceLowPut, destinationHighPut, destinationLowPut, startPut}
@@ -39,7 +40,7 @@ shownAs byte cgb line pad sound at =
     (cond (eqb at 0x03) 0xFF
     (cond (eqb at 0x07) (bitOr byte 0xF8)
     (cond (eqb at 0x0E) 0xFF
-    (cond (eqb at 0x0F) (bitOr byte flagsOnes)
+    (cond (eqb at 0x0F) (flagsRead byte)
     (cond (eqb at 0x41) (bitOr byte statusOnes)
     (cond (eqb at 0x44) line
     (cond (eqb at 0x4C) 0xFF

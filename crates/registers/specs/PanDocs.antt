@@ -3,10 +3,7 @@ use Prim.Native.Nat.{ℕ}
 pub use Rattle.selects.specs.PanDocs.{speedOf, vramBankOf}
 unfoldable pub use Rattle.selects.specs.PanDocs.{wramBankOf}
 
--- Bits that read 1: FF0F's upper three ("Interrupts"), FF41's bit 7 ("LCD Status Registers"), FF4F's bits 7..1 ("CGB Registers")
-
-abbrev pub flagsOnes : ℕ
-flagsOnes = 0xE0
+-- Bits that read 1: FF41's bit 7 ("LCD Status Registers"), FF4F's bits 7..1 ("CGB Registers"); FF0F's are crate interrupt's
 
 abbrev pub statusOnes : ℕ
 statusOnes = 0x80

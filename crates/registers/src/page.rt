@@ -80,7 +80,7 @@ pub fn shown_low(byte: u8, pad: u8, at: u8) -> u8
         0x03 => 0xFF,
         0x07 => byte | 0xF8,
         0x0E => 0xFF,
-        0x0F => byte | 0xE0,
+        0x0F => interrupt::read(byte),
         _ => byte,
     }
 }
