@@ -111,8 +111,8 @@ enum pouch_kind {
 #define POUCH_RECORD_LEN 3
 
 /* The version that this header is of, the image's length and a record's, as one number: what pouch_version gives where the library is of the same. */
-#define POUCH_VERSION_MAJOR 0
-#define POUCH_VERSION_MINOR 2
+#define POUCH_VERSION_MAJOR 1
+#define POUCH_VERSION_MINOR 0
 #define POUCH_VERSION_PATCH 0
 #define POUCH_VERSION                                                                                                              \
     ((UINT64_C(65536) * POUCH_VERSION_MAJOR + UINT64_C(256) * POUCH_VERSION_MINOR + POUCH_VERSION_PATCH) << 32 | UINT64_C(256) * POUCH_IMAGE_LEN | \
@@ -210,7 +210,8 @@ uint8_t pouch_write_word(
     uint8_t *image, size_t image_len, const uint8_t *rom, size_t rom_len, uint8_t *vram, size_t vram_len, uint8_t *wram, size_t wram_len, uint8_t *save,
     size_t save_len, uint8_t *log, size_t log_len, const uint8_t *sound, size_t sound_len, uint16_t index, uint16_t word);
 
-/* The transfer of 160 bytes to FE00..FE9F that a write of `page` to FF46 runs: pages 80..DF copy, others do nothing.
+/* The transfer of 160 bytes to FE00..FE9F that a write of `page` to FF46 runs: pages 00..DF copy, those below 80 as the mapper shows
+ * them; others do nothing.
  * 0; 4, 3 image or log's use; 4 another length. */
 uint8_t pouch_do_dma_transfer(
     uint8_t *image, size_t image_len, const uint8_t *rom, size_t rom_len, uint8_t *vram, size_t vram_len, uint8_t *wram, size_t wram_len, uint8_t *save,

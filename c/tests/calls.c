@@ -339,7 +339,7 @@ static void check_version(void)
     IS(POUCH_PATCH_OF(pouch_version()), POUCH_VERSION_PATCH);
     IS(POUCH_IMAGE_LEN_OF(pouch_version()), POUCH_IMAGE_LEN);
     IS(POUCH_RECORD_LEN_OF(pouch_version()), POUCH_RECORD_LEN);
-    IS(pouch_version() == 0x0000020000029903, true);
+    IS(pouch_version() == 0x0001000000029903, true);
 }
 
 /* Each colour at its three bytes: the background's second and the sprites' last, and no others. */
@@ -463,11 +463,45 @@ static void check_cycles_to_overflow(void)
     IS(rd(0xFF0F), 0xE5);
 }
 
+/* OAM DMA from ROM, by each way to it: the bytes of the bank that was selected before, as reads give them; the 96 behind them stay. */
+static void check_sprites_from_rom(void)
+{
+    const struct {
+        uint8_t kind, code, banks, bank;
+    } cartridges[] = {{POUCH_ROM_ONLY, 0, 2, 1}, {POUCH_MBC1, 2, 8, 5}, {POUCH_MBC1, 3, 64, 19}, {POUCH_MBC2, 0, 16, 11}};
+    const uint8_t pages[] = {0x00, 0x3F, 0x40, 0x7F};
+    uint8_t behind[256 - POUCH_OAM_LEN], block[POUCH_OAM_LEN];
+    for (unsigned i = 0; i < sizeof cartridges / sizeof *cartridges; i++) {
+        start(cartridges[i].kind, cartridges[i].banks, cartridges[i].code, i % 2 == 1, 4095);
+        for (size_t at = 0; at < rom.len; at++)
+            rom.at[at] = (uint8_t)(at + at / 256 * 3 + at / POUCH_ROM_BANK_LEN * 7);
+        IS(wr(0x2100, cartridges[i].bank), POUCH_DONE);
+        for (uint16_t at = 0xFEA0; at <= 0xFEFF; at++)
+            IS(wr(at, (uint8_t)~at), POUCH_DONE);
+        memcpy(behind, image.at + POUCH_OAM_LEN, sizeof behind);
+        for (unsigned k = 0; k < 4 * sizeof pages; k++) {
+            uint8_t page = pages[k % 4];
+            size_t from = (size_t)page * 256 + (page < 0x40 ? 0 : (size_t)(cartridges[i].bank - 1) * POUCH_ROM_BANK_LEN);
+            IS(pouch_read_block(READS, (uint16_t)(page * 256), block, sizeof block), POUCH_DONE);
+            IS(memcmp(block, rom.at + from, sizeof block), 0);
+            switch (k / 4) {
+            case 0: IS(wr(0xFF46, page), POUCH_DONE); break;
+            case 1: IS(pouch_do_dma_transfer(WRITES, page), POUCH_DONE); break;
+            case 2: IS(pouch_write_word(WRITES, 0xFF46, (uint16_t)(0xE400 | page)), POUCH_DONE); break;
+            default: IS(pouch_write_word(WRITES, 0xFF45, (uint16_t)(page * 256 | 0x90)), POUCH_DONE);
+            }
+            IS(memcmp(image.at, block, sizeof block), 0);
+            IS(memcmp(image.at + sizeof block, behind, sizeof behind), 0);
+            IS(pouch_write_byte(WRITES, 0xFE00, (uint8_t)~image.at[0]), POUCH_DONE);
+        }
+    }
+}
+
 static void check_transfer_corners(void)
 {
     const struct {
         uint8_t page, first;
-    } pages[] = {{0x7F, 0}, {0x80, 0x21}, {0xDF, 0x43}, {0xE0, 0}};
+    } pages[] = {{0x7F, FILL}, {0x80, 0x21}, {0xDF, 0x43}, {0xE0, 0}};
     for (int i = 0; i < 4; i++)
         for (int by_write = 0; by_write < 2; by_write++) {
             start_mbc1(false);
@@ -595,6 +629,7 @@ int main(void)
     check_speed();
     check_colors();
     check_oam();
+    check_sprites_from_rom();
     check_version();
     check_blocks();
     check_log();

@@ -6,6 +6,7 @@ mod corners;
 mod digest;
 mod drawn;
 mod edges;
+mod excepted;
 mod host;
 mod list;
 

@@ -39,11 +39,11 @@ fn corner_3_timer() {
 
 #[test]
 fn corner_4_oam_transfer() {
-    for (page, copies) in [(0x7F, false), (0x80, true), (0xDF, true), (0xE0, false)] {
+    let in_rom = (rom_byte(0x7F00), rom_byte(0x7F9F));
+    for (page, shown) in [(0x7F, in_rom), (0x80, (0x12, 0x34)), (0xDF, (0x12, 0x34)), (0xE0, (0, 0))] {
         let mut memory = monochrome();
         write(&mut memory, &[(0x8000, 0x12), (0x809F, 0x34), (0xDF00, 0x12), (0xDF9F, 0x34), (0xC000, 0x12), (0xFEA0, 0x78)]);
         write(&mut memory, &[(0xFF46, page)]);
-        let shown = if copies { (0x12, 0x34) } else { (0, 0) };
         assert_eq!((memory.read_byte(0xFE00), memory.read_byte(0xFE9F)), shown, "{page:02X}");
         assert_eq!((memory.read_byte(0xFEA0), memory.read_byte(0xFF46)), (0x78, page));
     }

@@ -1,7 +1,13 @@
--- From Pan Docs: the ends of OAM DMA and of video memory.
-use Prim.Native.Nat.{ℕ}
+-- From Pan Docs: OAM DMA, and the end of video memory.
+use Prim.Native.Nat.{ℕ, _*_}
 
--- OAM DMA Transfer: XX00..XX9F to FE00..FE9F
+-- OAM DMA Transfer: a write of XX, from 00 to DF, copies XX00..XX9F to FE00..FE9F
+abbrev pub oamPages : ℕ
+oamPages = 0xE0
+
+abbrev pub oamSource : ℕ → ℕ
+oamSource page = page * 256
+
 abbrev pub oamBytes : ℕ
 oamBytes = 160
 

@@ -30,21 +30,18 @@ pub fn no_copy() -> Copy
     }
 }
 
-// OAM DMA: pages 80..DF copy 160 bytes, the others none.
+// OAM DMA: pages 00..DF copy 160 bytes, the others none. (The Rust's also leaves out 00..7F.)
 pub fn oam_copy(page: u8) -> Copy
     ensures { λ r. ⌜ (r ≡ oamCopy page) × Bounded r ⌝ }
 {
-    if page < 0x80 {
-        return no_copy();
-    }
-    if 0xE0 <= page {
-        return no_copy();
-    }
-    Copy {
-        source: page as u16 * 256,
-        destination: 0xFE00,
-        count: 160,
-        finish: Finish::Nothing,
+    match page {
+        0x00..=0xDF => Copy {
+            source: page as u16 * 256,
+            destination: 0xFE00,
+            count: 160,
+            finish: Finish::Nothing,
+        },
+        _ => no_copy(),
     }
 }
 

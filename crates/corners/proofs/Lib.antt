@@ -4,3 +4,4 @@ pub mod Starts
 pub mod Opened
 pub mod Rows
 pub mod Zero
+pub mod Sprites

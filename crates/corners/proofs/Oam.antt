@@ -8,26 +8,31 @@ use lib.Dec.{eqb, ltb}
 use lib.ListN.{getD, drop, set}
 use lib.Seq.{getD-drop}
 use borrow.Author.Tests.{lt-ltb, le-ltb, ltb-true, ltb-false, eqb-true}
+use Rattle.mbc.specs.Mbc.{romBank}
+use Rattle.mbc.specs.PanDocs.{romPlace}
 use Rattle.memory.proofs.Regions.{Within, within, region-at}
 use Rattle.memory.specs.Region.{regionOf}
 use Rattle.memory.specs.World.{World, Fixed, withOam}
 use Rattle.memory.specs.declared.region.Region.{Region}
 use Rattle.memory.specs.declared.region.Region.the-variants.{Rom, Vram, Save, Wram, Oam, Page}
 use Rattle.mmu.proofs.Laws.{write-plain}
-use Rattle.mmu.proofs.Places.{read-by, put-by}
+use Rattle.mmu.proofs.Places.{put-by}
+use Rattle.mmu.proofs.Rows.{rom-row, wram-row}
 use Rattle.mmu.specs.Access.{byteIn, readIn, inState, put}
-use Rattle.mmu.specs.PanDocs.{echo, wramAt}
+use Rattle.mmu.specs.PanDocs.{wramAt}
 use Rattle.mmu.specs.Write.{copyBy, transferred, writeAt}
 use Rattle.copies.specs.Copies.{nothing, oamCopy}
+use Rattle.copies.specs.PanDocs.{oamPages}
 use Rattle.registers.specs.Transfers.{copyOf, finished}
 use Rattle.copies.specs.declared.Finish.the-variants.{Nothing}
+use Rattle.rules.proofs.Tests.{by-cond}
 
 -- the first n bytes, each by its place
 unfoldable pub laid : (ℕ → ℕ) → ℕ → List ℕ → List ℕ
 laid f zero o = o
 laid f (suc n) o = set (laid f n o) n (f n)
 
-abbrev inOam : World → List ℕ → World
+abbrev pub inOam : World → List ℕ → World
 inOam w o = inState w (withOam (w .state) o)
 
 -- OAM is not read below E000
@@ -52,7 +57,7 @@ write-oam x w n v h =
     ∙ sym (put-by w i v (region-at Oam i (omega arith, omega arith)) (rw s))
 
 -- what a page holds
-abbrev pageOf : Fixed → World → ℕ → ℕ → ℕ
+abbrev pub pageOf : Fixed → World → ℕ → ℕ → ℕ
 pageOf x w page k = readIn x w (page * 256 + k)
 
 module _ (x : Fixed) (w : World) (page : ℕ) where
@@ -84,76 +89,67 @@ module _ (x : Fixed) (w : World) (page : ℕ) where
   unfolding finished
   all-done high n v h = rw (copy-laid high n h)
 
--- A page of work memory lies in one piece: to find its start once is much less to compute
+-- pages below E0 are copied, the others not
+module _ (x : Fixed) (w : World) (page v : ℕ) where
+  pub transfer-some : page < oamPages → transferred x (writeAt x 1) (oamCopy page) v w ≡ inOam w (laid (pageOf x w page) 160 (w .state .oam))
+  unfolding oamCopy
+  transfer-some h = rw (lt-ltb page oamPages h) (all-done x w page h 160 v (omega arith))
+
+  pub transfer-none : oamPages ≤ page → transferred x (writeAt x 1) (oamCopy page) v w ≡ w
+  unfolding oamCopy
+  transfer-none h = rw (le-ltb page oamPages h) (none-done x w page v)
+
+-- A page of ROM or of work memory stands in a row: to find its start once is much less to compute
 
 laid-same : (f g : ℕ → ℕ) (n : ℕ) (o : List ℕ) → ((k : ℕ) → k < n → f k ≡ g k) → laid f n o ≡ laid g n o
 unfolding laid
 laid-same f g zero o h = refl
 laid-same f g (suc n) o h = rw (laid-same f g n o (λ k l. h k (omega arith)), h n (omega arith))
 
-wram-low : (bank i : ℕ) → i < 0xE000 → wramAt bank i ≡ cond (ltb i 0xD000) (i - 0xC000) (i - 0xD000 + bank * 0x1000)
-unfolding wramAt echo
-wram-low bank i h = rw (lt-ltb i 0xE000 h)
+abbrev romFrom : Fixed → World → ℕ → List ℕ
+romFrom x w page = drop (romPlace (romBank (w .state .core .mapper)) (page * 256)) (x .rom)
 
-wram-page : (bank page n : ℕ) → 0xC0 ≤ page → page < 0xE0 → n < 160 → wramAt bank (page * 256 + n) ≡ wramAt bank (page * 256) + n
-wram-page bank page n low high h =
-    wram-low bank (page * 256 + n) (omega arith)
-    ∙ by-half (ltb (page * 256) 0xD000) refl
-    ∙ ap (λ (k : ℕ). k + n) (sym (wram-low bank (page * 256) (omega arith)))
-  where
-    by-half : (b : Bool) → ltb (page * 256) 0xD000 ≡ b
-        → cond (ltb (page * 256 + n) 0xD000) (page * 256 + n - 0xC000) (page * 256 + n - 0xD000 + bank * 0x1000)
-        ≡ cond b (page * 256 - 0xC000) (page * 256 - 0xD000 + bank * 0x1000) + n
-    by-half true e = rw (lt-ltb (page * 256 + n) 0xD000 (omega (arith, ltb-true (page * 256) 0xD000 e))) (omega arith)
-    by-half false e =
-        let g = ltb-false (page * 256) 0xD000 e in
-        rw (le-ltb (page * 256 + n) 0xD000 (omega arith)) (omega arith)
-
--- work memory from a page on
 abbrev wramFrom : World → ℕ → List ℕ
 wramFrom w page = drop (wramAt (w .state .core .banks .wram) (page * 256)) (w .wram)
 
-wram-read : (x : Fixed) (w : World) (page k : ℕ) → 0xC0 ≤ page → page < 0xE0 → k < 160 → pageOf x w page k ≡ getD (wramFrom w page) k 0
-wram-read x w page k low high h =
-    let i = page * 256 + k in
-    sym (read-by x (w .state) (w .vram) (w .wram) (w .save) i (region-at Wram i (omega arith, omega arith)) refl)
-    ∙ ap (λ (j : ℕ). getD (w .wram) j 0) (wram-page (w .state .core .banks .wram) page k low high h)
-    ∙ sym (getD-drop (wramAt (w .state .core .banks .wram) (page * 256)) (w .wram) k 0)
+module _ (x : Fixed) (w : World) (page k : ℕ) (h : k < 160) where
+  rom-read : page < 0x80 → pageOf x w page k ≡ getD (romFrom x w page) k 0
+  rom-read high =
+      sym (rom-row x (w .state) (w .vram) (w .wram) (w .save) (page * 256) 160 (omega arith) (omega arith) k h)
+      ∙ sym (getD-drop (romPlace (romBank (w .state .core .mapper)) (page * 256)) (x .rom) k 0)
+
+  wram-read : 0xC0 ≤ page → page < 0xE0 → pageOf x w page k ≡ getD (wramFrom w page) k 0
+  wram-read low high =
+      sym (wram-row x (w .state) (w .vram) (w .wram) (w .save) (page * 256) 160 (omega arith) (region-at Wram (page * 256) (omega arith, omega arith)) k h)
+      ∙ sym (getD-drop (wramAt (w .state .core .banks .wram) (page * 256)) (w .wram) k 0)
 
 unfoldable pub oamAfter : Fixed → World → ℕ → List ℕ
 oamAfter x w page =
-    cond (ltb page 0xC0) (laid (pageOf x w page) 160 (w .state .oam))
-    (let l = wramFrom w page in laid (λ k. getD l k 0) 160 (w .state .oam))
+    cond (ltb page 0x80) (let l = romFrom x w page in laid (λ k. getD l k 0) 160 (w .state .oam))
+    (cond (ltb page 0xC0) (laid (pageOf x w page) 160 (w .state .oam))
+    (let l = wramFrom w page in laid (λ k. getD l k 0) 160 (w .state .oam)))
 
 after-laid : (x : Fixed) (w : World) (page : ℕ) → page < 0xE0 → laid (pageOf x w page) 160 (w .state .oam) ≡ oamAfter x w page
 unfolding oamAfter
-after-laid x w page high = by-half (ltb page 0xC0) refl
-  where
-    by-half : (b : Bool) → ltb page 0xC0 ≡ b
-        → laid (pageOf x w page) 160 (w .state .oam)
-        ≡ cond b (laid (pageOf x w page) 160 (w .state .oam)) (laid (λ k. getD (wramFrom w page) k 0) 160 (w .state .oam))
-    by-half true e = refl
-    by-half false e =
-        laid-same (pageOf x w page) (λ k. getD (wramFrom w page) k 0) 160 (w .state .oam)
-        (λ k h. wram-read x w page k (ltb-false page 0xC0 e) high h)
+after-laid x w page high =
+    by-cond (λ (o : List ℕ). laid (pageOf x w page) 160 (w .state .oam) ≡ o) (ltb page 0x80) _ _
+    (λ t.
+    laid-same (pageOf x w page) (λ k. getD (romFrom x w page) k 0) 160 (w .state .oam) (λ k h. rom-read x w page k h (ltb-true page 0x80 t)))
+    (λ f.
+    by-cond (λ (o : List ℕ). laid (pageOf x w page) 160 (w .state .oam) ≡ o) (ltb page 0xC0) _ _ (λ t. refl)
+    (λ g.
+    laid-same (pageOf x w page) (λ k. getD (wramFrom w page) k 0) 160 (w .state .oam) (λ k h. wram-read x w page k h (ltb-false page 0xC0 g) high)))
 
 -- the whole transfer
 unfoldable pub dma : Fixed → World → ℕ → World
-dma x w page = cond (ltb page 0x80) w (cond (ltb page 0xE0) (inOam w (oamAfter x w page)) w)
+dma x w page = cond (ltb page oamPages) (inOam w (oamAfter x w page)) w
 
 transfer-dma : (x : Fixed) (w : World) (page v : ℕ) → transferred x (writeAt x 1) (oamCopy page) v w ≡ dma x w page
-unfolding oamCopy dma
-transfer-dma x w page v = by-page (ltb page 0x80) (ltb page 0xE0) refl
-  where
-    by-page : (a b : Bool) → ltb page 0xE0 ≡ b
-        → transferred x (writeAt x 1)
-        (cond a nothing (cond b (record { source = page * 256; destination = 0xFE00; count = 160; finish = Nothing }) nothing)) v w
-        ≡ cond a w (cond b (inOam w (oamAfter x w page)) w)
-    by-page true b f = none-done x w page v
-    by-page false true f =
-        let h = ltb-true page 0xE0 f in
-        all-done x w page h 160 v (omega arith) ∙ ap (inOam w) (after-laid x w page h)
-    by-page false false f = none-done x w page v
+unfolding dma
+transfer-dma x w page v =
+    by-cond (λ (u : World). transferred x (writeAt x 1) (oamCopy page) v w ≡ u) (ltb page oamPages) _ w
+    (λ t. let h = ltb-true page oamPages t in transfer-some x w page v h ∙ ap (inOam w) (after-laid x w page h))
+    (λ f. transfer-none x w page v (ltb-false page oamPages f))
 
 write-dma : (x : Fixed) (w : World) (v : ℕ) → writeAt x 2 w 0xFF46 v ≡ dma x (put w 0xFF46 v) v
 unfolding writeAt copyOf

@@ -69,7 +69,7 @@ module _ (lent : Lent) where
       also on-both lent romOnly rom-only _ refl refl
       also none
 
-  corner-4 : Every lent corner4
+  corner-4 : Every lent (corner4 lent)
   unfolding opened
   corner-4 =
       on-both lent romOnly rom-only _ refl refl

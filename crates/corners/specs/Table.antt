@@ -129,10 +129,10 @@ corner3 =
     ∷ row 3 either romOnly (counting ++ cycles 272 ∷ reads 0xFF05 0xF0 ∷ [])
     ∷ []
 
--- 4. * DMA page 7F none, 80 copies, DF copies, E0 none.
-abbrev pub corner4 : List Row
-corner4 =
-    row 4 either romOnly (given 0xFE00 0x77 ∷ given 0xFF46 0x7F ∷ oamIs (set (replicate 256 0) 0 0x77) ∷ [])
+-- 4. * DMA page 7F copies (document 02, wish 1), 80 copies, DF copies, E0 none.
+abbrev pub corner4 : Lent → List Row
+corner4 lent =
+    row 4 either romOnly (given 0xFEA0 0x77 ∷ given 0xFF46 0x7F ∷ oamIs (bytes (lent .rom) 0x7F00 160 ++ 0x77 ∷ replicate 95 0) ∷ [])
     ∷ row 4 either romOnly (marked 0x8000 ++ given 0xFF46 0x80 ∷ oamIs copied ∷ [])
     ∷ row 4 either romOnly (marked 0xDF00 ++ given 0xFF46 0xDF ∷ oamIs copied ∷ [])
     ∷ row 4 either romOnly (given 0xFE00 0x77 ∷ marked 0xC000 ++ given 0xFF46 0xE0 ∷ oamIs (set (replicate 256 0) 0 0x77) ∷ [])
@@ -213,7 +213,7 @@ table lent =
     corner1
     ++ corner2
     ++ corner3
-    ++ corner4
+    ++ corner4 lent
     ++ corner5
     ++ corner6
     ++ corner7 lent

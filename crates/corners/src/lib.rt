@@ -1,8 +1,8 @@
 // Document 01's starred corners, as one table with one theorem about the public calls' definitions, and what is promised beside them.
 ghost use Rattle.corners.specs.Table.{Corners};
-ghost use Rattle.corners.specs.Laws.{ZeroRefused, FreshAccepted, Buttons};
+ghost use Rattle.corners.specs.Laws.{ZeroRefused, FreshAccepted, Buttons, Sprites};
 
 // The theorem of specs/Table.antt and the laws of specs/Laws.antt, as a contract: its proof hands them over.
 pub fn corners_hold()
-    ensures { λ _. ⌜ Corners × ZeroRefused × FreshAccepted × Buttons ⌝ }
+    ensures { λ _. ⌜ Corners × ZeroRefused × FreshAccepted × Buttons × Sprites ⌝ }
 {}

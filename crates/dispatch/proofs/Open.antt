@@ -6,11 +6,14 @@ use native.Mathlib.Omega.{arith}
 use lib.Dec.{eqb}
 use lib.ListN.{length}
 use borrow.Author.Tests.{eq-eqb, le-leb}
-use Rattle.memory.specs.Ranges.{inRange}
+use Rattle.bus.proofs.Passes.{write-passes}
+use Rattle.memory.specs.Ranges.{stateInRange, inRange}
 use Rattle.memory.specs.World.{World, Fixed}
 use Rattle.mmu.proofs.Laws.{Stays}
 use Rattle.mmu.specs.Access.{Holds}
 use Rattle.numbers.specs.Numbers.{done, wrongLength}
+use Rattle.refusals.proofs.Answers.{both-pass, state-passes}
+use Rattle.rules.proofs.Tests.{both-true}
 use Rattle.savelog.proofs.Use.{use-parts, use-joins}
 use Rattle.savelog.specs.Log.{width, logLimit, useInRange}
 use Rattle.refusals.specs.Refusal.{
@@ -34,6 +37,15 @@ pub record Good (w : World) : Type 0 where
 
 pub stays-good : (w u : World) → Good w → Stays w u → Good u
 stays-good w u g s = record { holds = s .holds; used = s .used (g .used) }
+
+-- such is one on which no write is refused by 3 or 4
+pub write-good : (x : Fixed) (w : World) → refusedWrite x w ≡ done → Good w
+unfolding writeRefused inRange
+write-good x w e =
+    record {
+      holds = write-passes (x .rom) (x .sound) (w .state) (w .vram) (w .wram) (w .save) (w .log) e .holds;
+      used = both-true (stateInRange (w .state)) _ (state-passes (w .state) (length (w .log)) (both-pass _ _ e .0)) .1;
+    }
 
 pub good-use : {w : World} → Good w → (w .state .core .used % width ≡ 0) × (w .state .core .used ≤ length (w .log))
 good-use {w} g = use-parts (w .state .core .used) (length (w .log)) (g .used)

@@ -5,11 +5,11 @@ use mathlib.Core.Path.{_≡_, refl, sym, ap, _∙_}
 use Prim.Native.Nat.{ℕ}
 use lib.Dec.{eqb}
 use lib.ListN.{length}
-use Rattle.bus.proofs.Passes.{write-passes}
 use Rattle.bus.specs.Calls.{Outcome}
 use Rattle.bus.specs.Fresh.{Begun, freshCall}
 use Rattle.dispatch.proofs.Numbered.{by-unless}
 use Rattle.dispatch.proofs.Starts.{started}
+use Rattle.dispatch.proofs.Open.{write-good}
 use Rattle.dispatch.proofs.States.{Answers, reads, changes, clears, state-answers}
 use Rattle.dispatch.specs.Kinds.{Kind}
 use Rattle.dispatch.specs.Lent.{Lent, start}
@@ -20,20 +20,18 @@ use Rattle.dispatch.specs.declared.Performed.{Performed}
 use Rattle.dispatch.specs.declared.StateCall.{StateCall}
 use Rattle.image.specs.Load.{storable}
 use Rattle.memory.proofs.Laws.{used-range}
-use Rattle.memory.specs.Ranges.{stateInRange, inRange}
 use Rattle.memory.specs.World.{World, Fixed, withUsed}
 use Rattle.memory.specs.declared.Memory.{Memory}
 use Rattle.mmu.proofs.Laws.{write-stays, word-stays, transfer-stays}
-use Rattle.mmu.specs.Access.{Ready}
 use Rattle.put_bytes.proofs.Storable.{parts, joins, stays-storable}
-use Rattle.refusals.proofs.Answers.{both-pass, state-passes}
+use Rattle.refusals.proofs.Answers.{both-pass}
 use Rattle.refusals.specs.Answers.{changed}
-use Rattle.refusals.specs.Refusal.{refusedWrite, refusedState, lentRefused, writeRefused}
+use Rattle.refusals.specs.Refusal.{refusedWrite, refusedState}
 use Rattle.refusals.specs.declared.Done.{Done}
 use Rattle.registers.proofs.Kept.{Kept}
 use Rattle.copies.specs.Copies.{oamCopy}
 use Rattle.registers.specs.Transfers.{blockCopy}
-use Rattle.rules.proofs.Tests.{both-true, by-cond}
+use Rattle.rules.proofs.Tests.{by-cond}
 use Rattle.savelog.proofs.Use.{use-wider}
 use Rattle.savelog.specs.Log.{logLimit, useInRange}
 
@@ -63,14 +61,6 @@ module _ (x : Fixed) (w : World) (h : storable (w .state) ≡ true) where
   abbrev Fine : Outcome → Type 0
   Fine o = storable (o .after .state) ≡ true
 
-  -- what is not refused is ready
-  ready : refusedWrite x w ≡ 0 → Ready x w
-  ready e = write-passes (x .rom) (x .sound) (w .state) (w .vram) (w .wram) (w .save) (w .log) e
-
-  pub in-log : refusedWrite x w ≡ 0 → useInRange (w .state .core .used) (length (w .log)) ≡ true
-  unfolding writeRefused lentRefused inRange
-  in-log e = both-true (stateInRange (w .state)) _ (state-passes (w .state) (length (w .log)) (both-pass _ _ e .0)) .1
-
   pub step-storable : (c : Call) → storable (step x w c .after .state) ≡ true
   unfolding step
   step-storable (call.ReadByte i) = h
@@ -78,14 +68,14 @@ module _ (x : Fixed) (w : World) (h : storable (w .state) ≡ true) where
   step-storable (call.ReadCgbLcdRam i bank) = h
   step-storable (call.WriteByte i v) =
       by-unless Fine _ w _
-      (λ z. let e = both-pass (refusedWrite x w) _ z .0 in stays-storable w (in-log e) _ (write-stays x w (ready e .holds) 2 i v)) (λ f. h)
+      (λ z. let e = both-pass (refusedWrite x w) _ z .0 in stays-storable w (write-good x w e .used) _ (write-stays x w (write-good x w e .holds) 2 i v)) (λ f. h)
   step-storable (call.WriteWord i v) =
       by-unless Fine _ w _
-      (λ z. let e = both-pass (refusedWrite x w) _ z .0 in stays-storable w (in-log e) _ (word-stays x w (ready e .holds) i v)) (λ f. h)
+      (λ z. let e = both-pass (refusedWrite x w) _ z .0 in stays-storable w (write-good x w e .used) _ (word-stays x w (write-good x w e .holds) i v)) (λ f. h)
   step-storable (call.DoDmaTransfer page) =
-      by-unless Fine _ w _ (λ e. stays-storable w (in-log e) _ (transfer-stays x w (ready e .holds) 1 (oamCopy page) 0)) (λ f. h)
+      by-unless Fine _ w _ (λ e. stays-storable w (write-good x w e .used) _ (transfer-stays x w (write-good x w e .holds) 1 (oamCopy page) 0)) (λ f. h)
   step-storable call.DoHdma =
-      by-unless Fine _ w _ (λ e. stays-storable w (in-log e) _ (transfer-stays x w (ready e .holds) 1 (blockCopy (w .state)) 0)) (λ f. h)
+      by-unless Fine _ w _ (λ e. stays-storable w (write-good x w e .used) _ (transfer-stays x w (write-good x w e .holds) 1 (blockCopy (w .state)) 0)) (λ f. h)
   step-storable (call.State c) = state-storable (w .state) c h
 
 -- a fresh bus that was begun

@@ -2,9 +2,9 @@
 ghost use mathlib.Core.Path.{_≡_};
 ghost use Rattle.entry.specs.Host.{versionNumber};
 
-const MAJOR: u64 = 0;
+const MAJOR: u64 = 1;
 
-const MINOR: u64 = 2;
+const MINOR: u64 = 0;
 
 const PATCH: u64 = 0;
 

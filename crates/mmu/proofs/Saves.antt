@@ -16,6 +16,7 @@ use Rattle.memory.specs.declared.region.Region.the-variants.{Rom, Vram, Save, W
 use Rattle.registers.proofs.Kept.{Kept, oam-kept, write-kept, finished-kept}
 use Rattle.registers.proofs.Starts.{by-copy}
 use Rattle.copies.specs.Copies.{oamCopy, nothing}
+use Rattle.copies.specs.PanDocs.{oamPages}
 use Rattle.registers.specs.Transfers.{blockCopy, generalCopy, copyOf, finished}
 use Rattle.copies.specs.declared.Copy.{Copy}
 use Rattle.mmu.specs.Access.{inState, putIn, put}
@@ -59,8 +60,7 @@ none-clear k h = omega arith
 
 pub oam-clear : (page : ℕ) → Clear (oamCopy page)
 unfolding oamCopy
-oam-clear page =
-    cond-both Clear (ltb page 0x80) none-clear (cond-both Clear (ltb page 0xE0) (λ k h a b. omega arith) none-clear)
+oam-clear page = cond-both Clear (ltb page oamPages) (λ k h a b. omega arith) none-clear
 
 destination-most : (h : Hdma) → destinationUsed h ≤ 0x9FF0
 unfolding destinationUsed

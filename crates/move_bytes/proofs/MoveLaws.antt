@@ -8,7 +8,7 @@ use native.Mathlib.Omega.{arith}
 use lib.Dec.{ltb}
 use lib.ListN.{length, take, drop, getD, List·getD-append}
 use lib.Seq.{paste, take-length, getD-take}
-use borrow.Author.Tests.{ltb-true, ltb-false}
+use borrow.Author.Tests.{ltb-true}
 use Rattle.hdma.specs.Hdma.{sourceUsed, destinationUsed, blockEnded, generalEnded}
 use Rattle.hdma.specs.PanDocs.{lengthOf}
 use Rattle.hdma.specs.declared.Ended.{Ended}
@@ -28,6 +28,7 @@ use Rattle.mmu.specs.Write.{copyBy, writeAt}
 use Rattle.packing.specs.Packing.{Below}
 use Rattle.registers.specs.State.{loaded}
 use Rattle.copies.specs.Copies.{nothing, oamCopy}
+use Rattle.copies.specs.PanDocs.{oamPages}
 use Rattle.registers.specs.Transfers.{blockCopy, generalCopy, finished, withEnded}
 use Rattle.copies.specs.declared.Copy.{Copy}
 use Rattle.copies.specs.declared.Finish.the-variants.{Nothing}
@@ -52,20 +53,16 @@ pasted-below i out g b k h =
 
 -- what OAM DMA copies
 oam-cases : (page : ℕ)
-    → (oamCopy page ≡ nothing)
-    ⊎ ((0x80 ≤ page) × (page < 0xE0) × (oamCopy page ≡ record { source = page * 256; destination = 0xFE00; count = 160; finish = Nothing }))
+    → (oamCopy page ≡ nothing) ⊎ ((page < oamPages) × (oamCopy page ≡ record { source = page * 256; destination = 0xFE00; count = 160; finish = Nothing }))
 unfolding oamCopy
 oam-cases page =
-    by-cond (λ (k : Copy). (k ≡ nothing) ⊎ ((0x80 ≤ page) × (page < 0xE0) × (k ≡ record { source = page * 256; destination = 0xFE00; count = 160; finish = Nothing })))
-    (ltb page 0x80) nothing _ (λ t. inl refl)
-    (λ f.
-    by-cond (λ (k : Copy). (k ≡ nothing) ⊎ ((0x80 ≤ page) × (page < 0xE0) × (k ≡ record { source = page * 256; destination = 0xFE00; count = 160; finish = Nothing })))
-    (ltb page 0xE0) _ nothing (λ t. inr (ltb-false page 0x80 f, ltb-true page 0xE0 t, refl)) (λ g. inl refl))
+    by-cond (λ (k : Copy). (k ≡ nothing) ⊎ ((page < oamPages) × (k ≡ record { source = page * 256; destination = 0xFE00; count = 160; finish = Nothing })))
+    (ltb page oamPages) _ nothing (λ t. inr (ltb-true page oamPages t, refl)) (λ f. inl refl)
 
 pub oam-row : (page : ℕ) {k : Copy} → k ≡ oamCopy page → (k .count ≡ 0 → ⊥) → Row (k .source) 160
 oam-row page {k} e h =
     ⊎-elim (λ n. absurd (h (ap (λ (c : Copy). c .count) (e ∙ n))))
-    (λ q. let z : k .source ≡ page * 256 = ap (λ (c : Copy). c .source) (e ∙ q .2) in omega arith) (oam-cases page)
+    (λ q. let z : k .source ≡ page * 256 = ap (λ (c : Copy). c .source) (e ∙ q .1) in omega arith) (oam-cases page)
 
 module _ {x : Fixed} {i : List ℕ} {c : Core} {v w s : List ℕ} (t : Lent x i c v w s) where
   abbrev state : Memory
@@ -86,7 +83,7 @@ module _ {x : Fixed} {i : List ℕ} {c : Core} {v w s : List ℕ} (t : Lent x i 
   unfolding copyBy finished
   oam-none page {k} e z value l =
       ⊎-elim (λ n. rw n (ap (λ (j : List ℕ). left 0 0 j v w s l) (sym lent-image)))
-      (λ q. let y : k .count ≡ 160 = ap (λ (c : Copy). c .count) (e ∙ q .2) in absurd (omega arith)) (oam-cases page)
+      (λ q. let y : k .count ≡ 160 = ap (λ (c : Copy). c .count) (e ∙ q .1) in absurd (omega arith)) (oam-cases page)
 
   from-read : (source : ℕ) (out : List ℕ) (n : ℕ) → length out ≡ n → source + n ≤ 65536 → Read x i v w s source out → (l : List ℕ)
       → From x (worldOf i v w s l) source out n
@@ -101,8 +98,7 @@ module _ {x : Fixed} {i : List ℕ} {c : Core} {v w s : List ℕ} (t : Lent x i 
       ⊎-elim (λ n. absurd (h (ap (λ (c : Copy). c .count) (e ∙ n))))
       (λ q.
       let q₀ = q .0 in
-      let q₁ = q .1 in
-      let z : k .source ≡ page * 256 = ap (λ (c : Copy). c .source) (e ∙ q .2) in
+      let z : k .source ≡ page * 256 = ap (λ (c : Copy). c .source) (e ∙ q .1) in
       let r : Read x i v w s (page * 256) out = subst (λ (p : ℕ). Read x i v w s p out) z f in
       let d = copy-oam x (worldOf i v w s l) (page * 256) out 1 160 (omega arith) (lent-typed .oam .0) (omega arith) (omega arith)
       (from-read (page * 256) out 160 a (omega arith) r l) in
@@ -113,7 +109,7 @@ module _ {x : Fixed} {i : List ℕ} {c : Core} {v w s : List ℕ} (t : Lent x i 
       ap (λ (n : List ℕ). left 0 0 n v w s l) (u ∙ sym (p .image))
       ∙ sym (ap (λ (n : World). leftBy (inState n (n .state))) d)
       ∙ ap (λ (n : Copy). leftBy (inState (copyBy x (writeAt x 1) (n .source) (n .destination) (n .count) (worldOf i v w s l))
-      (finished (copyBy x (writeAt x 1) (n .source) (n .destination) (n .count) (worldOf i v w s l) .state) (n .finish) value))) (sym (q .2)))
+      (finished (copyBy x (writeAt x 1) (n .source) (n .destination) (n .count) (worldOf i v w s l) .state) (n .finish) value))) (sym (q .1)))
       (oam-cases page)
 
   -- Video memory

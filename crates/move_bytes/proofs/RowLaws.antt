@@ -1,27 +1,27 @@
--- Bytes within 256 from a multiple of 256: one region has all of them, and those of video and of work memory stand in a row. Then the byte of an image.
-use mathlib.Core.Bool.{Bool, true, false, cond}
+-- Bytes within 256 from a multiple of 256, of an image and of what is lent with it: those of one region stand in a row (crates/mmu/proofs/Rows.antt).
+use mathlib.Core.Bool.{Bool, true, false}
 use mathlib.Core.List.{List}
 use mathlib.Core.Path.{_≡_, refl, sym, ap, _∙_}
-use Prim.Native.Nat.{ℕ, _+_, _*_, _-_, _%_, _<_, _≤_}
+use Prim.Native.Nat.{ℕ, _+_, _-_, _<_, _≤_}
 use native.Mathlib.Omega.{arith}
-use lib.Dec.{eqb, ltb}
+use lib.Dec.{eqb}
 use lib.ListN.{length, getD, set}
 use lib.Seq.{getD-set-same, getD-set-other}
-use borrow.Author.Tests.{eqb-true, eqb-false, ne-eqb, ltb-true, ltb-false, lt-ltb, le-ltb}
+use borrow.Author.Tests.{eqb-true, eqb-false, ne-eqb, le-ltb}
 use Rattle.image.proofs.OpenLaws.{load-length}
 use Rattle.image.specs.Layout.{imageLen}
 use Rattle.image.specs.Load.{registersIn, loadCall}
 use Rattle.image.specs.Patches.{fields}
-use Rattle.mbc.specs.PanDocs.{romAddress, romPlace}
+use Rattle.mbc.specs.PanDocs.{romPlace}
 use Rattle.memory.proofs.Regions.{within, region-at}
 use Rattle.memory.specs.Region.{regionOf}
 use Rattle.memory.specs.World.{Fixed}
 use Rattle.memory.specs.declared.Core.{Core}
-use Rattle.memory.specs.declared.Memory.{Memory}
 use Rattle.memory.specs.declared.region.Region.the-variants.{Rom, Vram, Wram, Oam, Page}
-use Rattle.mmu.proofs.Places.{ready-reaches, read-by, echo-within, wram-below}
-use Rattle.mmu.specs.Access.{Reaches, readByte}
-use Rattle.mmu.specs.PanDocs.{echo, vramAt, wramAt}
+use Rattle.mmu.proofs.Places.{ready-reaches}
+use Rattle.mmu.proofs.Rows.{vram-row, wram-row, wram-row-fits, rom-place-row}
+use Rattle.mmu.specs.Access.{Reaches}
+use Rattle.mmu.specs.PanDocs.{vramAt, wramAt}
 use Rattle.take_bytes.proofs.ByteLaws.{byte-rom, rom-place-below, byte-oam, byte-page}
 use Rattle.registers.specs.Page.{plainRead, shownAs}
 use Rattle.rules.proofs.Tests.{by-cond}
@@ -47,72 +47,6 @@ filled-more out g i v l f e k h = by-place (eqb k i) refl
 
 pub filled-all : (out : List ℕ) (g : ℕ → ℕ) (i : ℕ) → length out ≤ i → Filled out g i → Filled out g (length out)
 filled-all out g i h f k l = f k (omega arith)
-
--- Video memory
-
-module _ (x : Fixed) (m : Memory) (v w s : List ℕ) (source n : ℕ) (row : Row source n) where
-  module _ (e : regionOf source ≡ Vram) where
-    pub vram-row : (k : ℕ) → k < n → getD v (vramAt (m .core .banks .vram) source + k) 0 ≡ readByte x m v w s (source + k)
-    vram-row k h =
-        let b = within source e in
-        let b₀ = b .0 in
-        let b₁ = b .1 in
-        let p : vramAt (m .core .banks .vram) source + k ≡ vramAt (m .core .banks .vram) (source + k) = omega arith in
-        read-by x m v w s (source + k) (region-at Vram (source + k) (omega arith, omega arith)) (ap (λ (j : ℕ). getD v j 0) p)
-
--- Work memory: neither the banks nor the echo begin within a row
-
-echo-row : (source k : ℕ) → source % 256 + k < 256 → 0xC000 ≤ source → source < 0xFE00 → echo (source + k) ≡ echo source + k
-unfolding echo
-echo-row source k r a b =
-    by-cond (λ (t : ℕ). echo (source + k) ≡ t + k) (ltb source 0xE000) source (source - 0x2000)
-    (λ t. let l = ltb-true source 0xE000 t in rw (lt-ltb (source + k) 0xE000 (omega arith)))
-    (λ f. let l = ltb-false source 0xE000 f in rw (le-ltb (source + k) 0xE000 (omega arith)) (omega arith))
-
-echo-low : (source k : ℕ) → source % 256 + k < 256 → 0xC000 ≤ source → echo source < 0xD000 → echo source + k < 0xD000
-unfolding echo
-echo-low source k r a l =
-    by-cond (λ (t : ℕ). t < 0xD000 → t + k < 0xD000) (ltb source 0xE000) source (source - 0x2000) (λ t g. omega arith)
-    (λ f g. let h = ltb-false source 0xE000 f in omega arith) l
-
-wram-at-row : (bank source k : ℕ) → source % 256 + k < 256 → 0xC000 ≤ source → source < 0xFE00 → wramAt bank (source + k) ≡ wramAt bank source + k
-unfolding wramAt
-wram-at-row bank source k r a b =
-    let h = echo-within source a b in
-    let h₀ = h .0 in
-    let h₁ = h .1 in
-    rw (echo-row source k r a b)
-    (by-cond (λ (t : ℕ). cond (ltb (echo source + k) 0xD000) (echo source + k - 0xC000) (echo source + k - 0xD000 + bank * 0x1000) ≡ t + k) (ltb (echo source) 0xD000)
-    (echo source - 0xC000) (echo source - 0xD000 + bank * 0x1000)
-    (λ t. let l = ltb-true (echo source) 0xD000 t in rw (lt-ltb (echo source + k) 0xD000 (echo-low source k r a l)) (omega arith))
-    (λ f. let l = ltb-false (echo source) 0xD000 f in rw (le-ltb (echo source + k) 0xD000 (omega arith)) (omega arith)))
-
-module _ (x : Fixed) (m : Memory) (v w s : List ℕ) (source n : ℕ) (row : Row source n) (e : regionOf source ≡ Wram) where
-  pub wram-row : (k : ℕ) → k < n → getD w (wramAt (m .core .banks .wram) source + k) 0 ≡ readByte x m v w s (source + k)
-  wram-row k h =
-      let b = within source e in
-      let b₀ = b .0 in
-      let b₁ = b .1 in
-      read-by x m v w s (source + k) (region-at Wram (source + k) (omega arith, omega arith))
-      (ap (λ (j : ℕ). getD w j 0) (sym (wram-at-row (m .core .banks .wram) source k (omega arith) b₀ b₁)))
-
-  pub wram-row-fits : (0x1000 ≤ length w) × (m .core .banks .wram * 0x1000 + 0x1000 ≤ length w) → wramAt (m .core .banks .wram) source + n ≤ length w
-  wram-row-fits f = by-last n row
-    where
-      by-last : (n : ℕ) → Row source n → wramAt (m .core .banks .wram) source + n ≤ length w
-      by-last n r =
-          let b = within source e in
-          let b₀ = b .0 in
-          let b₁ = b .1 in
-          by-cond (λ (t : ℕ). wramAt (m .core .banks .wram) source + n ≤ length w) (eqb n 0) 0 0
-          (λ z.
-          let y = eqb-true n 0 z in
-          let q = wram-below (m .core .banks .wram) source (length w) b₀ b₁ (f .0) (f .1) in omega arith)
-          (λ z.
-          let y = eqb-false n 0 z in
-          let q = wram-below (m .core .banks .wram) (source + (n - 1)) (length w) (omega arith) (omega (arith, y)) (f .0) (f .1) in
-          let p = wram-at-row (m .core .banks .wram) source (n - 1) (omega (arith, y)) b₀ b₁ in
-          omega (arith, y))
 
 -- The byte of an image
 
@@ -153,15 +87,6 @@ module _ {x : Fixed} {i : List ℕ} {c : Core} {v w s : List ℕ} (l : Lent x i 
         f k h
         ∙ ap (λ (j : ℕ). getD w (j + k) 0) (a ∙ ap (λ (d : Core). wramAt (d .banks .wram) source) (l .core))
         ∙ wram-row x (loadCall i .state) v w s source n row e k (omega arith)
-
--- ROM: neither bank begins within a row
-
-rom-place-row : (bank source k : ℕ) → source % 256 + k < 256 → source < 0x8000 → romPlace bank (source + k) ≡ romPlace bank source + k
-unfolding romPlace
-rom-place-row bank source k r h =
-    by-cond (λ (t : ℕ). romPlace bank (source + k) ≡ t + k) (ltb source 0x4000) source (romAddress bank source)
-    (λ t. let l = ltb-true source 0x4000 t in rw (lt-ltb (source + k) 0x4000 (omega arith)))
-    (λ f. let l = ltb-false source 0x4000 f in rw (le-ltb (source + k) 0x4000 (omega arith)) (omega arith))
 
 -- from FF80 on a byte of the page reads as it is
 shown-high : (byte : ℕ) (cgb : Bool) (line pad : ℕ) (sound : List ℕ) (at : ℕ) → 0x80 ≤ at → shownAs byte cgb line pad sound at ≡ byte

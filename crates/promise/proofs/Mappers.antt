@@ -21,6 +21,7 @@ use Rattle.mmu.specs.Write.{copyBy, transferred, writeAt}
 use Rattle.registers.proofs.Kept.{oam-kept, write-kept, finished-kept}
 use Rattle.registers.proofs.Starts.{by-copy}
 use Rattle.copies.specs.Copies.{oamCopy, nothing}
+use Rattle.copies.specs.PanDocs.{oamPages}
 use Rattle.registers.specs.Transfers.{blockCopy, generalCopy, copyOf}
 use Rattle.copies.specs.declared.Copy.{Copy}
 
@@ -59,8 +60,7 @@ none-high k h = omega arith
 
 pub oam-high : (page : ℕ) → High (oamCopy page)
 unfolding oamCopy
-oam-high page =
-    cond-both High (ltb page 0x80) none-high (cond-both High (ltb page 0xE0) (λ k h. omega arith) none-high)
+oam-high page = cond-both High (ltb page oamPages) (λ k h. omega arith) none-high
 
 destination-least : (h : Hdma) → 0x8000 ≤ destinationUsed h
 unfolding destinationUsed

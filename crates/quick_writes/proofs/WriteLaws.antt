@@ -7,14 +7,12 @@ use native.Mathlib.Omega.{arith}
 use lib.Dec.{eqb, ltb}
 use lib.ListN.{length}
 use borrow.Author.Tests.{le-leb, eq-eqb, eqb-true, eqb-false, ne-eqb, le-ltb}
-use Rattle.bus.proofs.Passes.{write-passes}
 use Rattle.bus.specs.Calls.{outcome, unless}
+use Rattle.dispatch.proofs.Open.{write-good}
 use Rattle.dispatch.specs.Step.{step}
 use Rattle.dispatch.specs.declared.Call.{Call}
 use Rattle.dispatch.specs.declared.Call.the-variants as call
-use Rattle.entry.proofs.Laws.{in-log}
 use Rattle.entry.specs.Entry.{encodedIn, worldEntry}
-use Rattle.image.proofs.LoadedPatches.{loaded-storable}
 use Rattle.image.proofs.OpenLaws.{load-image}
 use Rattle.image.specs.Layout.{usedField}
 use Rattle.image.specs.Load.{at, loadCall}
@@ -155,8 +153,8 @@ module _ (rom sound i v w s l : List ℕ) (below : Below 256 i) {o : ℕ}
         record {
           bytes = below;
           number = both .0;
-          holds = write-passes rom sound (loadCall i .state) v w s l (both .1) .holds;
-          used = in-log (fixed rom sound) (worldOf i v w s l) (loaded-storable i below (both .0)) (both .1);
+          holds = write-good (fixed rom sound) (worldOf i v w s l) (both .1) .holds;
+          used = write-good (fixed rom sound) (worldOf i v w s l) (both .1) .used;
         }
 
     used-is : {u : ℕ} → u ≡ at (fields i) usedField → u ≡ loadCall i .state .core .used

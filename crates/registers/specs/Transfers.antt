@@ -1,5 +1,5 @@
--- The transfers (document 01, "The bus": OAM DMA, HDMA block, FF55, "Our one change"): FF51..FF55, which bytes a write copies, and the registers
--- after the last byte.
+-- The transfers (document 01, "The bus": HDMA block, FF55, "Our one change"; OAM DMA's bytes are crate copies'): FF51..FF55, which bytes a write copies, and the
+-- registers after the last byte.
 use mathlib.Core.Bool.{cond}
 use Prim.Native.Nat.{ℕ}
 use lib.Dec.{eqb}

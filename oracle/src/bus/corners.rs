@@ -13,7 +13,7 @@ use crate::hex;
 use crate::leaves;
 
 /// One list each, lines parted by semicolons.
-const CORNERS: [&str; 47] = [
+const CORNERS: [&str; 48] = [
     // 1. Fresh: FF44 reads 90, FF00 reads C0.
     "N 00010000; R FF44 90; R FF00 C0; O FF00 CF; A - 01; E - 01",
     "N 00010001; R FF44 90; R FF00 C0; O FF00 CF; R FF04 44; R FF02 7C",
@@ -28,8 +28,12 @@ const CORNERS: [&str; 47] = [
     "N 00010000; W FF0705 00; W FF06F0 00; W FF05FF 00; T 00000110 00; R FF05 F0; R FF0F E5",
     // An update by nothing can step.
     "N 00010000; W FF0704 00; T 000003E8 00; W FF0705 00; T 00000000 00; R FF05 3E",
-    // 4. OAM DMA: 7F none, 80 copies, DF copies, E0 none; FF46 keeps the page.
-    "N 00010000; W FF467F 00; R FE00 00; R FE9F 00; R FF46 7F",
+    // 4. OAM DMA: 7F copies, 80 copies, DF copies, E0 none; FF46 keeps the page.
+    // (7F is document 02's, and excepted: excepted.rs.)
+    "N 00010000; W FEA078 00; W FF467F 00; R FE00 84; R FE9F 23; R FEA0 78; R FF46 7F",
+    // Page 40 is the selected bank's first, whichever way the transfer comes.
+    "N 01030000; D 40 00; R FE00 C7; W 200005 00; R FE00 C7; D 40 00; R FE00 E3; W 200006 00; \
+     V FF461240 00; R FE00 AA; W 200003 00; V FF454012 00; R FE00 55; R FF45 12",
     "N 00010000; W 800012 00; W 809F34 00; W 80A056 00; W FEA078 00; W FF4680 00; \
      R FE00 12; R FE9F 34; R FEA0 78",
     "N 00010000; W DF0012 00; W DF9F34 00; D DF 00; R FE00 12; R FE9F 34; R FF46 FF",

@@ -80,6 +80,9 @@ pub fn lists(size: Size) -> Vec<String> {
             lists.push(mapper(shape, at % 2 == 1));
         }
     }
+    for shape in [(0, 1, 0), (1, 3, 2), (2, 3, 0)] {
+        lists.push(sprites(shape, shape.0 == 1));
+    }
     lists.push(copies());
     lists.push(overlaps());
     lists.push(past_the_end((1, 1, 3)));
@@ -276,7 +279,8 @@ fn dma(colour: bool) -> String {
     }
     list.write_all(&[(0xFE9F, 0x77), (0xFEA0, 0x78), (0xFEFF, 0x79)]);
     for page in [
-        0x00, 0x7F, 0x80, 0x9F, 0xA0, 0xBF, 0xC0, 0xCF, 0xD0, 0xDF, 0xE0, 0xFD, 0xFE, 0xFF,
+        0x00, 0x3F, 0x40, 0x7F, 0x80, 0x9F, 0xA0, 0xBF, 0xC0, 0xCF, 0xD0, 0xDF, 0xE0, 0xFD, 0xFE,
+        0xFF,
     ] {
         list.call('D', &[page]);
         list.read_all(&[0xFE00, 0xFE9F, 0xFEA0, 0xFF46]);
@@ -290,6 +294,28 @@ fn dma(colour: bool) -> String {
     for page in [0xA0, 0xBF] {
         list.write(0xFF46, page);
         list.read_all(&[0xFE00, 0xFE9F]);
+    }
+    list.finish()
+}
+
+/// OAM DMA from ROM, by every way to it, with every bank asked for before
+/// (2100: Mbc1 and Mbc2 both select there; RomOnly shows bank 1).
+fn sprites(shape: (u8, u8, u8), colour: bool) -> String {
+    let mut list = new(shape, colour);
+    list.write_all(&[(0xFEA0, 0x78), (0xFEFF, 0x79)]);
+    for bank in 0..1 << shape.1 {
+        list.write(0x2100, bank);
+        for (at, page) in [0x00, 0x3F, 0x40, 0x41, 0x7F].into_iter().enumerate() {
+            list.write(0xFE00, page ^ 0xFF);
+            match (usize::from(bank) + at) % 4 {
+                0 => drop(list.call('D', &[page])),
+                1 => list.write(0xFF46, page),
+                2 => list.write_word(0xFF46, u16::from_be_bytes([0xE4, page])),
+                _ => list.write_word(0xFF45, u16::from_be_bytes([page, 0x90])),
+            }
+            list.read_all(&[0xFE00, 0xFE9F, 0xFEA0, 0xFF46]);
+            list.digest();
+        }
     }
     list.finish()
 }

@@ -11,7 +11,7 @@ use gameboy_core::mmu::probe::{self, Banks};
 use gameboy_core::mmu::Memory;
 use gameboy_core::timer::Timer;
 
-use super::digest;
+use super::{digest, excepted};
 use crate::hex;
 use crate::leaves::interrupts::{INTERRUPTS_IN_ORDER, NONE};
 use crate::leaves::joypad::BUTTONS_IN_ORDER;
@@ -105,23 +105,23 @@ impl Host {
         probe::hidden(&self.bus).colour
     }
 
-    /// The Rust's answer to any letter but N.
+    /// The answer to any letter but N: the Rust's, and where it is excepted, the
+    /// Rust's with what is due instead.
     pub fn answer(&mut self, letter: char, input: &[u8]) -> Bytes {
+        match (letter, excepted::page(letter, input)) {
+            ('D' | 'W' | 'V', Some(page)) => {
+                excepted::copy(&mut self.bus, page, |bus| written(bus, letter, input))
+            }
+            ('D' | 'W' | 'V', None) => written(&mut self.bus, letter, input),
+            _ => self.other(letter, input),
+        }
+    }
+
+    fn other(&mut self, letter: char, input: &[u8]) -> Bytes {
         let bus = &mut self.bus;
         match letter {
             'R' => return vec![bus.read_byte(hex::word(input))],
             'M' => return bus.read_word(hex::word(input)).to_be_bytes().into(),
-            'W' => {
-                let index = hex::word(input);
-                bus.write_byte(index, input[2]);
-                return vec![SOUND.contains(&index).into()];
-            }
-            'V' => {
-                let index = hex::word(input);
-                bus.write_word(index, hex::word(&input[2..]));
-                let owed = SOUND.contains(&index) || SOUND.contains(&index.wrapping_add(1));
-                return vec![owed.into()];
-            }
             'Y' => return Vec::new(),
             'T' => self.timer.update(number(input), bus),
             'P' => self.controller.press(button(input)),
@@ -130,7 +130,6 @@ impl Host {
             'J' => bus.set_joypad_state(input[0]),
             'A' => return vec![bus.are_action_keys_enabled().into()],
             'E' => return vec![bus.are_direction_keys_enabled().into()],
-            'D' => bus.do_dma_transfer(input[0]),
             'H' => return vec![bus.do_hdma() as u8],
             'i' => return vec![bus.is_hdma_enabled().into()],
             'I' => return vec![bus.get_interrupts().map_or(NONE, |found| found as u8)],
@@ -156,8 +155,8 @@ impl Host {
     }
 
     /// The number of blocks by which the one GDMA that this write starts would
-    /// go past 9FFF, if the bytes there would be stored: there alone our bus
-    /// and the Rust differ.
+    /// go past 9FFF, if the bytes there would be stored: there our bus
+    /// and the Rust differ, and no list may go.
     pub fn blocks_past(&self, letter: char, input: &[u8]) -> usize {
         let hidden = probe::hidden(&self.bus);
         let mut destination = hidden.hdma_destination;
@@ -210,6 +209,23 @@ impl Host {
             _ => true,
         }
     }
+}
+
+/// The calls that can make an OAM DMA.
+fn written(bus: &mut Memory, letter: char, input: &[u8]) -> Bytes {
+    if letter == 'D' {
+        bus.do_dma_transfer(input[0]);
+        return vec![0];
+    }
+    let index = hex::word(input);
+    let mut owed = SOUND.contains(&index);
+    if letter == 'W' {
+        bus.write_byte(index, input[2]);
+    } else {
+        bus.write_word(index, hex::word(&input[2..]));
+        owed |= SOUND.contains(&index.wrapping_add(1));
+    }
+    vec![owed.into()]
 }
 
 /// 0, 8,192 or 32,768 by the code; Mbc2 has 512.

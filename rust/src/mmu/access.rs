@@ -52,7 +52,8 @@ impl Memory {
         unless(Refusal::Outside, pouch_read_cgb_lcd_ram(&self.image, &self.vram, index, bank, &mut value)).map(|()| value)
     }
 
-    /// The transfer of 160 bytes to FE00..FE9F that a write of this page to FF46 runs: pages 80..DF copy, others do nothing. Nothing refuses it.
+    /// The transfer of 160 bytes to FE00..FE9F that a write of this page to FF46 runs: pages 00..DF copy, those below 80 as the mapper
+    /// shows them; others do nothing. Nothing refuses it.
     #[inline]
     pub fn do_dma_transfer(&mut self, data: u8) {
         done(pouch_do_dma_transfer(&mut self.image, &self.rom, &mut self.vram, &mut self.wram, &mut self.save, &mut self.log, &self.sound, data));

@@ -1,7 +1,8 @@
--- The corners are those of proofs/Rows.antt; the laws are those of proofs/Zero.antt and of the crates below.
+-- The corners are those of proofs/Rows.antt; the laws are those of proofs/Zero.antt, proofs/Sprites.antt and of the crates below.
 use Rattle.joypad.proofs.Corners.{second-press, directions-selected, actions-selected, neither-selected, both-selected}
 use Rattle.memory.proofs.Laws.{fresh-in-range}
 use Rattle.corners.proofs.Rows.{corners}
+use Rattle.corners.proofs.Sprites.{sprites}
 use Rattle.corners.proofs.Zero.{zero-closed}
 use Rattle.corners.proofs.corners_hold.Statement.{statement}
 use Rattle.corners.proofs.corners_hold.Tie as tie
@@ -18,6 +19,7 @@ returns c = (
     neither = neither-selected;
     both = both-selected;
   },
+  sprites,
 )
 
 pub corners-hold-spec : {M : Type 1} → statement M

@@ -1,0 +1,176 @@
+-- OAM DMA byte by byte: what `laid` leaves, read back, by each of the calls that make one.
+use mathlib.Core.Bool.{Bool, true, false, cond, _&&_}
+use mathlib.Core.List.{List}
+use mathlib.Core.Path.{_≡_, refl, sym, ap, _∙_}
+use Prim.Native.Nat.{ℕ, zero, suc, _+_, _*_, _-_, _/_, _%_, _<_, _≤_}
+use native.Mathlib.Omega.{arith}
+use lib.Dec.{eqb, ltb}
+use lib.ListN.{length, getD, set, length-set}
+use lib.Seq.{getD-set-same, getD-set-other}
+use borrow.Author.Tests.{lt-ltb, le-ltb, ltb-true, ltb-false, eqb-true, eqb-false}
+use Rattle.bus.specs.Calls.{Outcome, outcome, unless}
+use Rattle.copies.specs.Copies.{oamCopy}
+use Rattle.copies.specs.PanDocs.{oamPages}
+use Rattle.dispatch.proofs.Open.{read-number, write-number, write-good}
+use Rattle.dispatch.specs.Step.{step}
+use Rattle.dispatch.specs.declared.Call.{Call}
+use Rattle.dispatch.specs.declared.Call.the-variants as call
+use Rattle.memory.proofs.Regions.{Within, within}
+use Rattle.memory.specs.Region.{regionOf}
+use Rattle.memory.specs.World.{World, Fixed}
+use Rattle.memory.specs.declared.Memory.{Memory}
+use Rattle.memory.specs.declared.region.Region.{Region}
+use Rattle.memory.specs.declared.region.Region.the-variants.{Rom, Vram, Save, Wram, Oam, Page}
+use Rattle.mmu.specs.Access.{byteIn, readIn, inState, put}
+use Rattle.mmu.specs.Write.{copyBy, transferred, writeAt, wordAt}
+use Rattle.numbers.specs.Numbers.{done}
+use Rattle.refusals.proofs.Answers.{both-pass}
+use Rattle.refusals.specs.Answers.{byteGiven}
+use Rattle.refusals.specs.Refusal.{refusedRead, refusedWrite}
+use Rattle.registers.specs.Register.{registerOf}
+use Rattle.registers.specs.State.{onScreen}
+use Rattle.registers.specs.Transfers.{copyOf, finished}
+use Rattle.rules.proofs.Tests.{by-cond}
+use Rattle.corners.specs.Laws.{Transfers, called, byte, low, high, Sprites}
+use Rattle.corners.proofs.Oam.{laid, inOam, pageOf, transfer-some, transfer-none}
+
+-- what is laid, read back
+
+laid-length : (f : ℕ → ℕ) (n : ℕ) (o : List ℕ) → length (laid f n o) ≡ length o
+unfolding laid
+laid-length f zero o = refl
+laid-length f (suc n) o = length-set (laid f n o) n (f n) ∙ laid-length f n o
+
+pub laid-at : (f : ℕ → ℕ) (n : ℕ) (o : List ℕ) → n ≤ length o → (i : ℕ) → getD (laid f n o) i 0 ≡ cond (ltb i n) (f i) (getD o i 0)
+unfolding laid
+laid-at f zero o h i = rw (le-ltb i 0 (omega arith))
+laid-at f (suc n) o h i = by-place (eqb i n) refl (laid-at f n o (omega arith) i)
+  where
+    more : (i ≡ n → ⊥) → cond (ltb i n) (f i) (getD o i 0) ≡ cond (ltb i (suc n)) (f i) (getD o i 0)
+    more p =
+        by-cond (λ (b : ℕ). b ≡ cond (ltb i (suc n)) (f i) (getD o i 0)) (ltb i n) (f i) (getD o i 0)
+        (λ t. let l = ltb-true i n t in rw (lt-ltb i (suc n) (omega arith)))
+        (λ e. let l = ltb-false i n e in rw (le-ltb i (suc n) (omega (arith, p))))
+
+    by-place : (b : Bool) → eqb i n ≡ b → getD (laid f n o) i 0 ≡ cond (ltb i n) (f i) (getD o i 0)
+        → getD (set (laid f n o) n (f n)) i 0 ≡ cond (ltb i (suc n)) (f i) (getD o i 0)
+    by-place true e r =
+        rw (eqb-true i n e, lt-ltb n (suc n) (omega arith)) (getD-set-same (laid f n o) n (f n) 0 (rw (laid-length f n o) (omega arith)))
+    by-place false e r =
+        let p = eqb-false i n e in
+        getD-set-other (laid f n o) n i (f n) 0 p ∙ r ∙ more p
+
+-- what a transfer leaves in OAM: bytes of another world that has the same OAM and reads the same
+abbrev Due : (ℕ → ℕ) → List ℕ → ℕ → List ℕ → Type 0
+Due read o page after = (i : ℕ) → getD after i 0 ≡ cond (ltb page oamPages && ltb i 160) (read (page * 256 + i)) (getD o i 0)
+
+module _ (x : Fixed) (w : World) (page v : ℕ) (l : length (w .state .oam) ≡ 256) where
+  transfer-due : Due (readIn x w) (w .state .oam) page (transferred x (writeAt x 1) (oamCopy page) v w .state .oam)
+  transfer-due i = by-page (ltb page oamPages) refl
+    where
+      by-page : (b : Bool) → ltb page oamPages ≡ b
+          → getD (transferred x (writeAt x 1) (oamCopy page) v w .state .oam) i 0 ≡ cond (b && ltb i 160) (readIn x w (page * 256 + i)) (getD (w .state .oam) i 0)
+      by-page true t =
+          ap (λ (u : World). getD (u .state .oam) i 0) (transfer-some x w page v (ltb-true page oamPages t))
+          ∙ laid-at (pageOf x w page) 160 (w .state .oam) (omega arith) i
+      by-page false f = ap (λ (u : World). getD (u .state .oam) i 0) (transfer-none x w page v (ltb-false page oamPages f))
+
+due-same : (f g : ℕ → ℕ) (o : List ℕ) (page : ℕ) (after : List ℕ) → ((i : ℕ) → i < 0xE000 → f i ≡ g i) → Due f o page after → Due g o page after
+due-same f g o page after s d i = d i ∙ by-test (ltb page oamPages) (ltb i 160) refl refl
+  where
+    by-test : (a b : Bool) → ltb page oamPages ≡ a → ltb i 160 ≡ b → cond (a && b) (f (page * 256 + i)) (getD o i 0) ≡ cond (a && b) (g (page * 256 + i)) (getD o i 0)
+    by-test true true p q = s (page * 256 + i) (omega (arith, ltb-true page oamPages p, ltb-true i 160 q))
+    by-test true false p q = refl
+    by-test false b p q = refl
+
+-- registers are not read below E000
+module _ (x : Fixed) (w : World) (m : Memory) (c : m .core .cartridge ≡ w .state .core .cartridge) (p : m .core .mapper ≡ w .state .core .mapper)
+    (b : m .core .banks ≡ w .state .core .banks) where
+  same-in : (r : Region) (i : ℕ) → Within r i → i < 0xE000
+      → byteIn r x m (w .vram) (w .wram) (w .save) i ≡ byteIn r x (w .state) (w .vram) (w .wram) (w .save) i
+  same-in Rom i h l = rw (c, p)
+  same-in Vram i h l = rw b
+  same-in Save i h l = rw (c, p)
+  same-in Wram i h l = rw b
+  same-in Oam i h l = absurd (omega (arith, h .0))
+  same-in Page i h l = absurd (omega arith)
+
+  read-same : (i : ℕ) → i < 0xE000 → readIn x (inState w m) i ≡ readIn x w i
+  read-same i h = same-in (regionOf i) i (within i refl) h
+
+-- the writes
+
+module _ (x : Fixed) (w : World) where
+  byte-due : (page : ℕ) → length (w .state .oam) ≡ 256 → Due (readIn x w) (w .state .oam) page (writeAt x 2 w 0xFF46 page .state .oam)
+  unfolding writeAt copyOf regionOf registerOf
+  byte-due page l =
+      let u = put w 0xFF46 page in
+      due-same (readIn x u) (readIn x w) (w .state .oam) page (writeAt x 2 w 0xFF46 page .state .oam) (read-same x w (u .state) refl refl refl) (transfer-due x u page page l)
+
+  next-oam : (v : ℕ) → writeAt x 2 w 0xFF47 v .state .oam ≡ w .state .oam
+  unfolding writeAt copyOf copyBy finished regionOf registerOf
+  next-oam v = refl
+
+  abbrev compared : ℕ → World
+  compared v = writeAt x 2 w 0xFF45 v
+
+  compared-oam : (v : ℕ) → compared v .state .oam ≡ w .state .oam
+  unfolding writeAt copyOf copyBy finished regionOf registerOf onScreen
+  compared-oam v = refl
+
+  compared-read : (v i : ℕ) → i < 0xE000 → readIn x (compared v) i ≡ readIn x w i
+  unfolding writeAt copyOf copyBy finished regionOf registerOf onScreen
+  compared-read v i h = read-same x w (compared v .state) refl refl refl i h
+
+module _ (x : Fixed) (w : World) (v : ℕ) (l : length (w .state .oam) ≡ 256) where
+  low-due : Due (readIn x w) (w .state .oam) (v % 256) (wordAt x w 0xFF46 v .state .oam)
+  unfolding wordAt
+  low-due i =
+      ap (λ (o : List ℕ). getD o i 0) (next-oam x (writeAt x 2 w 0xFF46 (v % 256)) (v / 256)) ∙ byte-due x w (v % 256) l i
+
+  high-due : Due (readIn x w) (w .state .oam) (v / 256) (wordAt x w 0xFF45 v .state .oam)
+  unfolding wordAt
+  high-due =
+      let u = compared x w (v % 256) in
+      let e = compared-oam x w (v % 256) in
+      let d = byte-due x u (v / 256) (ap length e ∙ l) in
+      due-same (readIn x u) (readIn x w) (w .state .oam) (v / 256) (wordAt x w 0xFF45 v .state .oam) (compared-read x w (v % 256))
+      (λ i. d i ∙ ap (λ (o : List ℕ). cond (ltb (v / 256) oamPages && ltb i 160) (readIn x u (v / 256 * 256 + i)) (getD o i 0)) e)
+
+-- the calls
+
+let-in : (n : ℕ) (w : World) (o : Outcome) → unless n w o .number ≡ done → (n ≡ done) × (unless n w o ≡ o)
+unfolding unless
+let-in n w o e = by-test (eqb n done) refl e
+  where
+    by-test : (b : Bool) → eqb n done ≡ b → cond b o (outcome n 0 w) .number ≡ done → (n ≡ done) × (cond b o (outcome n 0 w) ≡ o)
+    by-test true p q = (eqb-true n done p, refl)
+    by-test false p q = absurd (eqb-false n done p q)
+
+module _ (x : Fixed) (w : World) (h : refusedWrite x w ≡ done) where
+  read-value : (i : ℕ) → readIn x w i ≡ step x w (call.ReadByte i) .value
+  unfolding step byteGiven
+  read-value i =
+      let g = write-good x w h in
+      let r : refusedRead x w ≡ done = read-number w g x ∙ sym (write-number w g x) ∙ h in rw r
+
+  called-due : (page : ℕ) (o : Outcome) (c : Call) → step x w c ≡ o → Due (readIn x w) (w .state .oam) page (o .after .state .oam)
+      → Due (λ j. step x w (call.ReadByte j) .value) (w .state .oam) page (step x w c .after .state .oam)
+  called-due page o c e d =
+      due-same (readIn x w) (λ j. step x w (call.ReadByte j) .value) (w .state .oam) page (step x w c .after .state .oam) (λ j b. read-value j)
+      (λ i. ap (λ (p : Outcome). getD (p .after .state .oam) i 0) e ∙ d i)
+
+pub sprites : Sprites
+unfolding step
+sprites x w _ _ (called page) l e =
+    let p = let-in (refusedWrite x w) w _ e in
+    called-due x w (p .0) page _ (call.DoDmaTransfer page) (p .1) (transfer-due x w page 0 l)
+sprites x w _ _ (byte page) l e =
+    let p = let-in _ w _ e in
+    called-due x w (both-pass _ _ (p .0) .0) page _ (call.WriteByte 0xFF46 page) (p .1) (byte-due x w page l)
+sprites x w _ _ (low word) l e =
+    let p = let-in _ w _ e in
+    called-due x w (both-pass _ _ (p .0) .0) (word % 256) _ (call.WriteWord 0xFF46 word) (p .1) (low-due x w word l)
+sprites x w _ _ (high word) l e =
+    let p = let-in _ w _ e in
+    called-due x w (both-pass _ _ (p .0) .0) (word / 256) _ (call.WriteWord 0xFF45 word) (p .1) (high-due x w word l)
