@@ -31,7 +31,11 @@ pub fn copy<T>(bus: &mut Memory, page: u8, call: impl FnOnce(&mut Memory) -> T) 
     let bytes: Vec<u8> = (start..start + LENGTH).map(|i| bus.read_byte(i)).collect();
     let oam = probe::hidden(bus).oam.to_vec();
     let answer = call(bus);
-    assert_eq!(probe::hidden(bus).oam, oam, "the Rust copies page {page:02X}");
+    assert_eq!(
+        probe::hidden(bus).oam,
+        oam,
+        "the Rust copies page {page:02X}"
+    );
     for (index, byte) in (SPRITES..).zip(bytes) {
         bus.write_byte(index, byte);
     }
