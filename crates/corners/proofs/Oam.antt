@@ -13,6 +13,7 @@ use Rattle.mbc.specs.PanDocs.{romPlace}
 use Rattle.memory.proofs.Regions.{Within, within, region-at}
 use Rattle.memory.specs.Region.{regionOf}
 use Rattle.memory.specs.World.{World, Fixed, withOam}
+use Rattle.memory.specs.declared.Memory.{Memory}
 use Rattle.memory.specs.declared.region.Region.{Region}
 use Rattle.memory.specs.declared.region.Region.the-variants.{Rom, Vram, Save, Wram, Oam, Page}
 use Rattle.mmu.proofs.Laws.{write-plain}
@@ -32,22 +33,23 @@ unfoldable pub laid : (ℕ → ℕ) → ℕ → List ℕ → List ℕ
 laid f zero o = o
 laid f (suc n) o = set (laid f n o) n (f n)
 
-abbrev pub inOam : World → List ℕ → World
+abbrev inOam : World → List ℕ → World
 inOam w o = inState w (withOam (w .state) o)
 
--- OAM is not read below E000
-module _ (x : Fixed) (w : World) (o : List ℕ) (i : ℕ) (h : i < 0xE000) where
-  read-in : (r : Region) → Within r i
-      → byteIn r x (withOam (w .state) o) (w .vram) (w .wram) (w .save) i ≡ byteIn r x (w .state) (w .vram) (w .wram) (w .save) i
-  read-in Rom b = refl
-  read-in Vram b = refl
-  read-in Save b = refl
-  read-in Wram b = refl
-  read-in Oam b = absurd (omega (arith, b .0))
-  read-in Page b = absurd (omega arith)
+-- of the state, a read below E000 takes the mapper and the selected banks: neither OAM nor a register
+module _ (x : Fixed) (w : World) (m : Memory) (c : m .core .cartridge ≡ w .state .core .cartridge) (p : m .core .mapper ≡ w .state .core .mapper)
+    (s : m .core .banks ≡ w .state .core .banks) where
+  read-in : (r : Region) (i : ℕ) → Within r i → i < 0xE000
+      → byteIn r x m (w .vram) (w .wram) (w .save) i ≡ byteIn r x (w .state) (w .vram) (w .wram) (w .save) i
+  read-in Rom i b h = rw (c, p)
+  read-in Vram i b h = rw s
+  read-in Save i b h = rw (c, p)
+  read-in Wram i b h = rw s
+  read-in Oam i b h = absurd (omega (arith, b .0))
+  read-in Page i b h = absurd (omega arith)
 
-  read-apart : readIn x (inOam w o) i ≡ readIn x w i
-  read-apart = read-in (regionOf i) (within i refl)
+  pub read-apart : (i : ℕ) → i < 0xE000 → readIn x (inState w m) i ≡ readIn x w i
+  read-apart i h = read-in (regionOf i) i (within i refl) h
 
 write-oam : (x : Fixed) (w : World) (n v : ℕ) → n < 160 → writeAt x 1 w (0xFE00 + n) v ≡ inOam w (set (w .state .oam) n v)
 write-oam x w n v h =
@@ -73,7 +75,7 @@ module _ (x : Fixed) (w : World) (page : ℕ) where
   copy-more n h high e =
       let o = laid (pageOf x w page) n (w .state .oam) in
       let s : (page * 256 + n) % 65536 ≡ page * 256 + n = omega arith in
-      rw (e, s, read-apart x w o (page * 256 + n) (omega arith)) (write-oam x (inOam w o) n _ h)
+      rw (e, s, read-apart x w (withOam (w .state) o) refl refl refl (page * 256 + n) (omega arith)) (write-oam x (inOam w o) n _ h)
 
   copy-laid : page < 0xE0 → (n : ℕ) → n ≤ 160 → Copied n
   copy-laid high zero h = copy-none

@@ -2,26 +2,23 @@
 use mathlib.Core.Bool.{Bool, true, false, cond, _&&_}
 use mathlib.Core.List.{List}
 use mathlib.Core.Path.{_≡_, refl, sym, ap, _∙_}
-use Prim.Native.Nat.{ℕ, zero, suc, _+_, _*_, _-_, _/_, _%_, _<_, _≤_}
+use Prim.Native.Nat.{ℕ, zero, suc, _+_, _*_, _/_, _%_, _<_, _≤_}
 use native.Mathlib.Omega.{arith}
 use lib.Dec.{eqb, ltb}
 use lib.ListN.{length, getD, set, length-set}
 use lib.Seq.{getD-set-same, getD-set-other}
 use borrow.Author.Tests.{lt-ltb, le-ltb, ltb-true, ltb-false, eqb-true, eqb-false}
-use Rattle.bus.specs.Calls.{Outcome, outcome, unless}
+use Rattle.bus.specs.Calls.{Outcome, unless}
 use Rattle.copies.specs.Copies.{oamCopy}
 use Rattle.copies.specs.PanDocs.{oamPages}
+use Rattle.dispatch.proofs.Numbered.{by-unless}
 use Rattle.dispatch.proofs.Open.{read-number, write-number, write-good}
 use Rattle.dispatch.specs.Step.{step}
 use Rattle.dispatch.specs.declared.Call.{Call}
 use Rattle.dispatch.specs.declared.Call.the-variants as call
-use Rattle.memory.proofs.Regions.{Within, within}
 use Rattle.memory.specs.Region.{regionOf}
 use Rattle.memory.specs.World.{World, Fixed}
-use Rattle.memory.specs.declared.Memory.{Memory}
-use Rattle.memory.specs.declared.region.Region.{Region}
-use Rattle.memory.specs.declared.region.Region.the-variants.{Rom, Vram, Save, Wram, Oam, Page}
-use Rattle.mmu.specs.Access.{byteIn, readIn, inState, put}
+use Rattle.mmu.specs.Access.{readIn, put}
 use Rattle.mmu.specs.Write.{copyBy, transferred, writeAt, wordAt}
 use Rattle.numbers.specs.Numbers.{done}
 use Rattle.refusals.proofs.Answers.{both-pass}
@@ -31,8 +28,8 @@ use Rattle.registers.specs.Register.{registerOf}
 use Rattle.registers.specs.State.{onScreen}
 use Rattle.registers.specs.Transfers.{copyOf, finished}
 use Rattle.rules.proofs.Tests.{by-cond}
-use Rattle.corners.specs.Laws.{Transfers, called, byte, low, high, Sprites}
-use Rattle.corners.proofs.Oam.{laid, inOam, pageOf, transfer-some, transfer-none}
+use Rattle.corners.specs.Laws.{called, byte, low, high, Sprites}
+use Rattle.corners.proofs.Oam.{laid, read-apart, pageOf, transfer-some, transfer-none}
 
 -- what is laid, read back
 
@@ -60,7 +57,7 @@ laid-at f (suc n) o h i = by-place (eqb i n) refl (laid-at f n o (omega arith) i
         let p = eqb-false i n e in
         getD-set-other (laid f n o) n i (f n) 0 p ∙ r ∙ more p
 
--- what a transfer leaves in OAM: bytes of another world that has the same OAM and reads the same
+-- OAM after an OAM DMA of a page, by what reads gave and by OAM as it was
 abbrev Due : (ℕ → ℕ) → List ℕ → ℕ → List ℕ → Type 0
 Due read o page after = (i : ℕ) → getD after i 0 ≡ cond (ltb page oamPages && ltb i 160) (read (page * 256 + i)) (getD o i 0)
 
@@ -83,21 +80,6 @@ due-same f g o page after s d i = d i ∙ by-test (ltb page oamPages) (ltb i 160
     by-test true false p q = refl
     by-test false b p q = refl
 
--- registers are not read below E000
-module _ (x : Fixed) (w : World) (m : Memory) (c : m .core .cartridge ≡ w .state .core .cartridge) (p : m .core .mapper ≡ w .state .core .mapper)
-    (b : m .core .banks ≡ w .state .core .banks) where
-  same-in : (r : Region) (i : ℕ) → Within r i → i < 0xE000
-      → byteIn r x m (w .vram) (w .wram) (w .save) i ≡ byteIn r x (w .state) (w .vram) (w .wram) (w .save) i
-  same-in Rom i h l = rw (c, p)
-  same-in Vram i h l = rw b
-  same-in Save i h l = rw (c, p)
-  same-in Wram i h l = rw b
-  same-in Oam i h l = absurd (omega (arith, h .0))
-  same-in Page i h l = absurd (omega arith)
-
-  read-same : (i : ℕ) → i < 0xE000 → readIn x (inState w m) i ≡ readIn x w i
-  read-same i h = same-in (regionOf i) i (within i refl) h
-
 -- the writes
 
 module _ (x : Fixed) (w : World) where
@@ -105,7 +87,7 @@ module _ (x : Fixed) (w : World) where
   unfolding writeAt copyOf regionOf registerOf
   byte-due page l =
       let u = put w 0xFF46 page in
-      due-same (readIn x u) (readIn x w) (w .state .oam) page (writeAt x 2 w 0xFF46 page .state .oam) (read-same x w (u .state) refl refl refl) (transfer-due x u page page l)
+      due-same (readIn x u) (readIn x w) (w .state .oam) page (writeAt x 2 w 0xFF46 page .state .oam) (read-apart x w (u .state) refl refl refl) (transfer-due x u page page l)
 
   next-oam : (v : ℕ) → writeAt x 2 w 0xFF47 v .state .oam ≡ w .state .oam
   unfolding writeAt copyOf copyBy finished regionOf registerOf
@@ -120,7 +102,7 @@ module _ (x : Fixed) (w : World) where
 
   compared-read : (v i : ℕ) → i < 0xE000 → readIn x (compared v) i ≡ readIn x w i
   unfolding writeAt copyOf copyBy finished regionOf registerOf onScreen
-  compared-read v i h = read-same x w (compared v .state) refl refl refl i h
+  compared-read v i h = read-apart x w (compared v .state) refl refl refl i h
 
 module _ (x : Fixed) (w : World) (v : ℕ) (l : length (w .state .oam) ≡ 256) where
   low-due : Due (readIn x w) (w .state .oam) (v % 256) (wordAt x w 0xFF46 v .state .oam)
@@ -140,12 +122,7 @@ module _ (x : Fixed) (w : World) (v : ℕ) (l : length (w .state .oam) ≡ 256) 
 -- the calls
 
 let-in : (n : ℕ) (w : World) (o : Outcome) → unless n w o .number ≡ done → (n ≡ done) × (unless n w o ≡ o)
-unfolding unless
-let-in n w o e = by-test (eqb n done) refl e
-  where
-    by-test : (b : Bool) → eqb n done ≡ b → cond b o (outcome n 0 w) .number ≡ done → (n ≡ done) × (cond b o (outcome n 0 w) ≡ o)
-    by-test true p q = (eqb-true n done p, refl)
-    by-test false p q = absurd (eqb-false n done p q)
+let-in n w o = by-unless (λ (a : Outcome). a .number ≡ done → (n ≡ done) × (a ≡ o)) n w o (λ z e. (z, refl)) (λ h e. absurd (h e))
 
 module _ (x : Fixed) (w : World) (h : refusedWrite x w ≡ done) where
   read-value : (i : ℕ) → readIn x w i ≡ step x w (call.ReadByte i) .value
