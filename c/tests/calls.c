@@ -507,6 +507,7 @@ static void check_transfer_corners(void)
             start_mbc1(false);
             IS(wr(0x8000, 0x21), POUCH_DONE);
             IS(wr(0xDF00, 0x43), POUCH_DONE);
+            IS(wr(0xC000, 0x65), POUCH_DONE);
             IS(by_write ? wr(0xFF46, pages[i].page) : pouch_do_dma_transfer(WRITES, pages[i].page), POUCH_DONE);
             IS(rd(0xFE00), pages[i].first);
             IS(field(OAM, 8), pages[i].first);

@@ -1,7 +1,7 @@
 //! Pouchrattle for Rust: the verified memory bus of a handheld console, by the names of the crate gameboy_core, so that an engine on that
 //! crate can swap its bus: where it has `mod mmu;`, `mod timer;`, `mod joypad;` and `pub mod button;`, it says
 //! `use pouchrattle::{button, joypad, mmu, timer};`. What differs from there: a write may be refused, the host takes the log off in place of a
-//! callback, sound is a window of bytes, and fields are functions.
+//! callback, sound is a window of bytes, fields are functions, and OAM DMA copies from ROM too.
 //!
 //! ```
 //! use pouchrattle::{mmu, Button, Cartridge, Controller, Interrupt, MbcType, Memory, Timer};

@@ -1,4 +1,4 @@
-//! The Rust's recorded answers on a whole bus (crates/replay_bus/stdin; oracle/README.md has its form), through the safe API and so through the
+//! The Rust's recorded answers on a whole bus (crates/replay_bus/stdin; oracle/README.md has its form, and what is excepted), through the safe API and so through the
 //! images of the C boundary. A digest of the state is made from the image's fields, so their places are compared with the Rust too.
 
 mod common;

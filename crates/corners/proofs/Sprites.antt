@@ -21,9 +21,8 @@ use Rattle.memory.specs.World.{World, Fixed}
 use Rattle.mmu.specs.Access.{readIn, put}
 use Rattle.mmu.specs.Write.{copyBy, transferred, writeAt, wordAt}
 use Rattle.numbers.specs.Numbers.{done}
-use Rattle.refusals.proofs.Answers.{both-pass}
 use Rattle.refusals.specs.Answers.{byteGiven}
-use Rattle.refusals.specs.Refusal.{refusedRead, refusedWrite}
+use Rattle.refusals.specs.Refusal.{orElse, refusedRead, refusedWrite, inSave, inSound, byteRoom, eitherInSave, wordRoom, byteOwed, wordOwed}
 use Rattle.registers.specs.Register.{registerOf}
 use Rattle.registers.specs.State.{onScreen}
 use Rattle.registers.specs.Transfers.{copyOf, finished}
@@ -121,33 +120,39 @@ module _ (x : Fixed) (w : World) (v : ℕ) (l : length (w .state .oam) ≡ 256) 
 
 -- the calls
 
-let-in : (n : ℕ) (w : World) (o : Outcome) → unless n w o .number ≡ done → (n ≡ done) × (unless n w o ≡ o)
-let-in n w o = by-unless (λ (a : Outcome). a .number ≡ done → (n ≡ done) × (a ≡ o)) n w o (λ z e. (z, refl)) (λ h e. absurd (h e))
+-- where a call has no number of its own, what refuses it is its number
+refused-by : (n : ℕ) (w : World) (o : Outcome) → o .number ≡ done → unless n w o .number ≡ n
+refused-by n w o d = by-unless (λ (a : Outcome). a .number ≡ n) n w o (λ z. d ∙ sym z) (λ h. refl)
 
-module _ (x : Fixed) (w : World) (h : refusedWrite x w ≡ done) where
-  read-value : (i : ℕ) → readIn x w i ≡ step x w (call.ReadByte i) .value
+let-in : (n : ℕ) (w : World) (o : Outcome) → n ≡ done → unless n w o ≡ o
+let-in n w o z = by-unless (λ (a : Outcome). a ≡ o) n w o (λ e. refl) (λ h. absurd (h z))
+
+or-none : (n : ℕ) → orElse n done ≡ n
+unfolding orElse
+or-none n = by-cond (λ (k : ℕ). k ≡ n) (eqb n done) done n (λ t. sym (eqb-true n done t)) (λ f. refl)
+
+module _ (x : Fixed) (w : World) where
+  read-value : refusedWrite x w ≡ done → (i : ℕ) → readIn x w i ≡ step x w (call.ReadByte i) .value
   unfolding step byteGiven
-  read-value i =
+  read-value h i =
       let g = write-good x w h in
       let r : refusedRead x w ≡ done = read-number w g x ∙ sym (write-number w g x) ∙ h in rw r
 
-  called-due : (page : ℕ) (o : Outcome) (c : Call) → step x w c ≡ o → Due (readIn x w) (w .state .oam) page (o .after .state .oam)
-      → Due (λ j. step x w (call.ReadByte j) .value) (w .state .oam) page (step x w c .after .state .oam)
-  called-due page o c e d =
-      due-same (readIn x w) (λ j. step x w (call.ReadByte j) .value) (w .state .oam) page (step x w c .after .state .oam) (λ j b. read-value j)
-      (λ i. ap (λ (p : Outcome). getD (p .after .state .oam) i 0) e ∙ d i)
+  -- a call that only 3 and 4 refuse, by the world that it leaves
+  call-due : (c : Call) (page n : ℕ) (o : Outcome) → step x w c ≡ unless n w o → n ≡ refusedWrite x w → o .number ≡ done
+      → Due (readIn x w) (w .state .oam) page (o .after .state .oam)
+      → (step x w c .number ≡ refusedWrite x w)
+      × (refusedWrite x w ≡ done → Due (λ j. step x w (call.ReadByte j) .value) (w .state .oam) page (step x w c .after .state .oam))
+  call-due c page n o e r d due = (
+    ap (λ (a : Outcome). a .number) e ∙ refused-by n w o d ∙ r,
+    λ h.
+        due-same (readIn x w) (λ j. step x w (call.ReadByte j) .value) (w .state .oam) page (step x w c .after .state .oam) (λ j b. read-value h j)
+        (λ i. ap (λ (a : Outcome). getD (a .after .state .oam) i 0) (e ∙ let-in n w o (r ∙ h)) ∙ due i),
+  )
 
 pub sprites : Sprites
-unfolding step
-sprites x w _ _ (called page) l e =
-    let p = let-in (refusedWrite x w) w _ e in
-    called-due x w (p .0) page _ (call.DoDmaTransfer page) (p .1) (transfer-due x w page 0 l)
-sprites x w _ _ (byte page) l e =
-    let p = let-in _ w _ e in
-    called-due x w (both-pass _ _ (p .0) .0) page _ (call.WriteByte 0xFF46 page) (p .1) (byte-due x w page l)
-sprites x w _ _ (low word) l e =
-    let p = let-in _ w _ e in
-    called-due x w (both-pass _ _ (p .0) .0) (word % 256) _ (call.WriteWord 0xFF46 word) (p .1) (low-due x w word l)
-sprites x w _ _ (high word) l e =
-    let p = let-in _ w _ e in
-    called-due x w (both-pass _ _ (p .0) .0) (word / 256) _ (call.WriteWord 0xFF45 word) (p .1) (high-due x w word l)
+unfolding step byteRoom wordRoom byteOwed wordOwed eitherInSave inSave inSound regionOf
+sprites x w _ _ (called page) l = call-due x w (call.DoDmaTransfer page) page _ _ refl refl refl (transfer-due x w page 0 l)
+sprites x w _ _ (byte page) l = call-due x w (call.WriteByte 0xFF46 page) page _ _ refl (or-none _) refl (byte-due x w page l)
+sprites x w _ _ (low word) l = call-due x w (call.WriteWord 0xFF46 word) (word % 256) _ _ refl (or-none _) refl (low-due x w word l)
+sprites x w _ _ (high word) l = call-due x w (call.WriteWord 0xFF45 word) (word / 256) _ _ refl (or-none _) refl (high-due x w word l)

@@ -17,6 +17,7 @@ use Rattle.memory.specs.Ranges.{inRange}
 use Rattle.memory.specs.Start.{zeroed, started}
 use Rattle.memory.specs.World.{World, Fixed}
 use Rattle.numbers.specs.Numbers.{done, outOfRange}
+use Rattle.refusals.specs.Refusal.{refusedWrite}
 
 -- Document 01, number 3: "the all-zero state, itself refused by 3", by every call, which then changes nothing
 abbrev pub ZeroRefused : Type 0
@@ -48,14 +49,16 @@ pub data Transfers : Call → ℕ → Type 0 where
   low : (word : ℕ) → Transfers (call.WriteWord 0xFF46 word) (word % 256)
   high : (word : ℕ) → Transfers (call.WriteWord 0xFF45 word) (word / 256)
 
--- Pan Docs, "OAM DMA Transfer", and document 02, wish 1: where it is not refused, of a page below E0 OAM's byte i is what a read of page x 256 + i gave
--- before, for i below 160; the other 96 stay, and of a page from E0 on all do. OAM has 256 bytes, as its type says.
+-- Pan Docs, "OAM DMA Transfer", and document 02, wish 1: it is refused by 3 and 4 as every write is, and by no other number. Where it is not, of a page below
+-- E0 OAM's byte i is what a read of page x 256 + i gave before, for i below 160; the other 96 stay, and of a page from E0 on all do. OAM has 256 bytes, as its
+-- type says.
 abbrev pub Sprites : Type 0
 Sprites =
     (x : Fixed) (w : World) (c : Call) (page : ℕ)
     → Transfers c page
     → length (w .state .oam) ≡ 256
-    → step x w c .number ≡ done
+    → (step x w c .number ≡ refusedWrite x w)
+    × (refusedWrite x w ≡ done
     → (i : ℕ)
     → getD (step x w c .after .state .oam) i 0
-    ≡ cond (ltb page 0xE0 && ltb i 160) (step x w (call.ReadByte (page * 256 + i)) .value) (getD (w .state .oam) i 0)
+    ≡ cond (ltb page 0xE0 && ltb i 160) (step x w (call.ReadByte (page * 256 + i)) .value) (getD (w .state .oam) i 0))

@@ -29,7 +29,7 @@ const CORNERS: [&str; 48] = [
     // An update by nothing can step.
     "N 00010000; W FF0704 00; T 000003E8 00; W FF0705 00; T 00000000 00; R FF05 3E",
     // 4. OAM DMA: 7F copies, 80 copies, DF copies, E0 none; FF46 keeps the page.
-    // (7F is document 02's, and excepted: excepted.rs.)
+    // (What is copied from ROM is document 02's, and excepted: excepted.rs.)
     "N 00010000; W FEA078 00; W FF467F 00; R FE00 84; R FE9F 23; R FEA0 78; R FF46 7F",
     // Page 40 is the selected bank's first, whichever way the transfer comes.
     "N 01030000; D 40 00; R FE00 C7; W 200005 00; R FE00 C7; D 40 00; R FE00 E3; W 200006 00; \
@@ -145,7 +145,7 @@ fn list(corner: &str) -> io::Result<String> {
         if answer != output {
             let got = hex::digits(&answer);
             return Err(Error::other(format!(
-                "{corner}: {line}: the Rust gives {got}"
+                "{corner}: {line}: the oracle gives {got}"
             )));
         }
     }
