@@ -20,11 +20,11 @@ use Rattle.timer.specs.declared.Rest.the-variants.{Still, Due}
 use Rattle.timer.specs.declared.Timer.{Timer}
 use Rattle.timer.specs.declared.Updated.{Updated}
 
--- the four, in order
+-- the code's table
 abbrev periods : List ℕ
 periods = 1024 ∷ 16 ∷ 64 ∷ 256 ∷ []
 
--- they are Pan Docs' rule
+-- the table is Pan Docs' rule
 in-table : (i tac : ℕ) → i < 4 → tac % 4 ≡ i → getD periods i 0 ≡ period tac
 unfolding period
 in-table zero tac h e = rw e

@@ -42,16 +42,14 @@ pub enum Rest {
 // What `cycles_to_overflow` gives where TIMA does not count.
 pub const NEVER: u32 = 0xFFFF_FFFF;
 
-// Cycles for one step of TIMA, by TAC's bits 1..0. A table of constants would be built anew at each use.
+// Cycles for one step of TIMA, by TAC's bits 1..0.
+const PERIODS: [u16; 4] = [1024, 16, 64, 256];
+
 fn period_of(tac: u8) -> u16
     ensures { λ r. ⌜ (r ≡ period tac) × ((0 < r) × (r ≤ 1024)) ⌝ }
 {
-    match tac % 4 {
-        0 => 1024,
-        1 => 16,
-        2 => 64,
-        _ => 256,
-    }
+    let i = (tac % 4) as usize;
+    PERIODS[i]
 }
 
 // DIV after so many steps.
