@@ -196,7 +196,7 @@ fn mapper_fits(image: &[u8]) -> bool
 }
 
 // Tests that are enough for a load, and for the lengths of what is lent beside the image: small, so that the compiler puts them in place where they are
-// called. Who fails one is no worse off than before it. The mapper is the commonest; the lengths are compared in the branch that has shown what they follow.
+// called. Who fails one is no worse off than before it. The mapper is the commonest; the lengths are compared in each branch, where the compiler knows what they follow.
 
 pub fn mapper_surely_fits(image: &[u8], rom: usize, save: usize) -> bool
     ensures { λ r. ⌜ (r ≡ true → MapperFits (now (image .entry)) rom save) ⌝ }
@@ -217,15 +217,15 @@ pub fn mapper_surely_fits(image: &[u8], rom: usize, save: usize) -> bool
         if !mapper.in_range(cartridge) {
             return false;
         }
-        return save == 0x2000;
+        return save == cartridge.ram_len();
     }
     if !mapper.in_range(cartridge) {
         return false;
     }
     if cartridge.code == 3 {
-        return save == 0x8000;
+        return save == cartridge.ram_len();
     }
-    save == 0
+    save == cartridge.ram_len()
 }
 
 fn machine_surely_fits(banks: Banks, hdma: Hdma, vram: usize, wram: usize) -> bool

@@ -198,7 +198,7 @@ impl Mapper {
         match self {
             Mapper::RomOnly => 0,
             Mapper::Mbc1(_) => 0,
-            Mapper::Mbc2(_) => 512,
+            Mapper::Mbc2(_) => mbc2::RAM_LEN,
         }
     }
 

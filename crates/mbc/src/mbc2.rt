@@ -13,6 +13,9 @@ ghost use Rattle.mbc.specs.declared.mbc.Mapper.the-variants as mapper;
 
 pub const KIND: u8 = 2;
 
+// Half bytes, one in each byte of the save.
+pub const RAM_LEN: usize = 512;
+
 pub struct Mbc2 {
     // The ROM bank at 4000..7FFF.
     pub rom: u16,

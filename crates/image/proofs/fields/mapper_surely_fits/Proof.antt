@@ -1,10 +1,10 @@
--- The mapper's own tests; the save's length by the branch on the code.
+-- The mapper's own tests; the save's length is the same in each branch.
 use mathlib.Core.Path.{_≡_, refl, sym, ap, subst, _∙_}
 use mathlib.Core.Bool.{true}
 use mathlib.Core.List.{List}
 use Prim.Native.Nat.{ℕ, _*_}
 use lib.ListN.{length}
-use borrow.Author.Tests.{eqb-true, ne-eqb}
+use borrow.Author.Tests.{eqb-true}
 use Rattle.rules.proofs.Tests.{granted, untrue}
 use Rattle.mbc.specs.Mbc.{mapperOf, same, inRange, romLen, ramLen, ramBanks, from1, numbers1}
 use Rattle.mbc.specs.declared.cartridge.Cartridge.{Cartridge}
@@ -22,18 +22,6 @@ use Rattle.image.proofs.fields.mapper_surely_fits.Tie as tie
 first-ram : (c : Cartridge) (m : Mbc1) → ramBanks (c .code) * 0x2000 ≡ ramLen c (mapper.Mbc1 m)
 unfolding ramLen
 first-ram c m = refl
-
-one-bank : (k : ℕ) → k ≡ 2 → 0x2000 ≡ ramBanks k * 0x2000
-unfolding ramBanks
-one-bank k e = rw e
-
-four-banks : (k : ℕ) → k ≡ 3 → 0x8000 ≡ ramBanks k * 0x2000
-unfolding ramBanks
-four-banks k e = rw e
-
-no-bank : (k : ℕ) → (k ≡ 2 → ⊥) → (k ≡ 3 → ⊥) → 0 ≡ ramBanks k * 0x2000
-unfolding ramBanks
-no-bank k p q = rw (ne-eqb k 2 p, ne-eqb k 3 q)
 
 first-fits : (l : List ℕ) (r : Registers) (k : Cartridge) (m : Mbc1) (n s : ℕ) → length l ≡ imageLen → r ≡ registersIn (fields l) → k ≡ cartridgeOf (fields l)
     → m ≡ from1 r → same r (numbers1 (from1 r)) ≡ true → inRange k (mapper.Mbc1 m) ≡ true → n ≡ romLen k → s ≡ ramBanks (k .code) * 0x2000
@@ -79,11 +67,14 @@ in-range-requires c κs = search needs
 returns-4 : tie.Need-returns-4
 returns-4 c = λ z. untrue z
 
+ram-len-requires : tie.Need-ram-len-requires
+ram-len-requires c κs = search needs
+
 returns-5 : tie.Need-returns-5
 returns-5 c = λ z.
-    first-fits _ _ _ _ _ _ (c .before .before .before .before .before .before .before .before .before .before .before .if1 .left) (c .before .before .before .before .before .before .before .before .before .before .registers-at .ensures) (c .before .before .before .before .before .before .before .cartridge-at .ensures) (c .before .before .before .before .from-registers .ensures)
-    (granted (c .before .before .before .before .before .before .before .before .before .has .ensures) (c .before .before .before .before .before .before .before .before .if2 .left)) (granted (c .before .in-range .ensures) (c .if5 .left)) (c .before .before .before .before .before .if3 .left ∙ c .before .before .before .before .before .before .rom-len .ensures)
-    (eqb-true _ _ z ∙ one-bank _ (c .before .before .if4 .taken))
+    first-fits _ _ _ _ _ _ (c .before .before .before .before .before .before .before .before .before .before .before .before .if1 .left) (c .before .before .before .before .before .before .before .before .before .before .before .registers-at .ensures) (c .before .before .before .before .before .before .before .before .cartridge-at .ensures) (c .before .before .before .before .before .from-registers .ensures)
+    (granted (c .before .before .before .before .before .before .before .before .before .before .has .ensures) (c .before .before .before .before .before .before .before .before .before .if2 .left)) (granted (c .before .before .in-range .ensures) (c .before .if5 .left)) (c .before .before .before .before .before .before .if3 .left ∙ c .before .before .before .before .before .before .before .rom-len .ensures)
+    (eqb-true _ _ z ∙ c .ram-len .ensures)
 
 in-range-requires-2 : tie.Need-in-range-requires-2
 in-range-requires-2 c κs = search needs
@@ -91,17 +82,23 @@ in-range-requires-2 c κs = search needs
 returns-6 : tie.Need-returns-6
 returns-6 c = λ z. untrue z
 
+ram-len-requires-2 : tie.Need-ram-len-requires-2
+ram-len-requires-2 c κs = search needs
+
 returns-7 : tie.Need-returns-7
 returns-7 c = λ z.
-    first-fits _ _ _ _ _ _ (c .before .before .before .before .before .before .before .before .before .before .before .before .before .if1 .left) (c .before .before .before .before .before .before .before .before .before .before .before .before .registers-at .ensures) (c .before .before .before .before .before .before .before .before .before .cartridge-at .ensures) (c .before .before .before .before .before .before .from-registers .ensures)
-    (granted (c .before .before .before .before .before .before .before .before .before .before .before .has .ensures) (c .before .before .before .before .before .before .before .before .before .before .if2 .left)) (granted (c .before .before .before .in-range2 .ensures) (c .before .before .if6 .left)) (c .before .before .before .before .before .before .before .if3 .left ∙ c .before .before .before .before .before .before .before .before .rom-len .ensures)
-    (eqb-true _ _ z ∙ four-banks _ (c .if7 .taken))
+    first-fits _ _ _ _ _ _ (c .before .before .before .before .before .before .before .before .before .before .before .before .before .before .if1 .left) (c .before .before .before .before .before .before .before .before .before .before .before .before .before .registers-at .ensures) (c .before .before .before .before .before .before .before .before .before .before .cartridge-at .ensures) (c .before .before .before .before .before .before .before .from-registers .ensures)
+    (granted (c .before .before .before .before .before .before .before .before .before .before .before .before .has .ensures) (c .before .before .before .before .before .before .before .before .before .before .before .if2 .left)) (granted (c .before .before .before .before .in-range2 .ensures) (c .before .before .before .if6 .left)) (c .before .before .before .before .before .before .before .before .if3 .left ∙ c .before .before .before .before .before .before .before .before .before .rom-len .ensures)
+    (eqb-true _ _ z ∙ c .ram-len2 .ensures)
+
+ram-len-requires-3 : tie.Need-ram-len-requires-3
+ram-len-requires-3 c κs = search needs
 
 returns-8 : tie.Need-returns-8
 returns-8 c = λ z.
-    first-fits _ _ _ _ _ _ (c .before .before .before .before .before .before .before .before .before .before .before .before .before .if1 .left) (c .before .before .before .before .before .before .before .before .before .before .before .before .registers-at .ensures) (c .before .before .before .before .before .before .before .before .before .cartridge-at .ensures) (c .before .before .before .before .before .before .from-registers .ensures)
-    (granted (c .before .before .before .before .before .before .before .before .before .before .before .has .ensures) (c .before .before .before .before .before .before .before .before .before .before .if2 .left)) (granted (c .before .before .before .in-range2 .ensures) (c .before .before .if6 .left)) (c .before .before .before .before .before .before .before .if3 .left ∙ c .before .before .before .before .before .before .before .before .rom-len .ensures)
-    (eqb-true _ _ z ∙ no-bank _ (c .before .before .before .before .if4 .left) (c .if7 .left))
+    first-fits _ _ _ _ _ _ (c .before .before .before .before .before .before .before .before .before .before .before .before .before .before .if1 .left) (c .before .before .before .before .before .before .before .before .before .before .before .before .before .registers-at .ensures) (c .before .before .before .before .before .before .before .before .before .before .cartridge-at .ensures) (c .before .before .before .before .before .before .before .from-registers .ensures)
+    (granted (c .before .before .before .before .before .before .before .before .before .before .before .before .has .ensures) (c .before .before .before .before .before .before .before .before .before .before .before .if2 .left)) (granted (c .before .before .before .before .in-range2 .ensures) (c .before .before .before .if6 .left)) (c .before .before .before .before .before .before .before .before .if3 .left ∙ c .before .before .before .before .before .before .before .before .before .rom-len .ensures)
+    (eqb-true _ _ z ∙ c .ram-len3 .ensures)
 
 pub mapper-surely-fits-spec : {M : Type 1} → statement M
 mapper-surely-fits-spec =
@@ -117,8 +114,11 @@ mapper-surely-fits-spec =
     from-registers-requires
     in-range-requires
     returns-4
+    ram-len-requires
     returns-5
     in-range-requires-2
     returns-6
+    ram-len-requires-2
     returns-7
+    ram-len-requires-3
     returns-8)
