@@ -4,6 +4,7 @@ ghost use mathlib.Core.Path.{_≡_};
 ghost use mathlib.Core.Bool.{true};
 ghost use Prim.Native.Nat.{_+_, _≤_};
 ghost use lib.ListN.{length, take};
+ghost use Rattle.numbers.specs.Numbers.{done};
 ghost use Rattle.image.specs.Layout.{imageLen, imageOf};
 ghost use Rattle.image.specs.Load.{storable, stored, storeCall, loaded, stateOf, loadCall, openedOf, openCall};
 ghost use Rattle.image.specs.Laws.{Typed, StateBack, ImageBack, ImageTyped};
@@ -146,7 +147,7 @@ fn number_apart(image: &[u8]) -> u8
 
 // A load's number. In two, so that each is put in place where it is called: the first is that number, or 0 where the rest is still to be asked.
 pub fn mapper_number(image: &[u8]) -> u8
-    ensures { λ r. ⌜ (r ≡ 0 → Mapped (now (image .entry))) × ((r ≡ 0 → ⊥) → r ≡ loadCall (now (image .entry)) .number) ⌝ }
+    ensures { λ r. ⌜ (r ≡ done → Mapped (now (image .entry))) × ((r ≡ done → ⊥) → r ≡ loadCall (now (image .entry)) .number) ⌝ }
 {
     if fields::mapper_surely(image) {
         return numbers::DONE;

@@ -3,6 +3,7 @@
 ghost use mathlib.Core.Path.{_≡_};
 ghost use Prim.Native.Nat.{_-_, _/_, _%_, _<_, _≤_};
 ghost use lib.ListN.{length};
+ghost use Rattle.numbers.specs.Numbers.{done};
 ghost use Rattle.image.specs.Layout.{imageLen, imageOf};
 ghost use Rattle.image.specs.Load.{loadCall};
 ghost use Rattle.image.specs.Patches.{Mapped, Slim, mappingPut};
@@ -77,7 +78,7 @@ pub fn put_byte(
     value: u8,
 )
     requires { ⌜ Taken (now image) (now vram) (now wram) (now save) (now log) ⌝ }
-    ensures { λ _. ⌜ left 0 0 (now (image .exit)) (now (vram .exit)) (now (wram .exit)) (now (save .exit)) (now (log .exit)) ≡ leftBy (put (worldOf (now (image .entry)) (now (vram .entry)) (now (wram .entry)) (now (save .entry)) (now (log .entry))) index value) ⌝ }
+    ensures { λ _. ⌜ left done 0 (now (image .exit)) (now (vram .exit)) (now (wram .exit)) (now (save .exit)) (now (log .exit)) ≡ leftBy (put (worldOf (now (image .entry)) (now (vram .entry)) (now (wram .entry)) (now (save .entry)) (now (log .entry))) index value) ⌝ }
 {
     match memory::region_of(index) {
         Region::Rom => put_mapper(image, index, value),
@@ -106,7 +107,7 @@ fn put_apart(
     value: u8,
 )
     requires { ⌜ Taken (now image) (now vram) (now wram) (now save) (now log) ⌝ }
-    ensures { λ _. ⌜ left 0 0 (now (image .exit)) (now (vram .exit)) (now (wram .exit)) (now (save .exit)) (now (log .exit)) ≡ leftBy (put (worldOf (now (image .entry)) (now (vram .entry)) (now (wram .entry)) (now (save .entry)) (now (log .entry))) index value) ⌝ }
+    ensures { λ _. ⌜ left done 0 (now (image .exit)) (now (vram .exit)) (now (wram .exit)) (now (save .exit)) (now (log .exit)) ≡ leftBy (put (worldOf (now (image .entry)) (now (vram .entry)) (now (wram .entry)) (now (save .entry)) (now (log .entry))) index value) ⌝ }
 {
     put_byte(image, vram, wram, save, log, index, value);
 }
@@ -122,7 +123,7 @@ pub fn put_here(
     value: u8,
 )
     requires { ⌜ Taken (now image) (now vram) (now wram) (now save) (now log) ⌝ }
-    ensures { λ _. ⌜ left 0 0 (now (image .exit)) (now (vram .exit)) (now (wram .exit)) (now (save .exit)) (now (log .exit)) ≡ leftBy (put (worldOf (now (image .entry)) (now (vram .entry)) (now (wram .entry)) (now (save .entry)) (now (log .entry))) index value) ⌝ }
+    ensures { λ _. ⌜ left done 0 (now (image .exit)) (now (vram .exit)) (now (wram .exit)) (now (save .exit)) (now (log .exit)) ≡ leftBy (put (worldOf (now (image .entry)) (now (vram .entry)) (now (wram .entry)) (now (save .entry)) (now (log .entry))) index value) ⌝ }
 {
     match memory::region_of(index) {
         Region::Vram => {
@@ -150,7 +151,7 @@ pub fn put_both(
     value: u16,
 )
     requires { ⌜ Taken (now image) (now vram) (now wram) (now save) (now log) ⌝ }
-    ensures { λ _. ⌜ left 0 0 (now (image .exit)) (now (vram .exit)) (now (wram .exit)) (now (save .exit)) (now (log .exit)) ≡ leftBy (put (put (worldOf (now (image .entry)) (now (vram .entry)) (now (wram .entry)) (now (save .entry)) (now (log .entry))) index (value % 256)) (nextIndex index) (value / 256)) ⌝ }
+    ensures { λ _. ⌜ left done 0 (now (image .exit)) (now (vram .exit)) (now (wram .exit)) (now (save .exit)) (now (log .exit)) ≡ leftBy (put (put (worldOf (now (image .entry)) (now (vram .entry)) (now (wram .entry)) (now (save .entry)) (now (log .entry))) index (value % 256)) (nextIndex index) (value / 256)) ⌝ }
 {
     let low = (value % 256) as u8;
     let high = (value / 256) as u8;

@@ -3,6 +3,7 @@ ghost use mathlib.Core.List.{[]};
 ghost use mathlib.Core.Path.{_≡_};
 ghost use Prim.Native.Nat.{ℕ, _+_, _%_};
 ghost use lib.ListN.{length};
+ghost use Rattle.numbers.specs.Numbers.{done};
 ghost use Rattle.entry.specs.Host.{listOf, blockEntry};
 ghost use Rattle.image.specs.Load.{loadCall, stored};
 ghost use Rattle.memory.specs.World.{world, fixed};
@@ -22,7 +23,7 @@ fn fill(
     index: u16,
     out: &mut [u8],
 )
-    requires { ⌜ (loadCall (now image) .number ≡ 0) × Ready (fixed (now rom) (now sound)) (world (loadCall (now image) .state) (now vram) (now wram) (now save) []) ⌝ }
+    requires { ⌜ (loadCall (now image) .number ≡ done) × Ready (fixed (now rom) (now sound)) (world (loadCall (now image) .state) (now vram) (now wram) (now save) []) ⌝ }
     ensures { λ _. ⌜ now (out .exit) ≡ listOf (λ (k : ℕ). readByte (fixed (now (rom .entry)) (now (sound .entry))) (loadCall (now (image .entry)) .state) (now (vram .entry)) (now (wram .entry)) (now (save .entry)) ((index + k) % 65536)) (length (now (out .entry))) ⌝ }
 {
     let mut at = index;

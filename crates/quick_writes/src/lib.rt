@@ -4,6 +4,7 @@ ghost use mathlib.Core.Bool.{true};
 ghost use mathlib.Core.Path.{_≡_};
 ghost use Prim.Native.Nat.{_/_, _%_};
 ghost use lib.ListN.{length};
+ghost use Rattle.numbers.specs.Numbers.{done};
 ghost use Rattle.dispatch.specs.declared.Call.the-variants.{WriteByte, WriteWord};
 ghost use Rattle.entry.specs.Entry.{left, worldEntry};
 ghost use Rattle.image.specs.Layout.{imageLen};
@@ -83,7 +84,7 @@ fn put_all(
     value: u8,
 )
     requires { ⌜ Taken (now image) (now vram) (now wram) (now save) (now log) × Own (fixed (now rom) (now sound)) (now image) (now vram) (now wram) (now save) ⌝ }
-    ensures { λ _. ⌜ left 0 0 (now (image .exit)) (now (vram .exit)) (now (wram .exit)) (now (save .exit)) (now (log .exit)) ≡ leftBy (writeAt (fixed (now (rom .entry)) (now (sound .entry))) 2 (worldOf (now (image .entry)) (now (vram .entry)) (now (wram .entry)) (now (save .entry)) (now (log .entry))) index value) ⌝ }
+    ensures { λ _. ⌜ left done 0 (now (image .exit)) (now (vram .exit)) (now (wram .exit)) (now (save .exit)) (now (log .exit)) ≡ leftBy (writeAt (fixed (now (rom .entry)) (now (sound .entry))) 2 (worldOf (now (image .entry)) (now (vram .entry)) (now (wram .entry)) (now (save .entry)) (now (log .entry))) index value) ⌝ }
 {
     if is_quick(index) {
         put_bytes::put_byte(image, vram, wram, save, log, index, value);
@@ -169,7 +170,7 @@ fn put_word(
     value: u16,
 )
     requires { ⌜ Taken (now image) (now vram) (now wram) (now save) (now log) × Own (fixed (now rom) (now sound)) (now image) (now vram) (now wram) (now save) ⌝ }
-    ensures { λ _. ⌜ left 0 0 (now (image .exit)) (now (vram .exit)) (now (wram .exit)) (now (save .exit)) (now (log .exit)) ≡ leftBy (wordAt (fixed (now (rom .entry)) (now (sound .entry))) (worldOf (now (image .entry)) (now (vram .entry)) (now (wram .entry)) (now (save .entry)) (now (log .entry))) index value) ⌝ }
+    ensures { λ _. ⌜ left done 0 (now (image .exit)) (now (vram .exit)) (now (wram .exit)) (now (save .exit)) (now (log .exit)) ≡ leftBy (wordAt (fixed (now (rom .entry)) (now (sound .entry))) (worldOf (now (image .entry)) (now (vram .entry)) (now (wram .entry)) (now (save .entry)) (now (log .entry))) index value) ⌝ }
 {
     let low = (value % 256) as u8;
     let high = (value / 256) as u8;
