@@ -2,7 +2,7 @@
 use mathlib.Core.Path.{_≡_, refl, sym, ap, subst, _∙_}
 use mathlib.Core.List.{List, [], _∷_, _++_}
 use Prim.Native.Nat.{ℕ, zero, suc, _+_, _-_, _*_, _/_, _%_, _^_, _<_, _≤_}
-use native.Mathlib.Nat.{mod-lt, add-comm, mul-assoc, add-mul}
+use native.Mathlib.Nat.{mod-lt, mod-one, add-comm, mul-assoc, add-mul}
 use native.Mathlib.Omega.{arith}
 use lib.ListN.{length, take, drop, getD, set, length-replicate, replicate-append-replicate}
 use lib.Seq.{take-at}
@@ -195,3 +195,22 @@ put-own l b bit ws (k ∷ ks) ps =
     let w = getD ws k 0 in
     ap (putFields bit ws (own (fieldsFrom l bit ws) ks ++ ps)) (ap (putAt l at w) (listed l bit ws k) ∙ put-same l b at w)
     ∙ put-own l b bit ws ks ps
+
+-- Fields side by side from `bit` on, put one after the other, are put as one
+
+abbrev pub putEach : List ℕ → ℕ → List ℕ → List ℕ → List ℕ
+putEach l bit [] vs = l
+putEach l bit (w ∷ ws) [] = l
+putEach l bit (w ∷ ws) (v ∷ vs) = putEach (putAt l bit w v) (bit + w) ws vs
+
+put-none : (l : List ℕ) → Below 256 l → (bit : ℕ) → putAt l bit 0 0 ≡ l
+unfolding fieldAt
+put-none l b bit = ap (putAt l bit 0) (sym (mod-one (number l / 2 ^ behind l bit 0))) ∙ put-same l b bit 0
+
+pub put-run : (l : List ℕ) → Below 256 l → (bit : ℕ) (ws vs : List ℕ) → Fit ws vs → bit + bits ws ≤ 8 * length l
+    → putEach l bit ws vs ≡ putAt l bit (bits ws) (packed ws vs)
+put-run l b bit [] vs f h = sym (put-none l b bit)
+put-run l b bit (w ∷ ws) [] f h = absurd (omega arith)
+put-run l b bit (w ∷ ws) (v ∷ vs) f h =
+    put-run (putAt l bit w v) (put-below l bit w v) (bit + w) ws vs (f .1) (rw (put-length l bit w v) (omega arith))
+    ∙ put-joined l b bit w (bits ws) v (packed ws vs) h (f .0)
