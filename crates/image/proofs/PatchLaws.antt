@@ -3,14 +3,14 @@
 use mathlib.Core.Bool.{true}
 use mathlib.Core.Path.{_≡_, refl, sym, ap, _∙_}
 use mathlib.Core.List.{List, [], _∷_, _++_, append-assoc}
-use Prim.Native.Nat.{ℕ, zero, suc, _+_, _*_, _<_}
+use Prim.Native.Nat.{ℕ, zero, suc, _+_, _<_}
 use native.Mathlib.Nat.{zero-add, suc-add}
 use native.Mathlib.Omega.{arith}
-use lib.ListN.{length, take, set, length-append, length-set}
+use lib.ListN.{length, take, drop, set, length-append, length-set}
 use lib.Seq.{take-at, set-append-left}
-use Rattle.packing.specs.Packing.{Below, bits, repacked, eights, fives}
+use Rattle.packing.specs.Packing.{Below, bits, packed, repacked, eights, fives}
 use Rattle.places.specs.Places.{putAt, setAll}
-use Rattle.places.proofs.Puts.{put-below, puts-length, put-joined, put-over, own, put-own}
+use Rattle.places.proofs.Puts.{put-below, puts-length, put-over, own, put-own, put-run}
 use Rattle.mbc.specs.Mbc.{mapperOf, registersOf, sound}
 use Rattle.mbc.specs.declared.held.Registers.{Registers}
 use Rattle.mbc.specs.declared.mbc.Mapper.{Mapper}
@@ -31,9 +31,16 @@ use Rattle.image.proofs.Parts.{fieldLen, joined}
 use Rattle.image.proofs.StateLaws.{storable-state, storable-use, slim-registers, image-bytes}
 use Rattle.image.proofs.Round.{state-back, values-back, fields-of-values, front-of-values}
 
--- where a mapper's numbers stand
+-- a mapper's numbers: where they stand, their widths, and they
+
 abbrev pub numbersPlace : ℕ
 numbersPlace = front + bits (take 23 fieldWidths)
+
+abbrev pub numbersWidths : List ℕ
+numbersWidths = take 5 (drop 23 fieldWidths)
+
+abbrev pub numbersOf : Registers → List ℕ
+numbersOf r = r .rom ∷ r .ram ∷ r .mode ∷ r .enabled ∷ r .high ∷ []
 
 abbrev pub Bytes : List ℕ → Type 0
 Bytes l = (length l ≡ 256) × Below 256 l
@@ -105,21 +112,11 @@ slim m h = slim-registers m h
 -- A mapper put. Its numbers stand side by side, so they are put as one; and fields that are put as they are change nothing
 
 module _ (l : List ℕ) (below : Below 256 l) where
-  pub numbers-put : length l ≡ imageLen → (r : Registers) → Fits (numbersFields r) → (n : ℕ)
-      → n ≡ r .rom * 64 + r .ram * 16 + r .mode * 8 + r .enabled * 4 + r .high → putAt l numbersPlace 13 n ≡ put (numbersFields r) l
+  pub numbers-put : length l ≡ imageLen → (r : Registers) → Fits (numbersFields r) → (n : ℕ) → n ≡ packed numbersWidths (numbersOf r)
+      → putAt l numbersPlace (bits numbersWidths) n ≡ put (numbersFields r) l
   numbers-put size r f n e =
-      let k = numbersPlace in
-      let a = r .rom * 4 + r .ram in
-      let b = a * 2 + r .mode in
-      let c = b * 2 + r .enabled in
-      let d : c * 4 + r .high ≡ n = omega arith in
-      sym
-      (ap (λ (x : List ℕ). putAt (putAt (putAt x (k + 9) 1 (r .mode)) (k + 10) 1 (r .enabled)) (k + 11) 2 (r .high))
-      (put-joined l below k 7 2 (r .rom) (r .ram) (omega arith) (omega (arith, f)))
-      ∙ ap (λ (x : List ℕ). putAt (putAt x (k + 10) 1 (r .enabled)) (k + 11) 2 (r .high)) (put-joined l below k 9 1 a (r .mode) (omega arith) (omega (arith, f)))
-      ∙ ap (λ (x : List ℕ). putAt x (k + 11) 2 (r .high)) (put-joined l below k 10 1 b (r .enabled) (omega arith) (omega (arith, f)))
-      ∙ put-joined l below k 11 2 c (r .high) (omega arith) (omega (arith, f))
-      ∙ ap (putAt l k 13) d)
+      ap (putAt l numbersPlace (bits numbersWidths)) e
+      ∙ sym (put-run l below numbersPlace numbersWidths (numbersOf r) f (omega arith))
 
   put-again : (ks : List ℕ) (ps : List (ℕ × ℕ)) → put (own (fields l) ks ++ ps) l ≡ put ps l
   put-again ks ps = put-own l below front fieldWidths ks ps
@@ -153,7 +150,7 @@ unfolding usedPut mappingPut
 used-over l size p u v h =
     let ps = registersFields (registersOf p) in
     let n : length (put ps l) ≡ imageLen = puts-length front fieldWidths ps l ∙ size in
-    put-over (put ps l) (put-below _ _ _ _) (front + bits (take usedField fieldWidths)) 16 u v (omega arith) h
+    put-over (put ps l) (put-below _ _ _ _) (front + bits (take usedField fieldWidths)) _ u v (omega arith) h
 
 -- A byte of OAM or page: the first 512 bytes are these
 

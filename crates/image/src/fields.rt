@@ -403,12 +403,12 @@ fn put_numbers(image: &mut [u8], r: Registers)
     requires { ⌜ (length (now image) ≡ imageLen) × Fits (numbersFields r) ⌝ }
     ensures { λ _. ⌜ now (image .exit) ≡ put (numbersFields r) (now (image .entry)) ⌝ }
 {
-    let n = r.rom * 64
-        + r.ram as u16 * 16
-        + r.mode as u16 * 8
-        + r.enabled as u16 * 4
-        + r.high as u16;
-    places::put_narrow(image, layout::ROM_AT, layout::NUMBERS, n);
+    let n = r.rom as u32 * layout::ROM_UNIT
+        + r.ram as u32 * layout::RAM_UNIT
+        + r.mode as u32 * layout::BANKING_UNIT
+        + r.enabled as u32 * layout::ENABLED_UNIT
+        + r.high as u32;
+    places::put_narrow(image, layout::ROM_AT, layout::NUMBERS, n as u16);
 }
 
 pub fn put_used(image: &mut [u8], used: u16)

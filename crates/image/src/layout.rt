@@ -94,3 +94,13 @@ pub const HIGH_AT: usize = ENABLED_AT + 1;
 pub const USED_AT: usize = HIGH_AT + HIGH;
 
 pub const ZEROS_AT: usize = USED_AT + USED;
+
+// The numbers as one: what each counts there, 2 to the bits that stand behind it.
+
+pub const ROM_UNIT: u32 = 1 << (USED_AT - RAM_AT);
+
+pub const RAM_UNIT: u32 = 1 << (USED_AT - BANKING_AT);
+
+pub const BANKING_UNIT: u32 = 1 << (USED_AT - ENABLED_AT);
+
+pub const ENABLED_UNIT: u32 = 1 << (USED_AT - HIGH_AT);

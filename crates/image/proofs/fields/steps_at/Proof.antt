@@ -49,8 +49,8 @@ returns c =
     let l = now (c .before .before .before .args .image) in
     let size = c .before .before .before .pre in
     same-range _ _ (c .flag-at .ensures)
-    (rw (c .before .field-at .ensures .0) (low-four l 5135 52 5123 (omega arith) (search arith) (omega arith) refl))
-    (rw (c .before .field-at .ensures .0) (mod-mod-pow (fieldAt l 5135 56 / 2 ^ 36) 12 4 ∙ low-four l 5135 36 5139 (omega arith) (search arith) (omega arith) refl))
+    (rw (c .before .field-at .ensures .0) (low-four l _ 52 _ (omega arith) (search arith) (omega arith) refl))
+    (rw (c .before .field-at .ensures .0) (mod-mod-pow (fieldAt l _ 56 / 2 ^ 36) 12 4 ∙ low-four l _ 36 _ (omega arith) (search arith) (omega arith) refl))
 
 pub steps-at-spec : {M : Type 1} → statement M
 steps-at-spec = tie.close (tie.spec add-field-at field-at-requires flag-at-requires cast-t6 cast-t9 returns)
