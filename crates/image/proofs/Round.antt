@@ -11,8 +11,8 @@ use lib.Seq.{take-at, drop-at, drop-drop, length-take-le}
 use mir.Syntax.{w32}
 use mir.Val.{ofZ, toZ}
 use mir.Facts.{toZ-ofZ, ofZ-toZ}
-use borrow.Author.Tests.{eqb-true, eq-eqb}
-use Rattle.rules.proofs.Tests.{both-true}
+use borrow.Author.Tests.{leb-true, eqb-true, eq-eqb}
+use Rattle.rules.proofs.Tests.{both-true, by-cond, untrue}
 use Rattle.numbers.specs.Numbers.{done, outOfRange, wrongLength}
 use Rattle.packing.specs.Packing.{Fit, Below, bits, packed, unpacked, repacked, eights, fives}
 use Rattle.packing.proofs.Laws.{fit-append, fit-below}
@@ -25,7 +25,7 @@ use Rattle.memory.specs.declared.Memory.{Memory}
 use Rattle.memory.specs.Start.{zeroed}
 use Rattle.memory.proofs.Laws.{range-parts}
 use Rattle.image.specs.Layout.{imageLen, fieldWidths, zerosField, widths, channels, bit, fieldValues, values, imageOf}
-use Rattle.image.specs.Load.{registersIn, coreFrom, at, sound, storable, loaded, valuesOf, bytesIn, colorsIn, fieldsIn, stateFrom, stateOf, loadCall}
+use Rattle.image.specs.Load.{cartridgeOf, registersIn, coreFrom, at, sound, storable, loaded, valuesOf, bytesIn, colorsIn, fieldsIn, stateFrom, stateOf, loadCall}
 use Rattle.image.specs.Laws.{Typed, StateBack, ImageBack}
 use Rattle.image.specs.declared.Loaded.{Loaded}
 use Rattle.image.proofs.ColorLaws.{channels-length, colors-channels, channels-colors}
@@ -51,8 +51,11 @@ bit-again n = below-bit (n % 2) (omega arith)
 signed-again : (n : ℕ) → ofZ w32 (toZ w32 (n % 2 ^ 32)) ≡ n % 2 ^ 32
 signed-again n = ofZ-toZ {w = w32} {n = n % 2 ^ 32} (record { fits = omega arith })
 
-log-again : (n : ℕ) → mbc.log2 (mbc.banksOf (n % 8)) ≡ n % 8
-log-again n = log-of-banks (n % 8) (omega arith)
+-- a logarithm past the last gives 0 banks, which no cartridge has
+log-again : (n : ℕ) → mbc.oneOf mbc.powers (mbc.banksOf n) ≡ true → mbc.log2 (mbc.banksOf n) ≡ n
+unfolding mbc.banksOf
+log-again n =
+    by-cond (λ (k : ℕ). mbc.oneOf mbc.powers k ≡ true → mbc.log2 (mbc.banksOf n) ≡ n) _ _ _ (λ b h. log-of-banks n (leb-true n _ b)) (λ b h. untrue h)
 
 -- State, image, state
 
@@ -150,12 +153,17 @@ state-back m t h = (
 
 -- Image, state, image
 
-fields-again : (n : ℕ) → sound (unpacked fieldWidths n) ≡ true → fieldValues (coreFrom (unpacked fieldWidths n)) ≡ unpacked fieldWidths n
+-- N is one that a cartridge has
+abbrev isPower : List ℕ → Bool
+isPower fs = mbc.oneOf mbc.powers (cartridgeOf fs .banks)
+
+fields-again : (n : ℕ) → sound (unpacked fieldWidths n) ≡ true → isPower (unpacked fieldWidths n) ≡ true
+    → fieldValues (coreFrom (unpacked fieldWidths n)) ≡ unpacked fieldWidths n
 unfolding sound
-fields-again n h =
+fields-again n h k =
     let fs = unpacked fieldWidths n in
     let g = both-true (mbc.sound (registersIn fs)) (eqb (at fs zerosField) 0) h in
-    simp (bit-again, signed-again, log-again, registers-of-mapper (registersIn fs) (g .0), eqb-true (at fs zerosField) 0 (g .1))
+    simp (bit-again, signed-again, log-again (at fs 21) k, registers-of-mapper (registersIn fs) (g .0), eqb-true (at fs zerosField) 0 (g .1))
 
 values-again : (vs : List ℕ) → length vs ≡ length widths
     → fieldValues (coreFrom (fieldsIn vs)) ≡ fieldsIn vs
@@ -182,11 +190,20 @@ values-length : (l : List ℕ) → length (valuesOf l) ≡ length widths
 unfolding valuesOf
 values-length l = repacked-length (eights imageLen) widths l
 
-module _ (l : List ℕ) (size : length l ≡ imageLen) (below : Below 256 l) (h : sound (fieldsIn (valuesOf l)) ≡ true) where
+module _ (l : List ℕ) (size : length l ≡ imageLen) (below : Below 256 l) (h : sound (fieldsIn (valuesOf l)) ≡ true)
+    (k : storable (stateOf l) ≡ true) where
+  power-in : isPower (fieldsIn (valuesOf l)) ≡ true
+  unfolding stateOf
+  power-in =
+      let m = stateOf l in
+      in-described (m .core .cartridge) (m .core .mapper) (range-parts m (storable-state m k) .mapper) .power
+
   fields-kept : fieldValues (coreFrom (fieldsIn (valuesOf l))) ≡ fieldsIn (valuesOf l)
   fields-kept =
       let e = fields-in l size ∙ fields-number l size in
-      ap (λ (fs : List ℕ). fieldValues (coreFrom fs)) e ∙ fields-again (number l) (sym (ap sound e) ∙ h) ∙ sym e
+      ap (λ (fs : List ℕ). fieldValues (coreFrom fs)) e
+      ∙ fields-again (number l) (sym (ap sound e) ∙ h) (sym (ap isPower e) ∙ power-in)
+      ∙ sym e
 
   image-again : imageOf (stateOf l) ≡ l
   unfolding imageOf stateOf
@@ -200,4 +217,4 @@ image-back l below h =
     let a = number-done (eqb (length l) imageLen) (sound (fieldsIn (valuesOf l)) && storable (stateOf l)) (stateOf l) h in
     let c = both-true (sound (fieldsIn (valuesOf l))) (storable (stateOf l)) (a .1) in
     let e : loadCall l ≡ loaded done (stateOf l) = rw (a .0, a .1) in
-    (ap (λ (r : Loaded). storable (r .state)) e ∙ c .1, ap (λ (r : Loaded). imageOf (r .state)) e ∙ image-again l (eqb-true (length l) imageLen (a .0)) below (c .0))
+    (ap (λ (r : Loaded). storable (r .state)) e ∙ c .1, ap (λ (r : Loaded). imageOf (r .state)) e ∙ image-again l (eqb-true (length l) imageLen (a .0)) below (c .0) (c .1))
