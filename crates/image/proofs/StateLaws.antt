@@ -1,16 +1,17 @@
 -- A state in range: each of its values is within its width, and its image is what the code stores.
 use mathlib.Core.Bool.{Bool, true, false, _&&_}
 use mathlib.Core.Path.{_≡_, refl, sym, ap, _∙_}
-use mathlib.Core.Logic.{⊎-elim}
 use mathlib.Core.List.{List, [], _∷_, _++_, append-assoc}
-use Prim.Native.Nat.{ℕ, _+_, _*_, _%_, _^_, _<_, _≤_}
+use Prim.Native.Nat.{ℕ, zero, suc, _+_, _*_, _%_, _^_, _<_, _≤_}
+use native.Mathlib.Nat.{two-pow-succ}
 use native.Mathlib.Omega.{arith}
-use lib.Dec.{eqb}
-use lib.ListN.{length, take}
+use lib.Dec.{leb}
+use lib.ListN.{length, take, getD}
+use lib.Pow.{pow-pos}
 use mir.Syntax.{w32}
 use mir.Facts.{fits-ofZ}
-use borrow.Author.Tests.{eqb-true, leb-true}
-use Rattle.rules.proofs.Tests.{both-true, or-cases}
+use borrow.Author.Tests.{leb-true}
+use Rattle.rules.proofs.Tests.{both-true, by-cond, untrue}
 use Rattle.packing.specs.Packing.{Below, Fit, repacked, eights, fives}
 use Rattle.packing.proofs.Laws.{below-fit, fit-append}
 use Rattle.places.specs.Places.{number, setAll}
@@ -19,6 +20,7 @@ use Rattle.mbc.proofs.RegisterLaws.{registers-known}
 use Rattle.mbc.specs.Mbc as mbc
 use Rattle.mbc.specs.Mbc.{registersOf}
 use Rattle.mbc.proofs.Cases.{lawful}
+use Rattle.mbc.proofs.Cartridges.{banks-of-log}
 use Rattle.mbc.proofs.Ranges.{in-described, in-held}
 use Rattle.mbc.specs.declared.cartridge.Cartridge.{Cartridge}
 use Rattle.mbc.specs.declared.mbc.Mapper.{Mapper}
@@ -69,22 +71,19 @@ wram-lt b h = banks-lt (b .colour) (b .vram) (b .wram) (vram-fits b h) (wram-fit
 kind-lt : (m : Mapper) → registersOf m .kind < 4
 kind-lt m = let h = leb-true (registersOf m .kind) _ (registers-known m) in omega (arith, h)
 
--- N to 128 has a logarithm to 7
-abbrev Low : List ℕ → Type 0
-Low [] = 0 < 1
-Low (x ∷ xs) = (x ≤ 128 → mbc.log2 x < 8) × Low xs
+below-power : (i k : ℕ) → 2 ^ i < 2 ^ k → i < k
+below-power i zero h = absurd (omega (arith, pow-pos i))
+below-power zero (suc k) h = omega arith
+below-power (suc i) (suc k) h = let r = below-power i k (omega (arith, two-pow-succ i, two-pow-succ k)) in omega arith
 
-low-log : (xs : List ℕ) (n : ℕ) → Low xs → mbc.oneOf xs n ≡ true → n ≤ 128 → mbc.log2 n < 8
-low-log [] n a e h = let z : _≡_ {A = ℕ} 0 1 = cc in absurd (omega arith)
-low-log (x ∷ xs) n a e h =
-    ⊎-elim (λ q. let r = eqb-true n x q in rw r (a .0 (rw r at h))) (λ q. low-log xs n (a .1) q h) (or-cases (eqb n x) (mbc.oneOf xs n) e)
+-- N below 2 to the k has a logarithm below k
 
-log-lt : (n : ℕ) → mbc.oneOf mbc.powers n ≡ true → n ≤ 128 → mbc.log2 n < 8
-unfolding mbc.log2
-log-lt n e h =
-    let all : Low mbc.powers =
-    ((λ k. omega arith), ((λ k. omega arith), ((λ k. omega arith), ((λ k. omega arith), ((λ k. omega arith), ((λ k. omega arith), ((λ k. omega arith), ((λ k. absurd (omega arith)), ((λ k. absurd (omega arith)), omega arith))))))))) in
-    low-log mbc.powers n all e h
+below-banks : (log k : ℕ) → mbc.oneOf mbc.powers (mbc.banksOf log) ≡ true → mbc.banksOf log < 2 ^ k → log < k
+unfolding mbc.banksOf
+below-banks log k = by-cond (λ (n : ℕ). mbc.oneOf mbc.powers n ≡ true → n < 2 ^ k → log < k) (leb log 9) (2 ^ log) 0 (λ b p h. below-power log k h) (λ b p h. untrue p)
+
+log-lt : (n k : ℕ) → mbc.oneOf mbc.powers n ≡ true → n < 2 ^ k → mbc.log2 n < k
+log-lt n k p h = let e = banks-of-log n p in below-banks (mbc.log2 n) k (rw e p) (rw e h)
 
 -- the mapper's, which no type bounds
 pub slim-registers : (m : Memory) → storable m ≡ true → Fits (registersFields (registersOf (m .core .mapper)))
@@ -98,7 +97,7 @@ described-lt : (m : Memory) → storable m ≡ true → Fits (cartridgeFields (m
 described-lt m h =
     let c = m .core .cartridge in
     let d = in-described c (m .core .mapper) (range-parts m (storable-state m h) .mapper) in
-    omega (arith, log-lt (c .banks) (d .power) (d .most), d .code)
+    omega (arith, log-lt (c .banks) (2 ^ getD fieldWidths 21 0) (d .power) (omega (arith, d .most)), d .code)
 
 pub fields-fit : (m : Memory) → Typed m → storable m ≡ true → Fit fieldWidths (fieldValues (m .core))
 fields-fit m t h =
