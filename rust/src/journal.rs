@@ -4,6 +4,7 @@ use crate::entries::pouch_recover;
 use crate::mmu::memory::first_wrong;
 use crate::refusal::{never, Damaged, Expected, Refusal, Which};
 use crate::{Memory, LONGEST_LOG, RECORD_LEN};
+use std::array;
 use std::fs::{File, OpenOptions};
 use std::io::{Error, ErrorKind, Result as IoResult, Write};
 use std::path::Path;
@@ -164,7 +165,7 @@ pub fn recover(save: &mut [u8], log: &[u8]) -> Result<(), Refusal> {
 fn first_damaged(copy: &mut [u8], log: &[u8]) -> Refusal {
     for (record, bytes) in log.chunks_exact(RECORD_LEN).enumerate() {
         if pouch_recover(copy, bytes) == 6 {
-            return Refusal::Damaged(Damaged { record, bytes: [bytes[0], bytes[1], bytes[2]] });
+            return Refusal::Damaged(Damaged { record, bytes: array::from_fn(|at| bytes[at]) });
         }
     }
     never(6)

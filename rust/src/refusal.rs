@@ -1,6 +1,7 @@
 //! What the number of a call says.
 
 use crate::mmu::cartridge::{MbcType, BANK_LEN, GAMEBOY_CORE_LEN};
+use crate::RECORD_LEN;
 use std::error::Error;
 use std::fmt;
 
@@ -172,13 +173,13 @@ pub struct Damaged {
     /// Its number, from 0.
     pub record: usize,
     /// Its bytes.
-    pub bytes: [u8; 3],
+    pub bytes: [u8; RECORD_LEN],
 }
 
 impl fmt::Display for Damaged {
     fn fmt(&self, f: &mut fmt::Formatter) -> fmt::Result {
-        let [a, b, c] = self.bytes;
-        write!(f, "record {} is damaged: {a:02X} {b:02X} {c:02X}", Grouped(self.record))
+        write!(f, "record {} is damaged:", Grouped(self.record))?;
+        self.bytes.iter().try_for_each(|byte| write!(f, " {byte:02X}"))
     }
 }
 

@@ -4,6 +4,7 @@
 mod engine;
 
 use engine::{game, play};
+use pouchrattle::RECORD_LEN;
 use std::fs;
 use std::path::PathBuf;
 
@@ -27,17 +28,18 @@ fn killed_at_every_byte() {
     let folder = folder("killed");
     assert_eq!(play(&folder, 1).unwrap(), 20);
     let (before, journal) = (fs::read(folder.join("hero.sav")).unwrap(), fs::read(folder.join("hero.journal")).unwrap());
-    assert!(before == save(0) && journal.len() == 3 * 20);
+    assert!(before == save(0) && journal.len() == 20 * RECORD_LEN);
     for cut in 0..=journal.len() {
         fs::write(folder.join("hero.sav"), &before).unwrap();
         fs::write(folder.join("hero.journal"), &journal[..cut]).unwrap();
-        assert_eq!(play(&folder, 0).unwrap(), cut / 3);
-        assert!(fs::read(folder.join("hero.sav")).unwrap() == save(cut / 3), "{cut}");
+        let whole = cut / RECORD_LEN;
+        assert_eq!(play(&folder, 0).unwrap(), whole);
+        assert!(fs::read(folder.join("hero.sav")).unwrap() == save(whole), "{cut}");
         // Killed between the save's file and the journal's: the journal is there still.
         fs::write(folder.join("hero.journal"), &journal[..cut]).unwrap();
-        assert_eq!(play(&folder, 1).unwrap(), cut / 3 + 20);
-        assert_eq!(play(&folder, 0).unwrap(), cut / 3 + 20);
-        assert!(fs::read(folder.join("hero.sav")).unwrap() == save(cut / 3 + 20), "{cut}");
+        assert_eq!(play(&folder, 1).unwrap(), whole + 20);
+        assert_eq!(play(&folder, 0).unwrap(), whole + 20);
+        assert!(fs::read(folder.join("hero.sav")).unwrap() == save(whole + 20), "{cut}");
     }
     fs::remove_dir_all(&folder).unwrap();
 }
@@ -59,7 +61,7 @@ fn refused_with_words() {
     fs::write(folder.join("hero.sav"), save(7)).unwrap();
     fs::write(folder.join("hero.journal"), [0x80, 0x00, 0x01, 0x7F, 0x00, 0x01]).unwrap();
     assert_eq!(play(&folder, 1).unwrap_err().to_string(), "record 1 is damaged: 7F 00 01");
-    assert!(fs::read(folder.join("hero.sav")).unwrap() == save(7) && fs::read(folder.join("hero.journal")).unwrap().len() == 6);
+    assert!(fs::read(folder.join("hero.sav")).unwrap() == save(7) && fs::read(folder.join("hero.journal")).unwrap().len() == 2 * RECORD_LEN);
     fs::remove_file(folder.join("hero.journal")).unwrap();
     // A save that gameboy_core kept is cut; one of another cartridge is not.
     let mut kept = save(7);

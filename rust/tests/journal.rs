@@ -211,24 +211,24 @@ impl Write for Unflushed {
 #[test]
 fn writers_of_other_kinds() {
     let (expected, _) = records(20);
-    let (mut memory, mut journal) = (bus(12), Journal::new(Boasting(vec![])));
+    let (mut memory, mut journal) = (bus(4 * RECORD_LEN), Journal::new(Boasting(vec![])));
     (0..20).for_each(|i| play(&mut memory, &mut journal, i));
     journal.keep(&mut memory).unwrap();
     assert!(journal.get_ref().0 == expected);
 
     // A writer with a buffer is flushed.
-    let (mut memory, mut journal) = (bus(12), Journal::new(BufWriter::new(Vec::new())));
+    let (mut memory, mut journal) = (bus(4 * RECORD_LEN), Journal::new(BufWriter::new(Vec::new())));
     (0..20).for_each(|i| play(&mut memory, &mut journal, i));
     journal.keep(&mut memory).unwrap();
     assert!(*journal.get_ref().get_ref() == expected);
 
     // What is not flushed is not cleared, and not written again.
-    let (mut memory, mut journal) = (bus(12), Journal::new(Unflushed { taken: vec![], failures: 2 }));
+    let (mut memory, mut journal) = (bus(4 * RECORD_LEN), Journal::new(Unflushed { taken: vec![], failures: 2 }));
     (0..4).for_each(|i| write(&mut memory, &[(0xA000 + game(i).0, game(i).1)]));
     assert!(journal.keep(&mut memory).is_err() && journal.drain(&mut memory).is_err());
-    assert_eq!(memory.log(), &expected[..12]);
+    assert_eq!(memory.log(), &expected[..4 * RECORD_LEN]);
     journal.keep(&mut memory).unwrap();
-    assert!(memory.log().is_empty() && journal.get_ref().taken == expected[..12]);
+    assert!(memory.log().is_empty() && journal.get_ref().taken == expected[..4 * RECORD_LEN]);
 }
 
 /// Recovery from the first n bytes and zeros for the rest, as a failing machine may leave a journal, gives the writes whose records are whole in them.
