@@ -16,7 +16,14 @@ use lcd::Lcd;
 use mbc::Cartridge;
 use mbc::Mapper;
 use palette::Color;
+pub use region::ECHO_START;
+pub use region::HRAM_START;
+pub use region::OAM_START;
+pub use region::PAGE_START;
 pub use region::Region;
+pub use region::SAVE_START;
+pub use region::VRAM_START;
+pub use region::WRAM_START;
 pub use region::region_of;
 pub use start::start_page;
 

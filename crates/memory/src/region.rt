@@ -17,22 +17,39 @@ pub enum Region {
     Page,
 }
 
+// Where the regions start. ROM starts at 0.
+pub const VRAM_START: u16 = 0x8000;
+
+pub const SAVE_START: u16 = 0xA000;
+
+pub const WRAM_START: u16 = 0xC000;
+
+// From here on work memory's bytes a second time.
+pub const ECHO_START: u16 = 0xE000;
+
+pub const OAM_START: u16 = 0xFE00;
+
+pub const PAGE_START: u16 = 0xFF00;
+
+// High memory, in the page: from here on every byte reads as it is stored.
+pub const HRAM_START: u16 = 0xFF80;
+
 pub fn region_of(index: u16) -> Region
     ensures { λ r. ⌜ r ≡ regionOf index ⌝ }
 {
-    if index < 0x8000 {
+    if index < VRAM_START {
         return Region::Rom;
     }
-    if index < 0xA000 {
+    if index < SAVE_START {
         return Region::Vram;
     }
-    if index < 0xC000 {
+    if index < WRAM_START {
         return Region::Save;
     }
-    if index < 0xFE00 {
+    if index < OAM_START {
         return Region::Wram;
     }
-    if index < 0xFF00 {
+    if index < PAGE_START {
         return Region::Oam;
     }
     Region::Page
