@@ -9,7 +9,7 @@ use Rattle.mbc.specs.Mbc.{inRange, romLen, ramLen, readAt, after, answer}
 use Rattle.mbc.specs.declared.mbc.Answer.{Answer}
 use Rattle.mbc.specs.declared.mbc.Answer.the-variants.{Stored, NotStored}
 use Rattle.memory.specs.Ranges.{stateInRange, vramLen, wramLen, soundLen}
-use Rattle.memory.specs.Region.{regionOf}
+use Rattle.memory.specs.Region.{oamStart, pageStart, regionOf}
 use Rattle.memory.specs.World.{World, world, Fixed, withOam, withMapper, withUsed}
 use Rattle.memory.specs.declared.Core.{Core}
 use Rattle.memory.specs.declared.Memory.{Memory}
@@ -46,8 +46,8 @@ byteIn Rom x m v w s i = readAt (m .core .cartridge) (m .core .mapper) (x .rom) 
 byteIn Vram x m v w s i = getD v (vramAt (m .core .banks .vram) i) 0
 byteIn Save x m v w s i = readAt (m .core .cartridge) (m .core .mapper) (x .rom) s i
 byteIn Wram x m v w s i = getD w (wramAt (m .core .banks .wram) i) 0
-byteIn Oam x m v w s i = getD (m .oam) (i - 0xFE00) 0
-byteIn Page x m v w s i = readRegister m (x .sound) (i - 0xFF00)
+byteIn Oam x m v w s i = getD (m .oam) (i - oamStart) 0
+byteIn Page x m v w s i = readRegister m (x .sound) (i - pageStart)
 
 abbrev pub readByte : Fixed → Memory → List ℕ → List ℕ → List ℕ → ℕ → ℕ
 readByte x m v w s index = byteIn (regionOf index) x m v w s index
@@ -107,8 +107,8 @@ putIn Rom w i v = inState w (mapperPut (w .state) i v)
 putIn Vram w i v = inVram w (set (w .vram) (vramAt (w .state .core .banks .vram) i) v)
 putIn Save w i v = savePut w i v
 putIn Wram w i v = inWram w (set (w .wram) (wramAt (w .state .core .banks .wram) i) v)
-putIn Oam w i v = inState w (withOam (w .state) (set (w .state .oam) (i - 0xFE00) v))
-putIn Page w i v = inState w (writeRegister (w .state) (i - 0xFF00) v)
+putIn Oam w i v = inState w (withOam (w .state) (set (w .state .oam) (i - oamStart) v))
+putIn Page w i v = inState w (writeRegister (w .state) (i - pageStart) v)
 
 abbrev pub put : World → ℕ → ℕ → World
 put w index v = putIn (regionOf index) w index v

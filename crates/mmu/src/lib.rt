@@ -36,10 +36,10 @@ pub fn read_byte(
     let region = region_of(index);
     match region {
         Region::Oam => {
-            let i = (index - 0xFE00) as usize;
+            let i = (index - memory::OAM_START) as usize;
             memory.oam[i]
         }
-        Region::Page => registers::page::read(memory, sound, (index - 0xFF00) as u8),
+        Region::Page => registers::page::read(memory, sound, (index - memory::PAGE_START) as u8),
         _ => {
             let core = memory.core;
             read_lent(core, rom, vram, wram, save, region, index)
@@ -73,12 +73,12 @@ pub fn put_byte(
             memory
         }
         Region::Oam => {
-            let i = (index - 0xFE00) as usize;
+            let i = (index - memory::OAM_START) as usize;
             let mut next = memory;
             next.oam[i] = value;
             next
         }
-        Region::Page => registers::page::write(memory, (index - 0xFF00) as u8, value),
+        Region::Page => registers::page::write(memory, (index - memory::PAGE_START) as u8, value),
     }
 }
 

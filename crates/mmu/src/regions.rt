@@ -5,7 +5,7 @@ ghost use mathlib.Core.Path.{_≡_};
 ghost use Prim.Native.Nat.{ℕ, _+_, _*_, _<_, _≤_};
 ghost use lib.ListN.{length, getD, set};
 ghost use Rattle.mbc.specs.Mbc.{inRange, ramLen};
-ghost use Rattle.memory.specs.Region.{regionOf};
+ghost use Rattle.memory.specs.Region.{vramStart, saveStart, wramStart, oamStart, regionOf};
 ghost use Rattle.memory.specs.World.{world, fixed, withMapper, withUsed};
 ghost use Rattle.memory.specs.declared.Memory.{Memory};
 ghost use Rattle.savelog.specs.Log.{width, logLimit};
@@ -20,10 +20,10 @@ use memory::Region;
 
 // E000..FDFF is the same byte as 2000 hex lower.
 fn lowered(index: u16) -> u16
-    requires { ⌜ 0xC000 ≤ index ⌝ }
-    ensures { λ r. ⌜ (r ≡ echo index) × (0xC000 ≤ r) ⌝ }
+    requires { ⌜ wramStart ≤ index ⌝ }
+    ensures { λ r. ⌜ (r ≡ echo index) × (wramStart ≤ r) ⌝ }
 {
-    if index < 0xE000 {
+    if index < memory::ECHO_START {
         return index;
     }
     index - 0x2000
@@ -31,10 +31,10 @@ fn lowered(index: u16) -> u16
 
 // Where an index of video memory lies.
 pub fn vram_at(bank: u8, index: u16) -> usize
-    requires { ⌜ 0x8000 ≤ index ⌝ }
+    requires { ⌜ vramStart ≤ index ⌝ }
     ensures { λ r. ⌜ r ≡ vramAt bank index ⌝ }
 {
-    (index - 0x8000) as usize + bank as usize * 0x2000
+    (index - memory::VRAM_START) as usize + bank as usize * 0x2000
 }
 
 // A place in a bank of work memory.
@@ -46,18 +46,18 @@ fn banked(bank: u8, offset: u16) -> usize
 
 // Where an index of work memory lies.
 pub fn wram_at(bank: u8, index: u16) -> usize
-    requires { ⌜ 0xC000 ≤ index ⌝ }
+    requires { ⌜ wramStart ≤ index ⌝ }
     ensures { λ r. ⌜ r ≡ wramAt bank index ⌝ }
 {
     let at = lowered(index);
     if at < 0xD000 {
-        return banked(0, at - 0xC000);
+        return banked(0, at - memory::WRAM_START);
     }
     banked(bank, at - 0xD000)
 }
 
 pub fn read_cgb_lcd_ram(vram: &[u8], bank: u8, index: u16) -> u8
-    requires { ⌜ ((0x8000 ≤ index) × (index < 0xA000)) × (bank * 0x2000 + 0x2000 ≤ length (now vram)) ⌝ }
+    requires { ⌜ ((vramStart ≤ index) × (index < saveStart)) × (bank * 0x2000 + 0x2000 ≤ length (now vram)) ⌝ }
     ensures { λ r. ⌜ r ≡ getD (now (vram .entry)) (vramAt bank index) 0 ⌝ }
 {
     let at = vram_at(bank, index);
@@ -65,7 +65,7 @@ pub fn read_cgb_lcd_ram(vram: &[u8], bank: u8, index: u16) -> u8
 }
 
 pub fn write_cgb_lcd_ram(vram: &mut [u8], bank: u8, index: u16, value: u8)
-    requires { ⌜ ((0x8000 ≤ index) × (index < 0xA000)) × (bank * 0x2000 + 0x2000 ≤ length (now vram)) ⌝ }
+    requires { ⌜ ((vramStart ≤ index) × (index < saveStart)) × (bank * 0x2000 + 0x2000 ≤ length (now vram)) ⌝ }
     ensures { λ _. ⌜ now (vram .exit) ≡ set (now (vram .entry)) (vramAt bank index) value ⌝ }
 {
     let at = vram_at(bank, index);
@@ -73,7 +73,7 @@ pub fn write_cgb_lcd_ram(vram: &mut [u8], bank: u8, index: u16, value: u8)
 }
 
 pub fn read_cgb_wram(wram: &[u8], bank: u8, index: u16) -> u8
-    requires { ⌜ ((0xC000 ≤ index) × (index < 0xFE00)) × ((0x1000 ≤ length (now wram)) × (bank * 0x1000 + 0x1000 ≤ length (now wram))) ⌝ }
+    requires { ⌜ ((wramStart ≤ index) × (index < oamStart)) × ((0x1000 ≤ length (now wram)) × (bank * 0x1000 + 0x1000 ≤ length (now wram))) ⌝ }
     ensures { λ r. ⌜ r ≡ getD (now (wram .entry)) (wramAt bank index) 0 ⌝ }
 {
     let at = wram_at(bank, index);
@@ -81,7 +81,7 @@ pub fn read_cgb_wram(wram: &[u8], bank: u8, index: u16) -> u8
 }
 
 pub fn write_cgb_wram(wram: &mut [u8], bank: u8, index: u16, value: u8)
-    requires { ⌜ ((0xC000 ≤ index) × (index < 0xFE00)) × ((0x1000 ≤ length (now wram)) × (bank * 0x1000 + 0x1000 ≤ length (now wram))) ⌝ }
+    requires { ⌜ ((wramStart ≤ index) × (index < oamStart)) × ((0x1000 ≤ length (now wram)) × (bank * 0x1000 + 0x1000 ≤ length (now wram))) ⌝ }
     ensures { λ _. ⌜ now (wram .exit) ≡ set (now (wram .entry)) (wramAt bank index) value ⌝ }
 {
     let at = wram_at(bank, index);
@@ -98,7 +98,7 @@ pub fn read_lent(
     region: Region,
     index: u16,
 ) -> u8
-    requires { ⌜ Reaches core (now rom) (now vram) (now wram) (now save) × ((region ≡ regionOf index) × (index < 0xFE00)) ⌝ }
+    requires { ⌜ Reaches core (now rom) (now vram) (now wram) (now save) × ((region ≡ regionOf index) × (index < oamStart)) ⌝ }
     ensures { λ r. ⌜ ((m : Memory) (sound : List ℕ) → m .core ≡ core → r ≡ readByte (fixed (now (rom .entry)) sound) m (now (vram .entry)) (now (wram .entry)) (now (save .entry)) index) ⌝ }
 {
     let banks = core.banks;
@@ -115,7 +115,7 @@ pub fn read_lent(
 
 // A write below 8000: the mapper's registers.
 pub fn put_mapper(memory: Memory, index: u16, value: u8) -> Memory
-    requires { ⌜ (index < 0x8000) × (inRange (memory .core .cartridge) (memory .core .mapper) ≡ true) ⌝ }
+    requires { ⌜ (index < vramStart) × (inRange (memory .core .cartridge) (memory .core .mapper) ≡ true) ⌝ }
     ensures { λ r. ⌜ r ≡ mapperPut memory index value ⌝ }
 {
     let core = memory.core;
@@ -155,7 +155,7 @@ pub fn store_save(
     index: u16,
     value: u8,
 ) -> Mapping
-    requires { ⌜ ((0xA000 ≤ index) × (index < 0xC000)) × ((inRange cartridge mapper ≡ true) × ((length (now save) ≡ ramLen cartridge mapper) × (length (now log) ≤ logLimit))) ⌝ }
+    requires { ⌜ ((saveStart ≤ index) × (index < wramStart)) × ((inRange cartridge mapper ≡ true) × ((length (now save) ≡ ramLen cartridge mapper) × (length (now log) ≤ logLimit))) ⌝ }
     ensures { λ r. ⌜ ((m : Memory) → m .core .cartridge ≡ cartridge → m .core .mapper ≡ mapper → m .core .used ≡ used → world (withUsed (withMapper m (r .mapper)) (r .used)) [] [] (now (save .exit)) (now (log .exit)) ≡ savePut (world m [] [] (now (save .entry)) (now (log .entry))) index value) ⌝ }
 {
     if savelog::full(log.len(), used, 1) {
@@ -175,7 +175,7 @@ pub fn store_save(
 }
 
 pub fn put_save(memory: Memory, save: &mut [u8], log: &mut [u8], index: u16, value: u8) -> Memory
-    requires { ⌜ ((0xA000 ≤ index) × (index < 0xC000)) × ((inRange (memory .core .cartridge) (memory .core .mapper) ≡ true) × ((length (now save) ≡ ramLen (memory .core .cartridge) (memory .core .mapper)) × (length (now log) ≤ logLimit))) ⌝ }
+    requires { ⌜ ((saveStart ≤ index) × (index < wramStart)) × ((inRange (memory .core .cartridge) (memory .core .mapper) ≡ true) × ((length (now save) ≡ ramLen (memory .core .cartridge) (memory .core .mapper)) × (length (now log) ≤ logLimit))) ⌝ }
     ensures { λ r. ⌜ world r [] [] (now (save .exit)) (now (log .exit)) ≡ savePut (world memory [] [] (now (save .entry)) (now (log .entry))) index value ⌝ }
 {
     let core = memory.core;

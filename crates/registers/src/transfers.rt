@@ -2,6 +2,7 @@
 ghost use mathlib.Core.Path.{_≡_};
 ghost use Prim.Native.Nat.{_-_};
 ghost use Rattle.copies.specs.Copies.{Bounded};
+ghost use Rattle.memory.specs.Region.{pageStart};
 ghost use Rattle.registers.specs.Page.{writeRegister};
 ghost use Rattle.registers.specs.Transfers.{transferPut, sourceHighPut, sourceLowPut, destinationHighPut, destinationLowPut, startPut, withEnded, blockCopy, generalCopy, startedBy, started, copyOf, finished};
 use crate::load;
@@ -170,7 +171,7 @@ pub fn write_start(memory: Memory, value: u8) -> Memory
 // FF46 and FF55, the writes that start a transfer.
 pub fn start_transfer(memory: Memory, index: u16, value: u8) -> Started
     requires { ⌜ ((index ≡ 0xFF46 → ⊥) → index ≡ 0xFF55) ⌝ }
-    ensures { λ r. ⌜ ((r .memory ≡ writeRegister memory (index - 0xFF00) value) × (r .copy ≡ copyOf memory index value)) × Bounded (r .copy) ⌝ }
+    ensures { λ r. ⌜ ((r .memory ≡ writeRegister memory (index - pageStart) value) × (r .copy ≡ copyOf memory index value)) × Bounded (r .copy) ⌝ }
 {
     if index == 0xFF46 {
         return Started {
