@@ -6,7 +6,7 @@ ghost use Prim.Native.Nat.{ℕ, _≤_};
 ghost use lib.ListN.{length};
 ghost use Rattle.image.specs.Load.{loadCall};
 ghost use Rattle.memory.specs.Ranges.{soundLen};
-ghost use Rattle.memory.specs.Region.{regionOf};
+ghost use Rattle.memory.specs.Region.{oamStart, regionOf};
 ghost use Rattle.memory.specs.World.{world, fixed};
 ghost use Rattle.mmu.specs.Access.{Ready, readByte};
 ghost use Rattle.refusals.specs.Refusal.{orElse, lengthsRefused, readRefused};
@@ -57,13 +57,13 @@ pub fn other_at(image: &[u8], save: &[u8], sound: &[u8], index: u16) -> u8
 {
     match memory::region_of(index) {
         Region::Oam => {
-            let i = (index - 0xFE00) as usize;
+            let i = (index - memory::OAM_START) as usize;
             image[i]
         }
         Region::Page => {
-            let i = (index - 0xFE00) as usize;
+            let i = (index - memory::OAM_START) as usize;
             let byte = image[i];
-            if 0xFF80 <= index {
+            if memory::HRAM_START <= index {
                 return byte;
             }
             let banks = image::banks_at(image);
@@ -75,7 +75,7 @@ pub fn other_at(image: &[u8], save: &[u8], sound: &[u8], index: u16) -> u8
                 line,
                 joypad.state,
                 sound,
-                (index - 0xFF00) as u8,
+                (index - memory::PAGE_START) as u8,
             )
         }
         _ => {
@@ -96,15 +96,15 @@ pub fn apart_at(image: &[u8], save: &[u8], sound: &[u8], index: u16) -> u8
 
 // A byte of OAM or of the page, as `other_at` gives it: of the image only what the byte's part asks for. Called from one place, where the compiler puts it.
 pub fn own_at(image: &[u8], sound: &[u8], index: u16) -> u8
-    requires { ⌜ ((loadCall (now image) .number ≡ 0) × (soundLen ≤ length (now sound))) × (0xFE00 ≤ index) ⌝ }
+    requires { ⌜ ((loadCall (now image) .number ≡ 0) × (soundLen ≤ length (now sound))) × (oamStart ≤ index) ⌝ }
     ensures { λ r. ⌜ ((rom v w s : List ℕ) → r ≡ readByte (fixed rom (now (sound .entry))) (loadCall (now (image .entry)) .state) v w s index) ⌝ }
 {
-    let i = (index - 0xFE00) as usize;
+    let i = (index - memory::OAM_START) as usize;
     let byte = image[i];
-    if index < 0xFF00 {
+    if index < memory::PAGE_START {
         return byte;
     }
-    let at = (index - 0xFF00) as u8;
+    let at = (index - memory::PAGE_START) as u8;
     match registers::page::part_of(at) {
         Part::Low => {
             let joypad = image::joypad_at(image);
@@ -172,10 +172,10 @@ pub fn one_at(
     requires { ⌜ (loadCall (now image) .number ≡ 0) × Ready (fixed (now rom) (now sound)) (world (loadCall (now image) .state) (now vram) (now wram) (now save) []) ⌝ }
     ensures { λ r. ⌜ r ≡ readByte (fixed (now (rom .entry)) (now (sound .entry))) (loadCall (now (image .entry)) .state) (now (vram .entry)) (now (wram .entry)) (now (save .entry)) index ⌝ }
 {
-    if index < 0x8000 {
+    if index < memory::VRAM_START {
         return lent_at(image, rom, vram, wram, index);
     }
-    if 0xFE00 <= index {
+    if memory::OAM_START <= index {
         return own_at(image, sound, index);
     }
     match memory::region_of(index) {
