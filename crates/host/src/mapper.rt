@@ -48,7 +48,7 @@ fn record_of(image: &[u8], index: u16, byte: u8) -> u32
     requires { ⌜ (length (now image) ≡ imageLen) × (mbc.mapped index ≡ true) ⌝ }
     ensures { λ r. ⌜ r ≡ answerNumber (mbc.answer (cartridgeOf (fields (now (image .entry)))) (mbc.mapperOf (registersIn (fields (now (image .entry))))) index byte) ⌝ }
 {
-    if index < 0x8000 {
+    if index < memory::VRAM_START {
         return 0;
     }
     let mapper = image::mapper_at(image);

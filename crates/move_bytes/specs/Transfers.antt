@@ -10,6 +10,7 @@ use Rattle.hdma.specs.declared.Hdma.{Hdma}
 use Rattle.hdma.specs.declared.Written.{Written}
 use Rattle.image.specs.Load.{loadCall}
 use Rattle.image.specs.Patches.{put, hdmaFields}
+use Rattle.memory.specs.Region.{vramStart, saveStart}
 use Rattle.memory.specs.World.{Fixed}
 use Rattle.memory.specs.declared.Core.{Core}
 use Rattle.mmu.specs.Access.{Ready, readByte}
@@ -40,7 +41,7 @@ Read x i v w s source out = (k : ℕ) → k < length out → getD out k 0 ≡ re
 
 -- blocks of 16 that land in video memory, n bytes
 abbrev pub Lands : ℕ → ℕ → Type 0
-Lands destination n = (destination % 16 ≡ 0) × (0x8000 ≤ destination) × (destination + n ≤ 0xA000)
+Lands destination n = (destination % 16 ≡ 0) × (vramStart ≤ destination) × (destination + n ≤ saveStart)
 
 -- video memory after n bytes are copied; the rest of the world stays, whatever the log
 abbrev pub Copied : Fixed → List ℕ → List ℕ → List ℕ → List ℕ → ℕ → ℕ → ℕ → List ℕ → Type 0

@@ -3,7 +3,7 @@
 ghost use mathlib.Core.Path.{_≡_};
 ghost use Prim.Native.Nat.{ℕ, _+_, _<_, _≤_};
 ghost use lib.ListN.{length, getD};
-ghost use Rattle.memory.specs.Region.{regionOf};
+ghost use Rattle.memory.specs.Region.{vramStart, hramStart, regionOf};
 ghost use Rattle.memory.specs.World.{fixed};
 ghost use Rattle.memory.specs.declared.region.Region.the-variants.{Oam};
 ghost use Rattle.move_bytes.specs.Transfers.{Own, Row, Read};
@@ -55,7 +55,7 @@ fn take_rom(
     source: u16,
     out: &mut [u8],
 )
-    requires { ⌜ Own (fixed (now rom) (now sound)) (now image) (now vram) (now wram) (now save) × (Row source (length (now out)) × (source < 0x8000)) ⌝ }
+    requires { ⌜ Own (fixed (now rom) (now sound)) (now image) (now vram) (now wram) (now save) × (Row source (length (now out)) × (source < vramStart)) ⌝ }
     ensures { λ _. ⌜ Read (fixed (now (rom .entry)) (now (sound .entry))) (now (image .entry)) (now (vram .entry)) (now (wram .entry)) (now (save .entry)) source (now (out .exit)) ⌝ }
 {
     let registers = image::registers_at(image);
@@ -76,7 +76,7 @@ fn take_oam(
     requires { ⌜ Own (fixed (now rom) (now sound)) (now image) (now vram) (now wram) (now save) × (Row source (length (now out)) × (regionOf source ≡ Oam)) ⌝ }
     ensures { λ _. ⌜ Read (fixed (now (rom .entry)) (now (sound .entry))) (now (image .entry)) (now (vram .entry)) (now (wram .entry)) (now (save .entry)) source (now (out .exit)) ⌝ }
 {
-    let i = (source - 0xFE00) as usize;
+    let i = (source - memory::OAM_START) as usize;
     take(image, i, out);
 }
 
@@ -91,10 +91,10 @@ fn take_high(
     source: u16,
     out: &mut [u8],
 )
-    requires { ⌜ Own (fixed (now rom) (now sound)) (now image) (now vram) (now wram) (now save) × (Row source (length (now out)) × (0xFF80 ≤ source)) ⌝ }
+    requires { ⌜ Own (fixed (now rom) (now sound)) (now image) (now vram) (now wram) (now save) × (Row source (length (now out)) × (hramStart ≤ source)) ⌝ }
     ensures { λ _. ⌜ Read (fixed (now (rom .entry)) (now (sound .entry))) (now (image .entry)) (now (vram .entry)) (now (wram .entry)) (now (save .entry)) source (now (out .exit)) ⌝ }
 {
-    let i = (source - 0xFE00) as usize;
+    let i = (source - memory::OAM_START) as usize;
     take(image, i, out);
 }
 
@@ -112,7 +112,7 @@ pub fn read(
     requires { ⌜ Own (fixed (now rom) (now sound)) (now image) (now vram) (now wram) (now save) × Row source (length (now out)) ⌝ }
     ensures { λ _. ⌜ Read (fixed (now (rom .entry)) (now (sound .entry))) (now (image .entry)) (now (vram .entry)) (now (wram .entry)) (now (save .entry)) source (now (out .exit)) ⌝ }
 {
-    if 0xFF80 <= source {
+    if memory::HRAM_START <= source {
         take_high(image, rom, vram, wram, save, sound, source, out);
         return;
     }

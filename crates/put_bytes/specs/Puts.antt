@@ -8,6 +8,7 @@ use lib.ListN.{length, set}
 use Rattle.image.specs.Load.{coreFrom, loadCall}
 use Rattle.image.specs.Patches.{fields, mappingPut}
 use Rattle.mbc.specs.declared.mbc.Mapper.{Mapper}
+use Rattle.memory.specs.Region.{oamStart}
 use Rattle.memory.specs.World.{world, withMapper, withUsed}
 use Rattle.memory.specs.declared.Core.{Core}
 use Rattle.memory.specs.declared.Memory.{Memory}
@@ -30,7 +31,7 @@ coreIn i = coreFrom (fields i)
 
 -- OAM is the first 256 bytes of an image
 abbrev pub ownPut : List ℕ → ℕ → ℕ → List ℕ
-ownPut i at v = set i (at - 0xFE00) v
+ownPut i at v = set i (at - oamStart) v
 
 -- a save write: the mapper and the log's use that the image then has, with the save and the log, are those of a save write by value (j, y, z are what is left)
 pub record Saved (i s l : List ℕ) (k v : ℕ) (j y z : List ℕ) : Type 0 where

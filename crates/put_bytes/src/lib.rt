@@ -9,6 +9,7 @@ ghost use Rattle.image.specs.Load.{loadCall};
 ghost use Rattle.image.specs.Patches.{Mapped, Slim, mappingPut};
 ghost use Rattle.in_place.specs.Held.{Held};
 ghost use Rattle.mbc.specs.Mbc.{ramLen, after};
+ghost use Rattle.memory.specs.Region.{saveStart, wramStart, oamStart, pageStart};
 ghost use Rattle.mmu.specs.Access.{put};
 ghost use Rattle.refusals.specs.Refusal.{nextIndex};
 ghost use Rattle.registers.specs.Page.{writeRegister};
@@ -30,7 +31,7 @@ pub fn put_mapper(image: &mut [u8], at: u16, value: u8)
 
 // A000..BFFF: the save, its log, the log's use, and the mapper where it does not keep its registers. A log without room records nothing, and nothing changes.
 fn put_save(image: &mut [u8], save: &mut [u8], log: &mut [u8], at: u16, value: u8)
-    requires { ⌜ (Mapped (now image) × Slim (after (coreIn (now image) .cartridge) (coreIn (now image) .mapper) at value)) × (((0xA000 ≤ at) × (at < 0xC000)) × ((length (now save) ≡ ramLen (coreIn (now image) .cartridge) (coreIn (now image) .mapper)) × (length (now log) ≤ logLimit))) ⌝ }
+    requires { ⌜ (Mapped (now image) × Slim (after (coreIn (now image) .cartridge) (coreIn (now image) .mapper) at value)) × (((saveStart ≤ at) × (at < wramStart)) × ((length (now save) ≡ ramLen (coreIn (now image) .cartridge) (coreIn (now image) .mapper)) × (length (now log) ≤ logLimit))) ⌝ }
     ensures { λ _. ⌜ Saved (now (image .entry)) (now (save .entry)) (now (log .entry)) at value (now (image .exit)) (now (save .exit)) (now (log .exit)) ⌝ }
 {
     let used = image::used_at(image);
@@ -51,19 +52,19 @@ fn put_save(image: &mut [u8], save: &mut [u8], log: &mut [u8], at: u16, value: u
 
 // A byte of OAM.
 fn put_own(image: &mut [u8], at: u16, value: u8)
-    requires { ⌜ (length (now image) ≡ imageLen) × (0xFE00 ≤ at) ⌝ }
+    requires { ⌜ (length (now image) ≡ imageLen) × (oamStart ≤ at) ⌝ }
     ensures { λ _. ⌜ now (image .exit) ≡ ownPut (now (image .entry)) at value ⌝ }
 {
-    let i = (at - 0xFE00) as usize;
+    let i = (at - memory::OAM_START) as usize;
     image[i] = value;
 }
 
 // A register, on the image itself.
 fn put_page(image: &mut [u8], at: u16, value: u8)
-    requires { ⌜ Held (now image) × (0xFF00 ≤ at) ⌝ }
-    ensures { λ _. ⌜ now (image .exit) ≡ imageOf (writeRegister (loadCall (now (image .entry)) .state) (at - 0xFF00) value) ⌝ }
+    requires { ⌜ Held (now image) × (pageStart ≤ at) ⌝ }
+    ensures { λ _. ⌜ now (image .exit) ≡ imageOf (writeRegister (loadCall (now (image .entry)) .state) (at - pageStart) value) ⌝ }
 {
-    let i = (at - 0xFF00) as u8;
+    let i = (at - memory::PAGE_START) as u8;
     in_place::page::write(image, i, value);
 }
 
