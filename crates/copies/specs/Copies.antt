@@ -2,8 +2,7 @@
 use mathlib.Core.Bool.{cond}
 use Prim.Native.Nat.{ℕ, _+_, _-_, _≤_, min}
 use lib.Dec.{ltb}
-use Rattle.memory.specs.Region.{oamStart}
-use Rattle.copies.specs.PanDocs.{oamPages, oamSource, oamBytes, vramEnd}
+use Rattle.copies.specs.PanDocs.{oamPages, oamSource, oamBytes, oamStart, vramEnd}
 use Rattle.copies.specs.declared.Copy.{Copy}
 use Rattle.copies.specs.declared.Finish.the-variants.{Nothing}
 
@@ -21,4 +20,4 @@ landed destination length = min length (vramEnd - destination)
 
 -- where a copy may write: below FEA0, so that no address wraps
 abbrev pub Bounded : Copy → Type 0
-Bounded c = c .destination + c .count ≤ oamStart + oamBytes
+Bounded c = c .destination + c .count ≤ 0xFEA0

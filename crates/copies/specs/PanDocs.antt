@@ -1,6 +1,5 @@
 -- From Pan Docs: OAM DMA, and the end of video memory.
 use Prim.Native.Nat.{ℕ, _*_}
-use Rattle.memory.specs.Region.{saveStart}
 
 -- OAM DMA Transfer: a write of XX, from 00 to DF, copies XX00..XX9F to FE00..FE9F
 abbrev pub oamPages : ℕ
@@ -12,6 +11,9 @@ oamSource page = page * 256
 abbrev pub oamBytes : ℕ
 oamBytes = 160
 
--- Memory Map: video memory ends before A000, where the cartridge's RAM starts
+abbrev pub oamStart : ℕ
+oamStart = 0xFE00
+
+-- Memory Map: video memory ends before A000
 abbrev pub vramEnd : ℕ
-vramEnd = saveStart
+vramEnd = 0xA000

@@ -37,7 +37,7 @@ pub fn oam_copy(page: u8) -> Copy
     match page {
         0x00..=0xDF => Copy {
             source: page as u16 * 256,
-            destination: memory::OAM_START,
+            destination: 0xFE00,
             count: 160,
             finish: Finish::Nothing,
         },
@@ -50,7 +50,7 @@ pub fn landing(destination: u16, length: u16) -> u16
     requires { ⌜ destination ≤ vramEnd ⌝ }
     ensures { λ r. ⌜ (r ≡ landed destination length) × (destination + r ≤ vramEnd) ⌝ }
 {
-    let room = memory::SAVE_START - destination;
+    let room = 0xA000 - destination;
     if length < room {
         return length;
     }
