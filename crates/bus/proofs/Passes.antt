@@ -1,25 +1,22 @@
 -- A call that nothing refuses: the state is in range and the lengths are right, which is what the calls within ask for.
-use mathlib.Core.Bool.{Bool, true, false, cond}
+use mathlib.Core.Bool.{Bool, true, false, cond, _&&_}
 use mathlib.Core.List.{List, []}
 use mathlib.Core.Path.{_≡_, refl, sym}
 use Prim.Native.Nat.{ℕ, _*_, _+_, _<_, _≤_}
 use native.Mathlib.Omega.{arith}
-use lib.Dec.{eqb}
+use lib.Dec.{eqb, leb, ltb}
 use lib.ListN.{length}
-use borrow.Author.Tests.{eqb-true, leb-true}
+use borrow.Author.Tests.{eqb-true, leb-true, ltb-true}
 use Rattle.mbc.specs.Mbc.{romLen, ramLen}
 use Rattle.memory.specs.Ranges.{vramLen, wramLen, soundLen}
-use Rattle.memory.specs.Region.{vramStart, saveStart, regionOf}
 use Rattle.memory.specs.World.{world, fixed}
 use Rattle.memory.specs.declared.Core.{Core}
 use Rattle.memory.specs.declared.Memory.{Memory}
-use Rattle.memory.proofs.Regions.{within}
 use Rattle.mmu.specs.Access.{Ready}
 use Rattle.rules.proofs.Tests.{both-true, passes, untrue}
 use Rattle.savelog.specs.Log.{logLimit}
-use Rattle.refusals.specs.Refusal.{lengthsFit, lengthsRefused, logRefused, readRefused, lentRefused, writeRefused, vramLengthRefused, vramRefused, hasBank, isVram}
+use Rattle.refusals.specs.Refusal.{lengthsFit, lengthsRefused, logRefused, readRefused, lentRefused, writeRefused, vramLengthRefused, vramRefused, hasBank}
 use Rattle.refusals.proofs.Answers.{both-pass, state-passes, range-state}
-use Rattle.refusals.proofs.Window.{is-vram}
 
 pub lengths-pass : (k : Core) (rom vram wram save sound : ℕ) → lengthsRefused k rom vram wram save sound ≡ 0
     → (rom ≡ romLen (k .cartridge))
@@ -89,11 +86,12 @@ both-sides true false e = absurd (omega arith)
 both-sides false b e = absurd (omega arith)
 
 pub vram-passes : (colour : Bool) (n i bank : ℕ) → vramLengthRefused colour n ≡ 0 → vramRefused colour i bank ≡ 0
-    → ((vramStart ≤ i) × (i < saveStart)) × (bank * 0x2000 + 0x2000 ≤ n)
+    → ((0x8000 ≤ i) × (i < 0xA000)) × (bank * 0x2000 + 0x2000 ≤ n)
 unfolding vramLengthRefused vramRefused hasBank
 vram-passes colour n i bank e f =
-    let p = both-sides (cond (eqb bank 0) true (cond (eqb bank 1) colour false)) (isVram (regionOf i)) f in
+    let p = both-sides (cond (eqb bank 0) true (cond (eqb bank 1) colour false)) (leb 0x8000 i && ltb i 0xA000) f in
+    let q = both-true (leb 0x8000 i) (ltb i 0xA000) (p .1) in
     let l = eqb-true n (vramLen colour) (passes _ 4 (omega arith) e) in (
-      within i (is-vram (regionOf i) (p .1)),
+      (leb-true 0x8000 i (q .0), ltb-true i 0xA000 (q .1)),
       omega (arith, l, bank-fits bank colour (eqb bank 0) (eqb bank 1) refl refl (p .0)),
     )

@@ -5,7 +5,7 @@ use mathlib.Core.List.{List}
 use mathlib.Core.Path.{_≡_, refl, sym, ap, _∙_}
 use Prim.Native.Nat.{ℕ, _%_, _<_, _≤_}
 use native.Mathlib.Omega.{arith}
-use lib.Dec.{leb}
+use lib.Dec.{leb, ltb}
 use borrow.Author.Tests.{ne-eqb}
 use Rattle.dispatch.specs.Step.{stateStep, performed, performedDone, pendingNumber}
 use Rattle.dispatch.specs.declared.StateCall.{StateCall}
@@ -30,10 +30,9 @@ use Rattle.joypad.specs.declared.Pressed.{Pressed}
 use Rattle.joypad.specs.declared.buttons.Button.{Button}
 use Rattle.joypad.specs.declared.buttons.Named.{Named}
 use Rattle.joypad.specs.declared.buttons.Named.the-variants as button
-use Rattle.memory.specs.Region.{regionOf}
 use Rattle.memory.specs.declared.Memory.{Memory}
 use Rattle.refusals.specs.Answers as answer
-use Rattle.refusals.specs.Refusal.{orElse, isPage, rawRefused, cyclesRefused}
+use Rattle.refusals.specs.Refusal.{orElse, rawRefused, cyclesRefused}
 use Rattle.registers.specs.State.{loaded, timerOf, withTimer, withController}
 use Rattle.state_calls.specs.State.{onInterrupt}
 use Rattle.timer.specs.Timer.{updated}
@@ -44,17 +43,21 @@ module _ {k : ℕ} (h : k ≡ 0 → ⊥) where
   abbrev Refuses : ℕ → Type 0
   Refuses n = k ≡ n → 1 < k
 
-  due : (n : ℕ) (b : Bool) → 1 < n → Refuses (cond b 0 n)
-  due n true l e = absurd (h e)
-  due n false l e = rw e l
+  first-due : (n : ℕ) (b : Bool) → 1 < n → Refuses (cond b n 0)
+  first-due n true l e = rw e l
+  first-due n false l e = absurd (h e)
+
+  second-due : (n : ℕ) (b : Bool) → 1 < n → Refuses (cond b 0 n)
+  second-due n true l e = absurd (h e)
+  second-due n false l e = rw e l
 
   pub raw-due : (x : ℕ) → Refuses (rawRefused x)
   unfolding rawRefused
-  raw-due x = due 7 (isPage (regionOf x)) (omega arith)
+  raw-due x = first-due 7 (ltb x 0xFF00) (omega arith)
 
   pub cycles-due : (n : ℕ) → Refuses (cyclesRefused n)
   unfolding cyclesRefused
-  cycles-due n = due 5 (leb n 65536) (omega arith)
+  cycles-due n = second-due 5 (leb n 65536) (omega arith)
 
   button-due : (f : Controller → Button → Controller) (c : Controller) (x : Named) → Refuses (joypad.onButton f c x .number)
   button-due f c (button.Some b) e = absurd (h e)

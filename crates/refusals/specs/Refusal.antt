@@ -59,14 +59,7 @@ lentRefused c rom vram wram save sound log = orElse (lengthsRefused c rom vram w
 unfoldable pub writeRefused : Memory → ℕ → ℕ → ℕ → ℕ → ℕ → ℕ → ℕ
 writeRefused m rom vram wram save sound log = orElse (stateRefused m log) (lentRefused (m .core) rom vram wram save sound log)
 
-abbrev pub isVram : Region → Bool
-isVram Rom = false
-isVram Vram = true
-isVram Save = false
-isVram Wram = false
-isVram Oam = false
-isVram Page = false
-
+-- an index of the save's window
 abbrev pub isSave : Region → Bool
 isSave Rom = false
 isSave Vram = false
@@ -75,15 +68,6 @@ isSave Wram = false
 isSave Oam = false
 isSave Page = false
 
-abbrev pub isPage : Region → Bool
-isPage Rom = false
-isPage Vram = false
-isPage Save = false
-isPage Wram = false
-isPage Oam = false
-isPage Page = true
-
--- an index of the save's window
 unfoldable pub inSave : ℕ → Bool
 inSave i = isSave (regionOf i)
 
@@ -114,7 +98,7 @@ wordOwed i = cond (inSound i || inSound (nextIndex i)) owed done
 
 -- 7: a raw load or store below FF00
 unfoldable pub rawRefused : ℕ → ℕ
-rawRefused i = cond (isPage (regionOf i)) done outside
+rawRefused i = cond (ltb i 0xFF00) outside done
 
 -- 5: cycles over 65,536
 unfoldable pub cyclesRefused : ℕ → ℕ
@@ -130,7 +114,7 @@ hasBank colour bank = cond (eqb bank 0) true (cond (eqb bank 1) colour false)
 
 -- 7: a VRAM bank that the machine lacks, or an index outside 8000..9FFF
 unfoldable pub vramRefused : Bool → ℕ → ℕ → ℕ
-vramRefused colour i bank = cond (hasBank colour bank) (cond (isVram (regionOf i)) done outside) outside
+vramRefused colour i bank = cond (hasBank colour bank) (cond (leb 0x8000 i && ltb i 0xA000) done outside) outside
 
 -- the refusals over a world
 abbrev pub refusedRead : Fixed → World → ℕ

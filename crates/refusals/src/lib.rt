@@ -283,10 +283,10 @@ pub fn word_owed(index: u16) -> u8
 pub fn raw_refused(index: u16) -> u8
     ensures { λ r. ⌜ r ≡ rawRefused index ⌝ }
 {
-    match memory::region_of(index) {
-        Region::Page => numbers::DONE,
-        _ => numbers::OUTSIDE,
+    if index < 0xFF00 {
+        return numbers::OUTSIDE;
     }
+    numbers::DONE
 }
 
 pub fn cycles_refused(cycles: u32) -> u8
@@ -326,8 +326,11 @@ pub fn vram_refused(colour: bool, index: u16, bank: u8) -> u8
     if !has_bank(colour, bank) {
         return numbers::OUTSIDE;
     }
-    match memory::region_of(index) {
-        Region::Vram => numbers::DONE,
-        _ => numbers::OUTSIDE,
+    if index < 0x8000 {
+        return numbers::OUTSIDE;
     }
+    if index < 0xA000 {
+        return numbers::DONE;
+    }
+    numbers::OUTSIDE
 }
