@@ -7,7 +7,7 @@ use Rattle.mbc.specs.Mbc.{romLen, ramLen}
 use Rattle.mbc.specs.declared.cartridge.Cartridge.{Cartridge}
 use Rattle.mbc.specs.declared.mbc.Mapper.{Mapper}
 use Rattle.memory.specs.Ranges.{inRange, vramLen, wramLen, soundLen}
-use Rattle.memory.specs.Region.{regionOf}
+use Rattle.memory.specs.Region.{vramStart, saveStart, pageStart, regionOf}
 use Rattle.memory.specs.World.{World, Fixed}
 use Rattle.memory.specs.declared.Core.{Core}
 use Rattle.memory.specs.declared.Memory.{Memory}
@@ -98,7 +98,7 @@ wordOwed i = cond (inSound i || inSound (nextIndex i)) owed done
 
 -- 7: a raw load or store below FF00
 unfoldable pub rawRefused : ℕ → ℕ
-rawRefused i = cond (ltb i 0xFF00) outside done
+rawRefused i = cond (ltb i pageStart) outside done
 
 -- 5: cycles over 65,536
 unfoldable pub cyclesRefused : ℕ → ℕ
@@ -114,7 +114,7 @@ hasBank colour bank = cond (eqb bank 0) true (cond (eqb bank 1) colour false)
 
 -- 7: a VRAM bank that the machine lacks, or an index outside 8000..9FFF
 unfoldable pub vramRefused : Bool → ℕ → ℕ → ℕ
-vramRefused colour i bank = cond (hasBank colour bank) (cond (leb 0x8000 i && ltb i 0xA000) done outside) outside
+vramRefused colour i bank = cond (hasBank colour bank) (cond (leb vramStart i && ltb i saveStart) done outside) outside
 
 -- the refusals over a world
 abbrev pub refusedRead : Fixed → World → ℕ

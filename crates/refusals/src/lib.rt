@@ -283,7 +283,7 @@ pub fn word_owed(index: u16) -> u8
 pub fn raw_refused(index: u16) -> u8
     ensures { λ r. ⌜ r ≡ rawRefused index ⌝ }
 {
-    if index < 0xFF00 {
+    if index < memory::PAGE_START {
         return numbers::OUTSIDE;
     }
     numbers::DONE
@@ -326,10 +326,10 @@ pub fn vram_refused(colour: bool, index: u16, bank: u8) -> u8
     if !has_bank(colour, bank) {
         return numbers::OUTSIDE;
     }
-    if index < 0x8000 {
+    if index < memory::VRAM_START {
         return numbers::OUTSIDE;
     }
-    if index < 0xA000 {
+    if index < memory::SAVE_START {
         return numbers::DONE;
     }
     numbers::OUTSIDE
