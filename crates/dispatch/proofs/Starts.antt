@@ -46,8 +46,8 @@ fresh-made : (kind banks code : ℕ) → mbc.fresh kind banks code .number ≡ 0
 unfolding mbc.fresh
 fresh-made kind banks code z =
     let c = mbc.cartridgeOf banks code in
-    let t = taken (leb kind 2 && mbc.described c (mbc.start kind)) _ _ (λ e. omega arith) z in
-    (t .0, both-true (leb kind 2) (mbc.described c (mbc.start kind)) (t .1) .1)
+    let t = taken (mbc.known kind && mbc.described c (mbc.start kind)) _ _ (λ e. omega arith) z in
+    (t .0, both-true (mbc.known kind) (mbc.described c (mbc.start kind)) (t .1) .1)
 
 log-passes : (n : ℕ) → logRefused n ≡ 0 → n ≤ logLimit
 unfolding logRefused

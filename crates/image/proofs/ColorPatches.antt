@@ -79,7 +79,7 @@ back-bits : 4096 + bits back ≡ 8 * imageLen
 unfolding back
 back-bits = refl
 
-back-length : length back ≡ 222
+back-length : length back ≡ 192 + length fieldWidths
 unfolding back
 back-length = refl
 
