@@ -1,6 +1,5 @@
 // The C boundary: every public call on a state image and lent memories, answering a number. What an entry does, crate entry says; the crates quick_reads,
-// quick_writes and quick_state do it on the image itself;
-// none has a `requires`. A slice is a pointer and its length, in the order of the parameters.
+// quick_writes, quick_state and quick_screen do it on the image itself. None has a `requires`. A slice is a pointer and its length, in the order of the parameters.
 ghost use Rattle.host.specs.One.{OneEntry};
 
 pub mod lent;

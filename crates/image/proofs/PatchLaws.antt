@@ -39,8 +39,8 @@ numbersPlace = front + bits (take 23 fieldWidths)
 abbrev pub numbersWidths : List ℕ
 numbersWidths = take 5 (drop 23 fieldWidths)
 
-abbrev pub numbersOf : Registers → List ℕ
-numbersOf r = r .rom ∷ r .ram ∷ r .mode ∷ r .enabled ∷ r .high ∷ []
+abbrev pub numberValues : Registers → List ℕ
+numberValues r = r .rom ∷ r .ram ∷ r .mode ∷ r .enabled ∷ r .high ∷ []
 
 abbrev pub Bytes : List ℕ → Type 0
 Bytes l = (length l ≡ 256) × Below 256 l
@@ -112,11 +112,11 @@ slim m h = slim-registers m h
 -- A mapper put. Its numbers stand side by side, so they are put as one; and fields that are put as they are change nothing
 
 module _ (l : List ℕ) (below : Below 256 l) where
-  pub numbers-put : length l ≡ imageLen → (r : Registers) → Fits (numbersFields r) → (n : ℕ) → n ≡ packed numbersWidths (numbersOf r)
+  pub numbers-put : length l ≡ imageLen → (r : Registers) → Fits (numbersFields r) → (n : ℕ) → n ≡ packed numbersWidths (numberValues r)
       → putAt l numbersPlace (bits numbersWidths) n ≡ put (numbersFields r) l
   numbers-put size r f n e =
       ap (putAt l numbersPlace (bits numbersWidths)) e
-      ∙ sym (put-run l below numbersPlace numbersWidths (numbersOf r) f (omega arith))
+      ∙ sym (put-run l below numbersPlace numbersWidths (numberValues r) f (omega arith))
 
   put-again : (ks : List ℕ) (ps : List (ℕ × ℕ)) → put (own (fields l) ks ++ ps) l ≡ put ps l
   put-again ks ps = put-own l below front fieldWidths ks ps

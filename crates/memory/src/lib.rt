@@ -1,4 +1,4 @@
-// The state of the bus, as the Rust's `Memory` without what is lent: its groups, its ranges, and how it starts.
+// The state of the bus, as the Rust's `Memory` without what is lent: its groups, its ranges, and how it starts; and the memory map.
 // The groups are the records of the crates below; the lent memories are slices, which the calls take beside the state.
 ghost use mathlib.Core.Bool.{not, _||_};
 ghost use mathlib.Core.Path.{_≡_};

@@ -1,5 +1,5 @@
 // Reads and writes of the bus on lent memories, as the Rust's mmu/mod.rs: `read_byte`, `write_byte` and the transfers that a write starts.
-// These are the calls within: the state is in range and the lengths are right. The crate bus has the public ones, which see to that.
+// These are the calls within: the state is in range and the lengths are right. The public ones, which see to that, are in the crates bus, write_calls and transfer_calls.
 ghost use mathlib.Core.List.{[]};
 ghost use mathlib.Core.Path.{_≡_};
 ghost use Prim.Native.Nat.{_<_};

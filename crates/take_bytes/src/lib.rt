@@ -4,6 +4,7 @@ ghost use mathlib.Core.List.{List, []};
 ghost use mathlib.Core.Path.{_≡_};
 ghost use Prim.Native.Nat.{ℕ, _≤_};
 ghost use lib.ListN.{length};
+ghost use Rattle.numbers.specs.Numbers.{done};
 ghost use Rattle.image.specs.Load.{loadCall};
 ghost use Rattle.memory.specs.Ranges.{soundLen};
 ghost use Rattle.memory.specs.Region.{oamStart, regionOf};
@@ -17,7 +18,7 @@ use registers::page::Part;
 
 // The lengths of what is lent, beside an image that is taken.
 pub fn lengths(image: &[u8], rom: usize, vram: usize, wram: usize, save: usize, sound: usize) -> u8
-    requires { ⌜ loadCall (now image) .number ≡ 0 ⌝ }
+    requires { ⌜ loadCall (now image) .number ≡ done ⌝ }
     ensures { λ r. ⌜ r ≡ lengthsRefused (loadCall (now (image .entry)) .state .core) rom vram wram save sound ⌝ }
 {
     let banks = image::banks_at(image);
@@ -96,7 +97,7 @@ pub fn apart_at(image: &[u8], save: &[u8], sound: &[u8], index: u16) -> u8
 
 // A byte of OAM or of the page, as `other_at` gives it: of the image only what the byte's part asks for. Called from one place, where the compiler puts it.
 pub fn own_at(image: &[u8], sound: &[u8], index: u16) -> u8
-    requires { ⌜ ((loadCall (now image) .number ≡ 0) × (soundLen ≤ length (now sound))) × (oamStart ≤ index) ⌝ }
+    requires { ⌜ ((loadCall (now image) .number ≡ done) × (soundLen ≤ length (now sound))) × (oamStart ≤ index) ⌝ }
     ensures { λ r. ⌜ ((rom v w s : List ℕ) → r ≡ readByte (fixed rom (now (sound .entry))) (loadCall (now (image .entry)) .state) v w s index) ⌝ }
 {
     let i = (index - memory::OAM_START) as usize;
@@ -150,7 +151,7 @@ pub fn byte_at(
     sound: &[u8],
     index: u16,
 ) -> u8
-    requires { ⌜ (loadCall (now image) .number ≡ 0) × Ready (fixed (now rom) (now sound)) (world (loadCall (now image) .state) (now vram) (now wram) (now save) []) ⌝ }
+    requires { ⌜ (loadCall (now image) .number ≡ done) × Ready (fixed (now rom) (now sound)) (world (loadCall (now image) .state) (now vram) (now wram) (now save) []) ⌝ }
     ensures { λ r. ⌜ r ≡ readByte (fixed (now (rom .entry)) (now (sound .entry))) (loadCall (now (image .entry)) .state) (now (vram .entry)) (now (wram .entry)) (now (save .entry)) index ⌝ }
 {
     match memory::region_of(index) {
@@ -169,7 +170,7 @@ pub fn one_at(
     sound: &[u8],
     index: u16,
 ) -> u8
-    requires { ⌜ (loadCall (now image) .number ≡ 0) × Ready (fixed (now rom) (now sound)) (world (loadCall (now image) .state) (now vram) (now wram) (now save) []) ⌝ }
+    requires { ⌜ (loadCall (now image) .number ≡ done) × Ready (fixed (now rom) (now sound)) (world (loadCall (now image) .state) (now vram) (now wram) (now save) []) ⌝ }
     ensures { λ r. ⌜ r ≡ readByte (fixed (now (rom .entry)) (now (sound .entry))) (loadCall (now (image .entry)) .state) (now (vram .entry)) (now (wram .entry)) (now (save .entry)) index ⌝ }
 {
     if index < memory::VRAM_START {

@@ -1,4 +1,4 @@
-// The timer: DIV and TIMA after a number of cycles, as the Rust's timer.rs, on a record by value. Leans on interrupt for FF0F.
+// The timer: DIV and TIMA after a number of cycles, as the Rust's timer.rs, on a record by value. FF0F is crate interrupt's.
 // Each register goes step by step: one step of DIV in 256 cycles, one of TIMA in a period of TAC.
 ghost use mathlib.Core.Path.{_≡_};
 ghost use Prim.Native.Nat.{_+_, _*_, _%_, _<_, _≤_};
