@@ -87,17 +87,18 @@ enum pouch_interrupt {
 enum pouch_kind {
     POUCH_ROM_ONLY = 0, /* 2 ROM banks */
     POUCH_MBC1 = 1,     /* 2, 4, .. 128 ROM banks */
-    POUCH_MBC2 = 2      /* 2, 4, 8, 16 ROM banks, a save of 512 bytes, RAM code 0 */
+    POUCH_MBC2 = 2,     /* 2, 4, 8, 16 ROM banks, a save of 512 bytes, RAM code 0 */
+    POUCH_MBC5 = 3      /* 2, 4, .. 512 ROM banks */
 };
 
 /* Lengths in bytes. */
-#define POUCH_IMAGE_LEN 665
+#define POUCH_IMAGE_LEN 666
 #define POUCH_ROM_BANK_LEN 16384
 #define POUCH_VRAM_LEN_MONOCHROME 8192
 #define POUCH_VRAM_LEN_COLOUR 16384
 #define POUCH_WRAM_LEN_MONOCHROME 8192
 #define POUCH_WRAM_LEN_COLOUR 32768
-#define POUCH_SAVE_LEN_CODE_0 0     /* RAM code 0, RomOnly and Mbc1 */
+#define POUCH_SAVE_LEN_CODE_0 0     /* RAM code 0, RomOnly, Mbc1 and Mbc5 */
 #define POUCH_SAVE_LEN_CODE_2 8192  /* RAM code 2 */
 #define POUCH_SAVE_LEN_CODE_3 32768 /* RAM code 3 */
 #define POUCH_SAVE_LEN_MBC2 512     /* Mbc2, RAM code 0 */

@@ -72,6 +72,12 @@ static void mbc2(void)
     WRITE(0x0000, 0x0A);
 }
 
+static void mbc5(void)
+{
+    fresh_with(POUCH_MBC5, 2, true, POUCH_SAVE_LEN_CODE_2);
+    WRITE(0x0000, 0x0A);
+}
+
 static void rom_only(void)
 {
     fresh_with(POUCH_ROM_ONLY, 0, false, POUCH_SAVE_LEN_CODE_0);

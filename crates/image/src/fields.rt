@@ -408,7 +408,7 @@ fn put_numbers(image: &mut [u8], r: Registers)
         + r.mode as u32 * layout::BANKING_UNIT
         + r.enabled as u32 * layout::ENABLED_UNIT
         + r.high as u32;
-    places::put_narrow(image, layout::ROM_AT, layout::NUMBERS, n as u16);
+    places::put_u16(image, layout::ROM_AT, layout::NUMBERS, n as u16);
 }
 
 pub fn put_used(image: &mut [u8], used: u16)

@@ -2,7 +2,7 @@
 // specs/Layout.antt, to which the proofs hold them.
 
 // The bytes of an image.
-pub const LENGTH: usize = 665;
+pub const LENGTH: usize = 666;
 
 // Red, green and blue of 32 background colours, then of 32 sprite colours.
 
@@ -58,11 +58,11 @@ pub const WINDOW_AT: usize = AUX_AT + 32;
 
 pub const KIND: usize = 2;
 
-pub const LOG: usize = 3;
+pub const LOG: usize = 4;
 
 pub const CODE: usize = 2;
 
-pub const ROM: usize = 7;
+pub const ROM: usize = 9;
 
 pub const RAM: usize = 2;
 
@@ -73,7 +73,7 @@ pub const NUMBERS: usize = ROM + RAM + 1 + 1 + HIGH;
 
 pub const USED: usize = 16;
 
-pub const ZEROS: usize = 1;
+pub const ZEROS: usize = 6;
 
 pub const KIND_AT: usize = WINDOW_AT + 32;
 

@@ -5,6 +5,7 @@ mod held;
 mod mbc;
 mod mbc1;
 mod mbc2;
+mod mbc5;
 mod rom_only;
 
 pub use cartridge::Cartridge;
@@ -20,3 +21,4 @@ pub use mbc::is_mapped;
 pub use mbc::rom_place;
 pub use mbc1::Mbc1;
 pub use mbc2::Mbc2;
+pub use mbc5::Mbc5;

@@ -5,6 +5,8 @@ use crate::mbc1;
 use crate::mbc1::Mbc1;
 use crate::mbc2;
 use crate::mbc2::Mbc2;
+use crate::mbc5;
+use crate::mbc5::Mbc5;
 use crate::rom_only;
 ghost use mathlib.Core.Path.{_≡_};
 ghost use mathlib.Core.Bool.{true};
@@ -21,10 +23,11 @@ pub enum Mapper {
     RomOnly,
     Mbc1(Mbc1),
     Mbc2(Mbc2),
+    Mbc5(Mbc5),
 }
 
 // The last kind.
-const LAST: u8 = mbc2::KIND;
+const LAST: u8 = mbc5::KIND;
 
 // What a write asks of the save.
 pub enum Answer {
@@ -155,6 +158,7 @@ impl Mapper {
             Mapper::RomOnly => Registers::start(rom_only::KIND),
             Mapper::Mbc1(m) => m.registers(),
             Mapper::Mbc2(m) => m.registers(),
+            Mapper::Mbc5(m) => m.registers(),
         }
     }
 
@@ -168,7 +172,10 @@ impl Mapper {
         if r.kind == mbc1::KIND {
             return Mapper::Mbc1(Mbc1::from_registers(r));
         }
-        Mapper::Mbc2(Mbc2::from_registers(r))
+        if r.kind == mbc2::KIND {
+            return Mapper::Mbc2(Mbc2::from_registers(r));
+        }
+        Mapper::Mbc5(Mbc5::from_registers(r))
     }
 
     // Whether a mapper has these fields: it gives them back, so its kind is known, and a field that it lacks holds its starting value.
@@ -181,8 +188,11 @@ impl Mapper {
         if r.kind == mbc1::KIND {
             return Mbc1::has(r);
         }
-        let m = Mbc2::from_registers(r);
-        r.same(m.registers())
+        if r.kind == mbc2::KIND {
+            let m = Mbc2::from_registers(r);
+            return r.same(m.registers());
+        }
+        Mbc5::has(r)
     }
 
     fn start(kind: u8) -> Mapper
@@ -199,6 +209,7 @@ impl Mapper {
             Mapper::RomOnly => 0,
             Mapper::Mbc1(_) => 0,
             Mapper::Mbc2(_) => mbc2::RAM_LEN,
+            Mapper::Mbc5(_) => 0,
         }
     }
 
@@ -229,6 +240,7 @@ impl Mapper {
             Mapper::RomOnly => rom_only::in_range(cartridge),
             Mapper::Mbc1(m) => m.in_range(cartridge),
             Mapper::Mbc2(m) => m.in_range(cartridge),
+            Mapper::Mbc5(m) => m.in_range(cartridge),
         }
     }
 
@@ -241,6 +253,7 @@ impl Mapper {
             Mapper::RomOnly => rom_only::ram_source(cartridge, index),
             Mapper::Mbc1(m) => m.ram_source(index),
             Mapper::Mbc2(m) => m.ram_source(index),
+            Mapper::Mbc5(m) => m.ram_source(index),
         }
     }
 
@@ -265,6 +278,7 @@ impl Mapper {
             Mapper::RomOnly => Mapper::RomOnly,
             Mapper::Mbc1(m) => Mapper::Mbc1(m.after(cartridge, index, value)),
             Mapper::Mbc2(m) => Mapper::Mbc2(m.after(cartridge, index, value)),
+            Mapper::Mbc5(m) => Mapper::Mbc5(m.after(cartridge, index, value)),
         }
     }
 
