@@ -28,7 +28,7 @@ pub extern "C" fn pouch_mapper_read(
     }
     let mapper = Mapper::from_registers(image::registers_at(image));
     let cartridge = image::cartridge_at(image);
-    let read = mapper.read_byte(cartridge, rom, save, index);
+    let read = mapper.read_lent(cartridge, rom, save, index);
     *value = read.value;
     read.number
 }
@@ -51,9 +51,9 @@ fn record_of(image: &[u8], index: u16, byte: u8) -> u32
     if index < memory::VRAM_START {
         return 0;
     }
-    let mapper = image::mapper_at(image);
+    let registers = image::registers_at(image);
     let cartridge = image::cartridge_at(image);
-    answer_number(mapper.answer(cartridge, index, byte))
+    answer_number(registers.answer(cartridge, index, byte))
 }
 
 // What the mapper answers, and its registers in the image.

@@ -6,7 +6,6 @@ use joypad::Controller;
 use lcd::Lcd;
 use mbc::Cartridge;
 use mbc::Mapper;
-use mbc::Mbc1;
 use mbc::Registers;
 use memory::Banks;
 use memory::Clock;
@@ -23,6 +22,9 @@ ghost use Rattle.mbc.specs.declared.mbc.Mapper.{Mapper};
 ghost use Rattle.image.specs.Layout.{imageLen, fieldWidths, fieldValues, usedField};
 ghost use Rattle.image.specs.Load.{banksOf, lcdOf, hdmaOf, joypadOf, clockOf, cartridgeOf, registersIn, coreFrom, at};
 ghost use Rattle.image.specs.Patches.{fields, headFits, mapperFits, tailFits, restFits, Mapped, MapperFits, MachineFits, SameRange, RestFits, put, Fits, banksFields, linesFields, lcdFields, hdmaFields, joypadFields, clockFields, cartridgeFields, numbersFields, registersFields, Slim, usedPut, mappingPut, clockPut, groupsFields, coreFields};
+
+// No save is so long.
+const NO_SAVE: usize = 1;
 
 pub fn banks_at(image: &[u8]) -> Banks
     requires { ⌜ length (now image) ≡ imageLen ⌝ }
@@ -106,13 +108,22 @@ pub fn clock_at(image: &[u8]) -> Clock
     }
 }
 
+// All that there is of a mapper, as one number: one load, of which the compiler takes what is asked for.
+fn mapping_at(image: &[u8]) -> u32
+    requires { ⌜ length (now image) ≡ imageLen ⌝ }
+    ensures { λ r. ⌜ r ≡ mappingNumber (now (image .entry)) ⌝ }
+{
+    places::u32_at(image, layout::KIND_AT, layout::MAPPING)
+}
+
 pub fn cartridge_at(image: &[u8]) -> Cartridge
     requires { ⌜ length (now image) ≡ imageLen ⌝ }
     ensures { λ r. ⌜ r ≡ cartridgeOf (fields (now (image .entry))) ⌝ }
 {
+    let n = mapping_at(image);
     Cartridge {
-        banks: Cartridge::banks_of(places::u8_at(image, layout::LOG_AT, layout::LOG)),
-        code: places::u8_at(image, layout::CODE_AT, layout::CODE),
+        banks: Cartridge::banks_of((n / layout::LOG_UNIT % (1 << layout::LOG)) as u8),
+        code: (n / layout::CODE_UNIT % (1 << layout::CODE)) as u8,
     }
 }
 
@@ -120,13 +131,14 @@ pub fn registers_at(image: &[u8]) -> Registers
     requires { ⌜ length (now image) ≡ imageLen ⌝ }
     ensures { λ r. ⌜ r ≡ registersIn (fields (now (image .entry))) ⌝ }
 {
+    let n = mapping_at(image);
     Registers {
-        kind: places::u8_at(image, layout::KIND_AT, layout::KIND),
-        rom: places::u16_at(image, layout::ROM_AT, layout::ROM),
-        ram: places::u8_at(image, layout::RAM_AT, layout::RAM),
-        mode: places::u8_at(image, layout::BANKING_AT, 1),
-        enabled: places::u8_at(image, layout::ENABLED_AT, 1),
-        high: places::u8_at(image, layout::HIGH_AT, layout::HIGH),
+        kind: (n / layout::KIND_UNIT) as u8,
+        rom: (n / layout::ROM_UNIT % (1 << layout::ROM)) as u16,
+        ram: (n / layout::RAM_UNIT % (1 << layout::RAM)) as u8,
+        mode: (n / layout::BANKING_UNIT % 2) as u8,
+        enabled: mbc::bit(n / layout::ENABLED_UNIT % 2 == 1),
+        high: (n % (1 << layout::HIGH)) as u8,
     }
 }
 
@@ -181,22 +193,103 @@ pub fn head_fits(image: &[u8]) -> bool
     memory::hdma_in_range(hdma, banks.colour)
 }
 
-// Whether a mapper has the registers, and is in range. They are read anew for the mapper: loads cost less than handing them on.
+// Tests that are enough for a load, and for the lengths of what is lent beside the image: small, so that the compiler puts them in place where they are
+// called, and on the number that has all of a mapper, where each is a mask. Who fails one is no worse off than before it.
+
+// The commonest mappers, Mbc1 and Mbc5 of at most 128 banks, in range: the length of the save beside it. A number that no save's length is where a test fails.
+fn common_save(n: u32) -> usize
+    ensures { λ r. ⌜ ((r ≡ noSave → ⊥) → Common n r) ⌝ }
+{
+    if n / layout::LOG_UNIT % (1 << layout::LOG) > 7 {
+        return NO_SAVE;
+    }
+    if n / layout::KIND_UNIT % 2 != 1 {
+        return NO_SAVE;
+    }
+    if n / layout::KIND_UNIT / 2 == 1 {
+        if n / layout::BANKING_UNIT % 2 != 0 {
+            return NO_SAVE;
+        }
+        if n % (1 << layout::HIGH) != 0 {
+            return NO_SAVE;
+        }
+    }
+    let log = n / layout::LOG_UNIT % 8;
+    if log == 0 {
+        return NO_SAVE;
+    }
+    let rom = n / layout::ROM_UNIT % (1 << layout::ROM);
+    if 1 << log <= rom {
+        return NO_SAVE;
+    }
+    if n / layout::CODE_UNIT / 2 % 2 == 0 {
+        if n / layout::CODE_UNIT % 2 == 1 {
+            return NO_SAVE;
+        }
+        if n / layout::ENABLED_UNIT % 16 != 0 {
+            return NO_SAVE;
+        }
+        return 0;
+    }
+    if n / layout::CODE_UNIT % 2 == 1 {
+        return 0x8000;
+    }
+    if n / layout::BANKING_UNIT % 8 != 0 {
+        return NO_SAVE;
+    }
+    0x2000
+}
+
+// RomOnly and Mbc2, in range.
+fn small_fits(n: u32) -> bool
+    ensures { λ r. ⌜ (r ≡ true → MapperIn n) ⌝ }
+{
+    if n / layout::KIND_UNIT == 0 {
+        if n / layout::LOG_UNIT != 1 {
+            return false;
+        }
+        if n % layout::CODE_UNIT != layout::ROM_UNIT {
+            return false;
+        }
+        return n / layout::CODE_UNIT % (1 << layout::CODE) != 1;
+    }
+    if n / layout::KIND_UNIT != 2 {
+        return false;
+    }
+    if n / layout::CODE_UNIT % (1 << layout::CODE) != 0 {
+        return false;
+    }
+    if n / layout::BANKING_UNIT % 8 != 0 {
+        return false;
+    }
+    if n % (1 << layout::HIGH) != 0 {
+        return false;
+    }
+    if n / layout::LOG_UNIT % (1 << layout::LOG) > 4 {
+        return false;
+    }
+    let log = n / layout::LOG_UNIT % 8;
+    if log == 0 {
+        return false;
+    }
+    n / layout::ROM_UNIT % (1 << layout::ROM) < 1 << log
+}
+
+// Whether a mapper has the registers, and is in range.
 fn mapper_fits(image: &[u8]) -> bool
     requires { ⌜ length (now image) ≡ imageLen ⌝ }
     ensures { λ r. ⌜ r ≡ mapperFits (fields (now (image .entry))) ⌝ }
 {
-    let registers = registers_at(image);
-    if !registers.is_sound() {
-        return false;
+    let n = mapping_at(image);
+    if common_save(n) != NO_SAVE {
+        return true;
     }
-    let mapper = mapper_at(image);
-    let cartridge = cartridge_at(image);
-    mapper.in_range(cartridge)
+    if small_fits(n) {
+        return true;
+    }
+    let registers = registers_at(image);
+    registers.fit(cartridge_at(image))
 }
-
-// Tests that are enough for a load, and for the lengths of what is lent beside the image: small, so that the compiler puts them in place where they are
-// called. Who fails one is no worse off than before it. The mapper is the commonest; the lengths are compared in each branch, where the compiler knows what they follow.
 
 pub fn mapper_surely_fits(image: &[u8], rom: usize, save: usize) -> bool
     ensures { λ r. ⌜ (r ≡ true → MapperFits (now (image .entry)) rom save) ⌝ }
@@ -204,28 +297,15 @@ pub fn mapper_surely_fits(image: &[u8], rom: usize, save: usize) -> bool
     if image.len() != layout::LENGTH {
         return false;
     }
-    let registers = registers_at(image);
-    if !Mbc1::has(registers) {
+    let n = mapping_at(image);
+    let its = common_save(n);
+    if its == NO_SAVE {
         return false;
     }
-    let cartridge = cartridge_at(image);
-    if rom != cartridge.rom_len() {
+    if rom != (1 << (n / layout::LOG_UNIT % 8)) as usize * 0x4000 {
         return false;
     }
-    let mapper = Mbc1::from_registers(registers);
-    if cartridge.code == 2 {
-        if !mapper.in_range(cartridge) {
-            return false;
-        }
-        return save == cartridge.ram_len();
-    }
-    if !mapper.in_range(cartridge) {
-        return false;
-    }
-    if cartridge.code == 3 {
-        return save == cartridge.ram_len();
-    }
-    save == cartridge.ram_len()
+    save == its
 }
 
 fn machine_surely_fits(banks: Banks, hdma: Hdma, vram: usize, wram: usize) -> bool
@@ -278,13 +358,7 @@ pub fn mapper_surely(image: &[u8]) -> bool
     if image.len() != layout::LENGTH {
         return false;
     }
-    let registers = registers_at(image);
-    if !Mbc1::has(registers) {
-        return false;
-    }
-    let cartridge = cartridge_at(image);
-    let mapper = Mbc1::from_registers(registers);
-    mapper.in_range(cartridge)
+    common_save(mapping_at(image)) != NO_SAVE
 }
 
 // By the kind of machine, as `machine_surely_fits` goes: in place that costs less than `head_fits`.

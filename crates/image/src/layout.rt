@@ -71,6 +71,9 @@ pub const HIGH: usize = 2;
 // ROM bank, RAM bank, mode, enabled and high bits, side by side.
 pub const NUMBERS: usize = ROM + RAM + 1 + 1 + HIGH;
 
+// With the kind and the description before them: all that there is of a mapper.
+pub const MAPPING: usize = KIND + LOG + CODE + NUMBERS;
+
 pub const USED: usize = 16;
 
 pub const ZEROS: usize = 6;
@@ -95,7 +98,13 @@ pub const USED_AT: usize = HIGH_AT + HIGH;
 
 pub const ZEROS_AT: usize = USED_AT + USED;
 
-// The numbers as one: what each counts there, 2 to the bits that stand behind it.
+// All of them as one number: what each counts there, 2 to the bits that stand behind it.
+
+pub const KIND_UNIT: u32 = 1 << (USED_AT - LOG_AT);
+
+pub const LOG_UNIT: u32 = 1 << (USED_AT - CODE_AT);
+
+pub const CODE_UNIT: u32 = 1 << (USED_AT - ROM_AT);
 
 pub const ROM_UNIT: u32 = 1 << (USED_AT - RAM_AT);
 

@@ -10,6 +10,7 @@ mod rom_only;
 
 pub use cartridge::Cartridge;
 pub use held::Registers;
+pub use held::bit;
 pub use mbc::Answer;
 pub use mbc::Fresh;
 pub use mbc::Mapper;

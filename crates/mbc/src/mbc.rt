@@ -147,6 +147,21 @@ impl Source {
             Source::Fixed(_) => Answer::NotStored,
         }
     }
+
+    // The same of an address that lies in the save.
+    pub fn kept(self, value: u8) -> Answer
+        ensures { λ r. ⌜ ((len : ℕ) → Within 0 len self → r ≡ storedAt len value self) ⌝ }
+    {
+        match self {
+            Source::Rom(_) => Answer::NotStored,
+            Source::Save(at) => Answer::Stored { at, value },
+            Source::Half(at) => Answer::Stored {
+                at,
+                value: value % 16,
+            },
+            Source::Fixed(_) => Answer::NotStored,
+        }
+    }
 }
 
 impl Mapper {
@@ -178,49 +193,17 @@ impl Mapper {
         Mapper::Mbc5(Mbc5::from_registers(r))
     }
 
-    // Whether a mapper has these fields: it gives them back, so its kind is known, and a field that it lacks holds its starting value.
-    pub fn has(r: Registers) -> bool
-        ensures { λ b. ⌜ b ≡ sound r ⌝ }
-    {
-        if r.kind == rom_only::KIND {
-            return r.same(Registers::start(rom_only::KIND));
-        }
-        if r.kind == mbc1::KIND {
-            return Mbc1::has(r);
-        }
-        if r.kind == mbc2::KIND {
-            let m = Mbc2::from_registers(r);
-            return r.same(m.registers());
-        }
-        Mbc5::has(r)
-    }
-
     fn start(kind: u8) -> Mapper
         ensures { λ r. ⌜ r ≡ start kind ⌝ }
     {
         Mapper::from_registers(Registers::start(kind))
     }
 
-    // Bytes of RAM of its own; 0 where the RAM code says how many.
-    fn own_ram(self) -> usize
-        ensures { λ r. ⌜ r ≡ behaviour self .ownRam ⌝ }
-    {
-        match self {
-            Mapper::RomOnly => 0,
-            Mapper::Mbc1(_) => 0,
-            Mapper::Mbc2(_) => mbc2::RAM_LEN,
-            Mapper::Mbc5(_) => 0,
-        }
-    }
-
     pub fn ram_len(self, cartridge: Cartridge) -> usize
         ensures { λ r. ⌜ r ≡ ramLen cartridge self ⌝ }
     {
-        let own = self.own_ram();
-        if own == 0 {
-            return cartridge.ram_len();
-        }
-        own
+        let held = self.registers();
+        held.ram_len(cartridge)
     }
 
     // Whether a lent ROM and save have the lengths that they must have.
@@ -236,25 +219,8 @@ impl Mapper {
     pub fn in_range(self, cartridge: Cartridge) -> bool
         ensures { λ r. ⌜ r ≡ inRange cartridge self ⌝ }
     {
-        match self {
-            Mapper::RomOnly => rom_only::in_range(cartridge),
-            Mapper::Mbc1(m) => m.in_range(cartridge),
-            Mapper::Mbc2(m) => m.in_range(cartridge),
-            Mapper::Mbc5(m) => m.in_range(cartridge),
-        }
-    }
-
-    // Where a read at A000..BFFF finds its byte.
-    fn ram_source(self, cartridge: Cartridge, index: u16) -> Source
-        requires { ⌜ 0xA000 ≤ index ⌝ }
-        ensures { λ r. ⌜ r ≡ ramSource cartridge self index ⌝ }
-    {
-        match self {
-            Mapper::RomOnly => rom_only::ram_source(cartridge, index),
-            Mapper::Mbc1(m) => m.ram_source(index),
-            Mapper::Mbc2(m) => m.ram_source(index),
-            Mapper::Mbc5(m) => m.ram_source(index),
-        }
+        let held = self.registers();
+        held.fit(cartridge)
     }
 
     // Where a read finds its byte.
@@ -262,11 +228,11 @@ impl Mapper {
         requires { ⌜ mapped index ≡ true ⌝ }
         ensures { λ r. ⌜ r ≡ source cartridge self index ⌝ }
     {
+        let held = self.registers();
         if index < 0x8000 {
-            let held = self.registers();
             return Source::Rom(rom_place(held.rom, index));
         }
-        self.ram_source(cartridge, index)
+        held.ram_source(cartridge, index)
     }
 
     // The registers after a write.
@@ -289,39 +255,16 @@ impl Mapper {
         0x8000 <= index
     }
 
-    // What a write at A000..BFFF asks of the save.
-    pub fn answer(self, cartridge: Cartridge, index: u16, value: u8) -> Answer
-        requires { ⌜ 0xA000 ≤ index ⌝ }
-        ensures { λ r. ⌜ r ≡ answer cartridge self index value ⌝ }
-    {
-        let source = self.ram_source(cartridge, index);
-        let len = self.ram_len(cartridge);
-        source.stored(len, value)
-    }
-
-    // A000..BFFF, for the bus, as `read`.
-    pub fn read_ram(self, cartridge: Cartridge, save: &[u8], index: u16) -> u8
-        requires { ⌜ (inRange cartridge self ≡ true) × (((0xA000 ≤ index) × (index < 0xC000)) × (length (now save) ≡ ramLen cartridge self)) ⌝ }
-        ensures { λ r. ⌜ r ≡ byteOf [] (now (save .entry)) (ramSource cartridge self index) ⌝ }
-    {
-        match self.ram_source(cartridge, index) {
-            Source::Rom(_) => 0,
-            Source::Save(at) => save[at],
-            Source::Half(at) => save[at] % 16,
-            Source::Fixed(byte) => byte,
-        }
-    }
-
     // For the bus, which has tested the state, the lengths and the index.
     pub fn read(self, cartridge: Cartridge, rom: &[u8], save: &[u8], index: u16) -> u8
         requires { ⌜ (inRange cartridge self ≡ true) × ((mapped index ≡ true) × ((length (now rom) ≡ romLen cartridge) × (length (now save) ≡ ramLen cartridge self))) ⌝ }
         ensures { λ r. ⌜ r ≡ readAt cartridge self (now (rom .entry)) (now (save .entry)) index ⌝ }
     {
+        let held = self.registers();
         if index < 0x8000 {
-            let held = self.registers();
             return rom[rom_place(held.rom, index)];
         }
-        self.read_ram(cartridge, save, index)
+        held.read_ram(cartridge, save, index)
     }
 
     // For the bus, which has tested the state and the index, and stores what is answered.
@@ -364,13 +307,11 @@ impl Mapper {
         }
     }
 
-    // The Rust's `read_byte`: 3, 4 and 7 refuse, with 0.
-    pub fn read_byte(self, cartridge: Cartridge, rom: &[u8], save: &[u8], index: u16) -> ReadByte
+    // As `read_byte`, for who has tested the state.
+    pub fn read_lent(self, cartridge: Cartridge, rom: &[u8], save: &[u8], index: u16) -> ReadByte
+        requires { ⌜ inRange cartridge self ≡ true ⌝ }
         ensures { λ r. ⌜ r ≡ readByte cartridge self (now (rom .entry)) (now (save .entry)) index ⌝ }
     {
-        if !self.in_range(cartridge) {
-            return refused_read(numbers::OUT_OF_RANGE);
-        }
         if !self.lengths(cartridge, rom.len(), save.len()) {
             return refused_read(numbers::WRONG_LENGTH);
         }
@@ -381,6 +322,16 @@ impl Mapper {
             number: numbers::DONE,
             value: self.read(cartridge, rom, save, index),
         }
+    }
+
+    // The Rust's `read_byte`: 3, 4 and 7 refuse, with 0.
+    pub fn read_byte(self, cartridge: Cartridge, rom: &[u8], save: &[u8], index: u16) -> ReadByte
+        ensures { λ r. ⌜ r ≡ readByte cartridge self (now (rom .entry)) (now (save .entry)) index ⌝ }
+    {
+        if !self.in_range(cartridge) {
+            return refused_read(numbers::OUT_OF_RANGE);
+        }
+        self.read_lent(cartridge, rom, save, index)
     }
 
     // The Rust's `write_byte`: 3 and 7 refuse, and change nothing.

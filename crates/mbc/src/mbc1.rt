@@ -2,13 +2,12 @@
 use crate::cartridge::Cartridge;
 use crate::held::Registers;
 use crate::held::bit;
-use crate::mbc::Source;
 ghost use mathlib.Core.Path.{_≡_};
-ghost use mathlib.Core.Bool.{true, cond};
+ghost use mathlib.Core.Bool.{true, cond, _&&_};
 ghost use Prim.Native.Nat.{_<_, _≤_};
 ghost use Rattle.mbc.specs.PanDocs.{mbc1Bank};
 ghost use Rattle.mbc.specs.Registers.{same};
-ghost use Rattle.mbc.specs.Mbc.Mbc1Rules.{held1, suits, ramBank1, enable1, low1, high1, withMode, mode1, after1, from1, numbers1, ramSource1};
+ghost use Rattle.mbc.specs.Mbc.Mbc1Rules.{held1, suits, ramBank1, enable1, low1, high1, withMode, mode1, after1, from1, numbers1};
 ghost use Rattle.mbc.specs.Mbc.{inRange};
 ghost use Rattle.mbc.specs.declared.mbc.Mapper.the-variants as mapper;
 
@@ -123,22 +122,25 @@ impl Mbc1 {
         false
     }
 
+    // Whether one has these registers, and is in range.
+    pub fn fit(r: Registers, cartridge: Cartridge) -> bool
+        ensures { λ b. ⌜ b ≡ (same r (numbers1 (from1 r)) && inRange cartridge (mapper.Mbc1 (from1 r))) ⌝ }
+    {
+        if !Mbc1::has(r) {
+            return false;
+        }
+        let m = Mbc1::from_registers(r);
+        m.in_range(cartridge)
+    }
+
     // The RAM bank at A000..BFFF.
-    fn ram_bank(self) -> u8
+    pub fn ram_bank(self) -> u8
         ensures { λ r. ⌜ r ≡ ramBank1 self ⌝ }
     {
         if self.mode {
             return self.ram;
         }
         0
-    }
-
-    // A000..BFFF
-    pub fn ram_source(self, index: u16) -> Source
-        requires { ⌜ 0xA000 ≤ index ⌝ }
-        ensures { λ r. ⌜ r ≡ ramSource1 self index ⌝ }
-    {
-        Source::of_ram(self.enabled, self.ram_bank(), index)
     }
 
     // 0000..1FFF

@@ -5,8 +5,9 @@ use crate::held::bit;
 use crate::mbc::Source;
 use crate::mbc::ram_address;
 ghost use mathlib.Core.Path.{_≡_};
-ghost use mathlib.Core.Bool.{true};
+ghost use mathlib.Core.Bool.{true, _&&_};
 ghost use Prim.Native.Nat.{_<_, _≤_};
+ghost use Rattle.mbc.specs.Registers.{same};
 ghost use Rattle.mbc.specs.Mbc.Mbc2Rules.{enable2, select2, after2, from2, numbers2, ramSource2};
 ghost use Rattle.mbc.specs.Mbc.{inRange};
 ghost use Rattle.mbc.specs.declared.mbc.Mapper.the-variants as mapper;
@@ -55,6 +56,17 @@ impl Mbc2 {
             }
         }
         false
+    }
+
+    // Whether one has these registers, and is in range.
+    pub fn fit(r: Registers, cartridge: Cartridge) -> bool
+        ensures { λ b. ⌜ b ≡ (same r (numbers2 (from2 r)) && inRange cartridge (mapper.Mbc2 (from2 r))) ⌝ }
+    {
+        let m = Mbc2::from_registers(r);
+        if !r.same(m.registers()) {
+            return false;
+        }
+        m.in_range(cartridge)
     }
 
     // A000..BFFF

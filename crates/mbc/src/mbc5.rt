@@ -2,12 +2,11 @@
 use crate::cartridge::Cartridge;
 use crate::held::Registers;
 use crate::held::bit;
-use crate::mbc::Source;
 ghost use mathlib.Core.Path.{_≡_};
-ghost use mathlib.Core.Bool.{true};
+ghost use mathlib.Core.Bool.{true, _&&_};
 ghost use Prim.Native.Nat.{_<_, _≤_};
 ghost use Rattle.mbc.specs.Registers.{same};
-ghost use Rattle.mbc.specs.Mbc.Mbc5Rules.{held5, enable5, low5, ninth5, ram5, after5, from5, numbers5, ramSource5};
+ghost use Rattle.mbc.specs.Mbc.Mbc5Rules.{held5, enable5, low5, ninth5, ram5, after5, from5, numbers5};
 ghost use Rattle.mbc.specs.Mbc.{inRange};
 ghost use Rattle.mbc.specs.declared.mbc.Mapper.the-variants as mapper;
 
@@ -88,12 +87,15 @@ impl Mbc5 {
         false
     }
 
-    // A000..BFFF
-    pub fn ram_source(self, index: u16) -> Source
-        requires { ⌜ 0xA000 ≤ index ⌝ }
-        ensures { λ r. ⌜ r ≡ ramSource5 self index ⌝ }
+    // Whether one has these registers, and is in range.
+    pub fn fit(r: Registers, cartridge: Cartridge) -> bool
+        ensures { λ b. ⌜ b ≡ (same r (numbers5 (from5 r)) && inRange cartridge (mapper.Mbc5 (from5 r))) ⌝ }
     {
-        Source::of_ram(self.enabled, self.ram, index)
+        if !Mbc5::has(r) {
+            return false;
+        }
+        let m = Mbc5::from_registers(r);
+        m.in_range(cartridge)
     }
 
     // 0000..1FFF

@@ -81,8 +81,8 @@ pub fn other_at(image: &[u8], save: &[u8], sound: &[u8], index: u16) -> u8
         }
         _ => {
             let cartridge = image::cartridge_at(image);
-            let mapper = Mapper::from_registers(image::registers_at(image));
-            mapper.read_ram(cartridge, save, index)
+            let registers = image::registers_at(image);
+            registers.read_ram(cartridge, save, index)
         }
     }
 }
@@ -155,8 +155,8 @@ pub fn byte_at(
     ensures { λ r. ⌜ r ≡ readByte (fixed (now (rom .entry)) (now (sound .entry))) (loadCall (now (image .entry)) .state) (now (vram .entry)) (now (wram .entry)) (now (save .entry)) index ⌝ }
 {
     match memory::region_of(index) {
-        Region::Rom | Region::Vram | Region::Wram => lent_at(image, rom, vram, wram, index),
-        _ => other_at(image, save, sound, index),
+        Region::Save | Region::Oam | Region::Page => other_at(image, save, sound, index),
+        _ => lent_at(image, rom, vram, wram, index),
     }
 }
 
