@@ -1,9 +1,9 @@
 -- What a cartridge's description says, taken out of the tests; N and its logarithm, both ways.
 use mathlib.Core.Path.{_≡_, refl, sym, _∙_}
-use mathlib.Core.Bool.{true, false, cond, _||_, or-false}
+use mathlib.Core.Bool.{Bool, true, false, cond, _||_, or-false}
 use mathlib.Core.List.{List, [], _∷_}
 use mathlib.Core.Logic.{⊎-elim}
-use Prim.Native.Nat.{ℕ, zero, suc, _≤_, _*_}
+use Prim.Native.Nat.{ℕ, zero, suc, _<_, _≤_, _*_}
 use native.Mathlib.Omega.{arith}
 use lib.Dec.{eqb, leb, lit≤}
 use borrow.Author.Tests.{leb-true, eqb-true}
@@ -51,6 +51,25 @@ some-ram code e =
     ⊎-elim (λ (h : eqb code 2 ≡ true). rw h (lit≤ tt))
     (λ (h : (eqb code 3 || false) ≡ true). rw (eqb-true code 3 (sym (or-false (eqb code 3)) ∙ h)) (lit≤ tt))
     (or-cases (eqb code 2) (eqb code 3 || false) e)
+
+-- and back: RAM banks are there by code 2 or 3 alone
+some-code : (a b : Bool) → 0 < cond a 1 (cond b 4 0) → (a || (b || false)) ≡ true
+some-code true b h = refl
+some-code false true h = refl
+some-code false false h = absurd (omega (arith, h))
+
+pub ram-code : (code : ℕ) → 0 < ramBanks code → oneOf (2 ∷ 3 ∷ []) code ≡ true
+unfolding ramBanks
+ram-code code h = some-code (eqb code 2) (eqb code 3) h
+
+no-code : (a b : Bool) → _≡_ {A = ℕ} (cond a 1 (cond b 4 0)) 0 → (a || (b || false)) ≡ false
+no-code true b h = absurd (omega (arith, h))
+no-code false true h = absurd (omega (arith, h))
+no-code false false h = refl
+
+pub no-ram-code : (code : ℕ) → ramBanks code ≡ 0 → oneOf (2 ∷ 3 ∷ []) code ≡ false
+unfolding ramBanks
+no-ram-code code h = no-code (eqb code 2) (eqb code 3) h
 
 -- what the RAM code can say
 pub by-ram-banks : (P : ℕ → Type 0) → P 0 → P 0x2000 → P 0x8000 → (code : ℕ) → P (ramBanks code * 0x2000)

@@ -8,18 +8,11 @@ use lib.Dec.{lit<}
 use Rattle.rules.proofs.Tests.{by-cond}
 use Rattle.mbc.specs.PanDocs.{ramAddress}
 use Rattle.mbc.specs.Behaviour.{ramWhere}
-use Rattle.mbc.specs.Mbc.{oneOf, powers, ramLen, described, inRange, behaviour, known, registersOf, mapperOf, ramSource, after}
+use Rattle.mbc.specs.Mbc.{oneOf, powers, ramLen, described, inRange, behaviour, known, registersOf, mapperOf, Within, ramSource, after}
 use Rattle.mbc.specs.declared.cartridge.Cartridge.{Cartridge}
 use Rattle.mbc.specs.declared.mbc.Mapper.{Mapper}
 use Rattle.mbc.specs.declared.mbc.Source.{Source}
 use Rattle.mbc.specs.declared.mbc.Source.the-variants.{Rom, Save, Half, Fixed}
-
--- an address lies in the memory that it is of: a ROM and a save of these lengths
-abbrev pub Within : ℕ → ℕ → Source → Type 0
-Within rom save (Rom at) = at < rom
-Within rom save (Save at) = at < save
-Within rom save (Half at) = at < save
-Within rom save (Fixed byte) = byte < 256
 
 -- a source that has its byte in itself has a byte
 abbrev pub Whole : Source → Type 0
@@ -28,10 +21,10 @@ Whole (Save at) = Unit {0}
 Whole (Half at) = Unit {0}
 Whole (Fixed byte) = byte < 256
 
--- what a description in range says: N is a power of two, of at most 7 bits as a bank's number; the code has two bits
+-- what a description in range says: N is a power of two, of at most 9 bits as a bank's number; the code has two bits
 pub record Described (c : Cartridge) : Type 0 where
   pub power : oneOf powers (c .banks) ≡ true
-  pub most : c .banks ≤ 128
+  pub most : c .banks ≤ 512
   pub code : c .code ≤ 3
 
 -- and the state ranges

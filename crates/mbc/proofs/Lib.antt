@@ -6,6 +6,7 @@ pub mod Cartridges
 pub mod Places
 pub mod Lawful
 pub mod Cases
+pub mod ByKind
 pub mod Ranges
 pub mod Sources
 pub mod RegisterLaws

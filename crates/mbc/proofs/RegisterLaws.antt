@@ -11,6 +11,9 @@ use Rattle.mbc.proofs.Cases.{lawful}
 pub mapper-of-registers : (m : Mapper) → mapperOf (registersOf m) ≡ m
 mapper-of-registers m = lawful m .back
 
+pub mapper-held : (m : Mapper) (r : Registers) → r ≡ registersOf m → mapperOf r ≡ m
+mapper-held m r e = ap mapperOf e ∙ mapper-of-registers m
+
 pub registers-sound : (m : Mapper) → sound (registersOf m) ≡ true
 unfolding sound
 registers-sound m = ap (λ (n : Mapper). same (registersOf m) (registersOf n)) (lawful m .back) ∙ same-self (registersOf m)

@@ -8,12 +8,12 @@ use lib.Dec.{ltb}
 use borrow.Author.Tests.{ltb-true, ltb-false, lt-ltb, le-ltb}
 use Rattle.rules.proofs.Tests.{by-cond}
 use Rattle.mbc.specs.PanDocs.{romAddress, romPlace}
-use Rattle.mbc.specs.Mbc.{romLen, ramLen, inRange, romBank, ramSource, source, byteOf, readAt, storedAt, answer}
+use Rattle.mbc.specs.Mbc.{romLen, ramLen, inRange, romBank, ramSource, source, Within, byteOf, readAt, storedAt, answer}
 use Rattle.mbc.specs.declared.cartridge.Cartridge.{Cartridge}
 use Rattle.mbc.specs.declared.mbc.Mapper.{Mapper}
 use Rattle.mbc.specs.declared.mbc.Source.{Source}
 use Rattle.mbc.specs.declared.mbc.Source.the-variants.{Rom, Save, Half, Fixed}
-use Rattle.mbc.proofs.Lawful.{Within, Whole}
+use Rattle.mbc.proofs.Lawful.{Whole}
 use Rattle.mbc.proofs.Cases.{lawful}
 use Rattle.mbc.proofs.Ranges.{some-banks, rom-below}
 

@@ -2,7 +2,7 @@
 -- one of `mapperOf` and the last kind in `known`; all else is common. Pan Docs' pieces are in specs/PanDocs.antt.
 use mathlib.Core.Bool.{Bool, cond, not, _&&_, _||_}
 use mathlib.Core.List.{List}
-use Prim.Native.Nat.{ℕ, _*_}
+use Prim.Native.Nat.{ℕ, _*_, _<_}
 use lib.Dec.{eqb, ltb, leb}
 use lib.ListN.{length, getD}
 use Rattle.numbers.specs.Numbers.{done, outOfRange, wrongLength, outside}
@@ -11,7 +11,7 @@ use Rattle.mbc.specs.Behaviour.{Behaviour}
 use Rattle.mbc.specs.declared.cartridge.Cartridge.{Cartridge}
 use Rattle.mbc.specs.declared.held.Registers.{Registers}
 use Rattle.mbc.specs.declared.mbc.Mapper.{Mapper}
-use Rattle.mbc.specs.declared.mbc.Mapper.the-variants.{RomOnly, Mbc1, Mbc2}
+use Rattle.mbc.specs.declared.mbc.Mapper.the-variants.{RomOnly, Mbc1, Mbc2, Mbc5}
 use Rattle.mbc.specs.declared.mbc.Source.{Source}
 use Rattle.mbc.specs.declared.mbc.Source.the-variants.{Rom, Save, Half, Fixed}
 use Rattle.mbc.specs.declared.mbc.Answer.{Answer}
@@ -29,9 +29,12 @@ pub use Rattle.mbc.specs.Mbc.Mbc1Rules.{kindMbc1, mbc1, from1, held1, ra
 unfoldable pub use Rattle.mbc.specs.Mbc.Mbc1Rules.{suits, ramBank1, enable1, low1, high1, mode1, after1}
 pub use Rattle.mbc.specs.Mbc.Mbc2Rules.{kindMbc2, mbc2, from2, ramSource2, numbers2}
 unfoldable pub use Rattle.mbc.specs.Mbc.Mbc2Rules.{enable2, select2, after2}
+pub use Rattle.mbc.specs.Mbc.Mbc5Rules.{kindMbc5, mbc5, from5, held5, numbers5, withRom5, withRam5, withEnabled5}
+unfoldable pub use Rattle.mbc.specs.Mbc.Mbc5Rules.{chosenRam, ramFits, enable5, low5, ninth5, ram5, after5}
 pub mod RomOnlyRules
 pub mod Mbc1Rules
 pub mod Mbc2Rules
+pub mod Mbc5Rules
 
 -- The cases
 
@@ -39,17 +42,19 @@ abbrev pub behaviour : Mapper → Behaviour
 behaviour RomOnly = romOnly
 behaviour (Mbc1 m) = mbc1 m
 behaviour (Mbc2 m) = mbc2 m
+behaviour (Mbc5 m) = mbc5 m
 
 -- kinds as in the state image
 abbrev pub mapperOf : Registers → Mapper
 mapperOf r =
     cond (eqb (r .kind) kindRomOnly) RomOnly
     (cond (eqb (r .kind) kindMbc1) (Mbc1 (from1 r))
-    (Mbc2 (from2 r)))
+    (cond (eqb (r .kind) kindMbc2) (Mbc2 (from2 r))
+    (Mbc5 (from5 r))))
 
 -- there is no kind past the last
 abbrev pub known : ℕ → Bool
-known kind = leb kind kindMbc2
+known kind = leb kind kindMbc5
 
 -- What is common: the fields as numbers
 
@@ -95,6 +100,13 @@ ramSource c m index = behaviour m .ramSource c index
 -- Memory Map: the first bank, the bank that is selected, cartridge RAM
 unfoldable pub source : Cartridge → Mapper → ℕ → Source
 source c m index = cond (ltb index 0x8000) (Rom (romPlace (romBank m) index)) (ramSource c m index)
+
+-- an address lies in the memory that it is of: a ROM and a save of these lengths
+abbrev pub Within : ℕ → ℕ → Source → Type 0
+Within rom save (Rom at) = at < rom
+Within rom save (Save at) = at < save
+Within rom save (Half at) = at < save
+Within rom save (Fixed byte) = byte < 256
 
 -- and then the byte
 abbrev pub byteOf : List ℕ → List ℕ → Source → ℕ

@@ -3,7 +3,7 @@ use mathlib.Core.Bool.{Bool, cond}
 use Prim.Native.Nat.{ℕ, _+_, _*_, _-_, _%_, _/_}
 use lib.Dec.{eqb, ltb}
 
--- MBC1, MBC2: the low four bits A enable the RAM, anything else disables it
+-- MBC1, MBC2, MBC5: the low four bits A enable the RAM, anything else disables it
 abbrev pub enables : ℕ → Bool
 enables value = eqb (value % 16) 0xA
 
@@ -34,6 +34,14 @@ bit8 index = eqb (index / 256 % 2) 1
 -- MBC2: RAM holds half bytes
 abbrev pub halfByte : ℕ → ℕ
 halfByte value = value % 16
+
+-- MBC5: eight bits of the ROM bank, and the ninth above them; bank 0 is bank 0
+abbrev pub mbc5Bank : ℕ → ℕ → ℕ
+mbc5Bank eight ninth = eight % 256 + ninth % 2 * 256
+
+-- MBC5: four bits of the RAM bank
+abbrev pub fourBits : ℕ → ℕ
+fourBits value = value % 16
 
 -- MBC1: bank bits beyond the cartridge's size are masked; the size is a power of two, so the remainder is left
 abbrev pub masked : ℕ → ℕ → ℕ

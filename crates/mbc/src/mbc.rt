@@ -15,7 +15,7 @@ ghost use Prim.Native.Nat.{ℕ, _<_, _≤_};
 ghost use lib.ListN.{length};
 ghost use Rattle.mbc.specs.PanDocs.{romAddress, romPlace, ramAddress};
 ghost use Rattle.mbc.specs.Behaviour.{ramWhere};
-ghost use Rattle.mbc.specs.Mbc.{romLen, ramLen, inRange, behaviour, mapperOf, registersOf, sound, mapped, start, ramSource, source, byteOf, readAt, storedAt, answer, after, written, fresh, lengths, readAs, readByte, writeByte};
+ghost use Rattle.mbc.specs.Mbc.{romLen, ramLen, inRange, mapperOf, registersOf, mapped, start, ramSource, source, Within, readAt, storedAt, answer, after, written, fresh, lengths, readAs, readByte, writeByte};
 ghost use Rattle.mbc.specs.declared.cartridge.Cartridge.{Cartridge};
 
 // Kinds are the state image's: each mapper's file has its own.

@@ -222,7 +222,7 @@ mbc1-lawful m =
     record {
       describes = λ c e.
           let b = and-left (hasBanks 128 c) (hasCode c) e in
-          record { power = banks-power 128 c b; most = banks-most 128 c b; code = code-most c (and-right (hasBanks 128 c) (hasCode c) e) };
+          record { power = banks-power 128 c b; most = omega (arith, banks-most 128 c b); code = code-most c (and-right (hasBanks 128 c) (hasCode c) e) };
       holds = λ c e. let f = mbc1-facts c m e in record { rom = f .rom; ram = f .ram; high = f .high };
       kind = refl;
       back = rw (bit-back (m .mode), bit-back (m .enabled));

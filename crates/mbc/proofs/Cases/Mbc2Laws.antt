@@ -9,14 +9,14 @@ use lib.Dec.{eqb, ltb, lit<}
 use borrow.Author.Tests.{ltb-true, eqb-true, lt-ltb, le-ltb}
 use Rattle.rules.proofs.Tests.{by-cond}
 use Rattle.mbc.specs.PanDocs.{enables, mbc2Bank, bit8, masked, ramAddress}
-use Rattle.mbc.specs.Mbc.{hasBanks, ramLen, described, held, inRange, ramSource, starting, from2, enable2, select2, after2}
+use Rattle.mbc.specs.Mbc.{hasBanks, ramLen, described, held, inRange, Within, ramSource, starting, from2, enable2, select2, after2}
 use Rattle.mbc.specs.declared.cartridge.Cartridge.{Cartridge}
 use Rattle.mbc.specs.declared.mbc2.Mbc2.{Mbc2 as Registers2}
 use Rattle.mbc.specs.declared.mbc.Mapper.the-variants.{Mbc2}
 use Rattle.mbc.specs.declared.mbc.Source.the-variants.{Half, Fixed}
 use Rattle.mbc.proofs.Bools.{and-left, and-right, and-implied}
 use Rattle.mbc.proofs.Cartridges.{banks-most, banks-least, banks-power}
-use Rattle.mbc.proofs.Lawful.{Lawful, Whole, Within}
+use Rattle.mbc.proofs.Lawful.{Lawful, Whole}
 use Rattle.mbc.proofs.Bits.{bit-back, bit-small}
 
 pub in-banks : (c : Cartridge) (m : Registers2) → inRange c (Mbc2 m) ≡ true → hasBanks 16 c ≡ true

@@ -1,49 +1,24 @@
--- By the mapper's case.
-use mathlib.Core.Path.{sym, _∙_}
+use Rattle.mbc.proofs.RegisterLaws.{mapper-held, registers-sound}
+use mathlib.Core.Path.{_∙_}
 use borrow.Author.Needs.{needs}
-use Rattle.mbc.specs.Mbc.{described}
-use Rattle.mbc.proofs.Cases.RomOnlyLaws.{rom-only-starts}
 use Rattle.mbc.proofs.mbc.Mapper.in_range.Statement.{statement}
 use Rattle.mbc.proofs.mbc.Mapper.in_range.Tie as tie
+use Rattle.mbc.proofs.mbc.Mapper.in_range.Reads as reads
+use Rattle.mbc.proofs.mbc.Mapper.in_range.Lts as lts
+use Rattle.mbc.proofs.held.Registers.fit.Reads as fit-reads
+use Rattle.mbc.proofs.mbc.Mapper.registers.Reads as registers-reads
 
-enum-told : tie.Need-enum-told
-enum-told c = search needs
+-- src/mbc.rt:222:13
+registers-requires : tie.Need-registers-requires
+registers-requires c κs = search needs
 
-in-range-requires : tie.Need-in-range-requires
-in-range-requires c κs = search needs
+-- src/mbc.rt:223:9
+fit-requires : tie.Need-fit-requires
+fit-requires c κs = search needs
 
-enum-known-self : tie.Need-enum-known-self
-enum-known-self c = search needs
-
-in-range-requires-2 : tie.Need-in-range-requires-2
-in-range-requires-2 c κs = search needs
-
-enum-known-self-2 : tie.Need-enum-known-self-2
-enum-known-self-2 c = search needs
-
-in-range-requires-3 : tie.Need-in-range-requires-3
-in-range-requires-3 c κs = search needs
-
+-- src/mbc.rt:219:5
 returns : tie.Need-returns
-unfolding described
-returns c = rw (c .before .enum-told .given .1) (c .in-range .ensures ∙ sym (rom-only-starts _))
-
-returns-2 : tie.Need-returns-2
-returns-2 c = rw (c .before .before .self .given .1) (c .in-range2 .ensures)
-
-returns-3 : tie.Need-returns-3
-returns-3 c = rw (c .before .before .self2 .given .1) (c .in-range3 .ensures)
+returns c = rw (c .fit .ensures, mapper-held (c .before .before .args .self) (c .before .registers .result) (c .before .registers .ensures), c .before .registers .ensures, registers-sound (c .before .before .args .self))
 
 pub in-range-spec : {M : Type 1} → statement M
-in-range-spec =
-    tie.close
-    (tie.spec
-    enum-told
-    in-range-requires
-    enum-known-self
-    in-range-requires-2
-    enum-known-self-2
-    in-range-requires-3
-    returns
-    returns-2
-    returns-3)
+in-range-spec = tie.close (tie.spec registers-requires fit-requires returns)

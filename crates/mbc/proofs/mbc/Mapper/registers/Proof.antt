@@ -21,6 +21,12 @@ enum-known-self-2 c = search needs
 registers-requires-2 : tie.Need-registers-requires-2
 registers-requires-2 c κs = search needs
 
+enum-known-self-3 : tie.Need-enum-known-self-3
+enum-known-self-3 c = search needs
+
+registers-requires-3 : tie.Need-registers-requires-3
+registers-requires-3 c κs = search needs
+
 returns : tie.Need-returns
 returns c = cc
 
@@ -29,6 +35,9 @@ returns-2 c = cc
 
 returns-3 : tie.Need-returns-3
 returns-3 c = cc
+
+returns-4 : tie.Need-returns-4
+returns-4 c = cc
 
 pub registers-spec : {M : Type 1} → statement M
 registers-spec =
@@ -40,6 +49,9 @@ registers-spec =
     registers-requires
     enum-known-self-2
     registers-requires-2
+    enum-known-self-3
+    registers-requires-3
     returns
     returns-2
-    returns-3)
+    returns-3
+    returns-4)

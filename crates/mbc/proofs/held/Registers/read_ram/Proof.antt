@@ -2,8 +2,8 @@
 use native.Mathlib.Omega.{arith}
 use Rattle.mbc.proofs.Sources.{ram-within}
 use borrow.Author.Needs.{needs}
-use Rattle.mbc.proofs.mbc.Mapper.read_ram.Statement.{statement}
-use Rattle.mbc.proofs.mbc.Mapper.read_ram.Tie as tie
+use Rattle.mbc.proofs.held.Registers.read_ram.Statement.{statement}
+use Rattle.mbc.proofs.held.Registers.read_ram.Tie as tie
 
 ram-source-requires : tie.Need-ram-source-requires
 ram-source-requires c κs = search needs
