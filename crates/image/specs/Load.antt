@@ -54,7 +54,7 @@ stateFrom bytes colors fs =
       core = coreFrom fs;
     }
 
--- What is refused beside the state ranges: registers that no mapper has (mapper 3 among them), a 1 behind the last field
+-- What is refused beside the state ranges: registers that no mapper has, a 1 behind the last field
 unfoldable pub sound : List ℕ → Bool
 sound fs = mbc.sound (registersIn fs) && eqb (at fs zerosField) 0
 

@@ -3,22 +3,24 @@
 use mathlib.Core.Bool.{Bool, true, _&&_}
 use mathlib.Core.List.{List, _++_}
 use mathlib.Core.Path.{_≡_}
-use Prim.Native.Nat.{ℕ, _+_, _*_}
+use Prim.Native.Nat.{ℕ, suc, _+_, _*_, _/_, _%_, _^_, _≤_}
 use lib.Dec.{eqb}
-use lib.ListN.{length}
-use Rattle.packing.specs.Packing.{repacked, eights, fives}
+use lib.ListN.{length, take, drop, getD}
+use Rattle.packing.specs.Packing.{bits, repacked, eights, fives}
 use Rattle.places.specs.Places.{fieldAt, putAt, fieldsFrom, putFields, FitAll}
 use Rattle.palette.specs.declared.Color.{Color}
 use Rattle.hdma.specs.declared.Hdma.{Hdma}
 use Rattle.mbc.specs.Mbc as mbc
 use Rattle.mbc.specs.Mbc.{registersOf}
+use Rattle.mbc.specs.declared.cartridge.Cartridge.{Cartridge}
+use Rattle.mbc.specs.declared.held.Registers.{Registers}
 use Rattle.mbc.specs.declared.mbc.Mapper.{Mapper}
 use Rattle.savelog.specs.Log.{logLimit, useInRange}
 use Rattle.memory.specs.declared.Banks.{Banks}
 use Rattle.memory.specs.declared.Clock.{Clock}
 use Rattle.memory.specs.declared.Memory.{Memory}
 use Rattle.memory.specs.Ranges.{banksInRange, hdmaInRange, vramLen, wramLen}
-use Rattle.image.specs.Layout.{imageLen, fieldWidths, usedField, zerosField, channels}
+use Rattle.image.specs.Layout.{imageLen, headWidths, tailWidths, fieldWidths, usedField, zerosField, channels}
 pub use Rattle.image.specs.Layout.{banksFields, linesFields, lcdFields, hdmaFields, joypadFields, clockFields, cartridgeFields, numbersFields, registersFields, usedFields, mappingFields, groupsFields, coreFields}
 use Rattle.image.specs.Load.{at, isOn, banksOf, hdmaOf, cartridgeOf, registersIn}
 
@@ -67,6 +69,39 @@ pub record Mapped (l : List ℕ) : Type 0 where
 
 abbrev pub restFits : List ℕ → Bool
 restFits fs = headFits fs && (eqb (at fs zerosField) 0 && useInRange (at fs usedField) logLimit)
+
+-- All that there is of a mapper, from its kind to the high bits, stands side by side: as one number, and each of its parts
+
+abbrev pub mappingWidths : List ℕ
+mappingWidths = take 8 tailWidths
+
+abbrev pub mappingBits : ℕ
+mappingBits = bits mappingWidths
+
+unfoldable pub mappingNumber : List ℕ → ℕ
+mappingNumber l = fieldAt l (front + bits headWidths) mappingBits
+
+abbrev pub part : ℕ → ℕ → ℕ
+part n k = n / 2 ^ bits (drop (suc k) mappingWidths) % 2 ^ getD mappingWidths k 0
+
+abbrev pub cartridgeBy : ℕ → Cartridge
+cartridgeBy n = record { banks = mbc.banksOf (part n 1); code = part n 2 }
+
+abbrev pub registersBy : ℕ → Registers
+registersBy n = record { kind = part n 0; rom = part n 3; ram = part n 4; mode = part n 5; enabled = part n 6; high = part n 7 }
+
+abbrev pub mapperBy : ℕ → Bool
+mapperBy n = mbc.sound (registersBy n) && mbc.inRange (cartridgeBy n) (mbc.mapperOf (registersBy n))
+
+-- what the tests of the commonest mappers say: such a mapper fits, has at most 128 banks, and a save of s bytes
+pub record Common (n s : ℕ) : Type 0 where
+  pub fits : mapperBy n ≡ true
+  pub log : part n 1 ≤ 7
+  pub save : s ≡ mbc.ramLen (cartridgeBy n) (mbc.mapperOf (registersBy n))
+
+-- no save is so long
+abbrev pub noSave : ℕ
+noSave = 1
 
 -- What the tests that are enough for a load say, with the lengths of what is lent beside the image
 

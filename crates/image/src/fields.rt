@@ -12,6 +12,7 @@ use memory::Clock;
 use memory::Core;
 ghost use mathlib.Core.Bool.{true};
 ghost use mathlib.Core.Path.{_≡_};
+ghost use Prim.Native.Nat.{_^_, _<_};
 ghost use lib.ListN.{length};
 ghost use mir.Syntax.{w32};
 ghost use mir.Val.{ofZ, toZ};
@@ -21,7 +22,7 @@ ghost use Rattle.mbc.specs.Mbc.{mapperOf, registersOf};
 ghost use Rattle.mbc.specs.declared.mbc.Mapper.{Mapper};
 ghost use Rattle.image.specs.Layout.{imageLen, fieldWidths, fieldValues, usedField};
 ghost use Rattle.image.specs.Load.{banksOf, lcdOf, hdmaOf, joypadOf, clockOf, cartridgeOf, registersIn, coreFrom, at};
-ghost use Rattle.image.specs.Patches.{fields, headFits, mapperFits, tailFits, restFits, Mapped, MapperFits, MachineFits, SameRange, RestFits, put, Fits, banksFields, linesFields, lcdFields, hdmaFields, joypadFields, clockFields, cartridgeFields, numbersFields, registersFields, Slim, usedPut, mappingPut, clockPut, groupsFields, coreFields};
+ghost use Rattle.image.specs.Patches.{fields, headFits, mapperFits, tailFits, restFits, Mapped, mappingBits, mappingNumber, mapperBy, Common, noSave, MapperFits, MachineFits, SameRange, RestFits, put, Fits, banksFields, linesFields, lcdFields, hdmaFields, joypadFields, clockFields, cartridgeFields, numbersFields, registersFields, Slim, usedPut, mappingPut, clockPut, groupsFields, coreFields};
 
 // No save is so long.
 const NO_SAVE: usize = 1;
@@ -111,7 +112,7 @@ pub fn clock_at(image: &[u8]) -> Clock
 // All that there is of a mapper, as one number: one load, of which the compiler takes what is asked for.
 fn mapping_at(image: &[u8]) -> u32
     requires { ⌜ length (now image) ≡ imageLen ⌝ }
-    ensures { λ r. ⌜ r ≡ mappingNumber (now (image .entry)) ⌝ }
+    ensures { λ r. ⌜ (r ≡ mappingNumber (now (image .entry))) × (r < 2 ^ mappingBits) ⌝ }
 {
     places::u32_at(image, layout::KIND_AT, layout::MAPPING)
 }
@@ -122,8 +123,8 @@ pub fn cartridge_at(image: &[u8]) -> Cartridge
 {
     let n = mapping_at(image);
     Cartridge {
-        banks: Cartridge::banks_of((n / layout::LOG_UNIT % (1 << layout::LOG)) as u8),
-        code: (n / layout::CODE_UNIT % (1 << layout::CODE)) as u8,
+        banks: Cartridge::banks_of((n / layout::LOG_UNIT % layout::LOG_SIZE) as u8),
+        code: (n / layout::CODE_UNIT % layout::CODE_SIZE) as u8,
     }
 }
 
@@ -134,11 +135,11 @@ pub fn registers_at(image: &[u8]) -> Registers
     let n = mapping_at(image);
     Registers {
         kind: (n / layout::KIND_UNIT) as u8,
-        rom: (n / layout::ROM_UNIT % (1 << layout::ROM)) as u16,
-        ram: (n / layout::RAM_UNIT % (1 << layout::RAM)) as u8,
+        rom: (n / layout::ROM_UNIT % layout::ROM_SIZE) as u16,
+        ram: (n / layout::RAM_UNIT % layout::RAM_SIZE) as u8,
         mode: (n / layout::BANKING_UNIT % 2) as u8,
         enabled: mbc::bit(n / layout::ENABLED_UNIT % 2 == 1),
-        high: (n % (1 << layout::HIGH)) as u8,
+        high: (n % layout::HIGH_SIZE) as u8,
     }
 }
 
@@ -198,9 +199,10 @@ pub fn head_fits(image: &[u8]) -> bool
 
 // The commonest mappers, Mbc1 and Mbc5 of at most 128 banks, in range: the length of the save beside it. A number that no save's length is where a test fails.
 fn common_save(n: u32) -> usize
+    requires { ⌜ n < 2 ^ mappingBits ⌝ }
     ensures { λ r. ⌜ ((r ≡ noSave → ⊥) → Common n r) ⌝ }
 {
-    if n / layout::LOG_UNIT % (1 << layout::LOG) > 7 {
+    if n / layout::LOG_UNIT % layout::LOG_SIZE > 7 {
         return NO_SAVE;
     }
     if n / layout::KIND_UNIT % 2 != 1 {
@@ -210,7 +212,7 @@ fn common_save(n: u32) -> usize
         if n / layout::BANKING_UNIT % 2 != 0 {
             return NO_SAVE;
         }
-        if n % (1 << layout::HIGH) != 0 {
+        if n % layout::HIGH_SIZE != 0 {
             return NO_SAVE;
         }
     }
@@ -218,8 +220,8 @@ fn common_save(n: u32) -> usize
     if log == 0 {
         return NO_SAVE;
     }
-    let rom = n / layout::ROM_UNIT % (1 << layout::ROM);
-    if 1 << log <= rom {
+    let rom = (n / layout::ROM_UNIT % layout::ROM_SIZE) as u16;
+    if Cartridge::banks_of(log as u8) <= rom {
         return NO_SAVE;
     }
     if n / layout::CODE_UNIT / 2 % 2 == 0 {
@@ -242,7 +244,8 @@ fn common_save(n: u32) -> usize
 
 // RomOnly and Mbc2, in range.
 fn small_fits(n: u32) -> bool
-    ensures { λ r. ⌜ (r ≡ true → MapperIn n) ⌝ }
+    requires { ⌜ n < 2 ^ mappingBits ⌝ }
+    ensures { λ r. ⌜ (r ≡ true → mapperBy n ≡ true) ⌝ }
 {
     if n / layout::KIND_UNIT == 0 {
         if n / layout::LOG_UNIT != 1 {
@@ -251,28 +254,29 @@ fn small_fits(n: u32) -> bool
         if n % layout::CODE_UNIT != layout::ROM_UNIT {
             return false;
         }
-        return n / layout::CODE_UNIT % (1 << layout::CODE) != 1;
+        return n / layout::CODE_UNIT % layout::CODE_SIZE != 1;
     }
     if n / layout::KIND_UNIT != 2 {
         return false;
     }
-    if n / layout::CODE_UNIT % (1 << layout::CODE) != 0 {
+    if n / layout::CODE_UNIT % layout::CODE_SIZE != 0 {
         return false;
     }
     if n / layout::BANKING_UNIT % 8 != 0 {
         return false;
     }
-    if n % (1 << layout::HIGH) != 0 {
+    if n % layout::HIGH_SIZE != 0 {
         return false;
     }
-    if n / layout::LOG_UNIT % (1 << layout::LOG) > 4 {
+    if n / layout::LOG_UNIT % layout::LOG_SIZE > 4 {
         return false;
     }
     let log = n / layout::LOG_UNIT % 8;
     if log == 0 {
         return false;
     }
-    n / layout::ROM_UNIT % (1 << layout::ROM) < 1 << log
+    let rom = (n / layout::ROM_UNIT % layout::ROM_SIZE) as u16;
+    rom < Cartridge::banks_of(log as u8)
 }
 
 // Whether a mapper has the registers, and is in range.

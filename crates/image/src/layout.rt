@@ -113,3 +113,15 @@ pub const RAM_UNIT: u32 = 1 << (USED_AT - BANKING_AT);
 pub const BANKING_UNIT: u32 = 1 << (USED_AT - ENABLED_AT);
 
 pub const ENABLED_UNIT: u32 = 1 << (USED_AT - HIGH_AT);
+
+// And how many values each has.
+
+pub const LOG_SIZE: u32 = 1 << LOG;
+
+pub const CODE_SIZE: u32 = 1 << CODE;
+
+pub const ROM_SIZE: u32 = 1 << ROM;
+
+pub const RAM_SIZE: u32 = 1 << RAM;
+
+pub const HIGH_SIZE: u32 = 1 << HIGH;

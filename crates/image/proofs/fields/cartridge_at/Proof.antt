@@ -1,19 +1,31 @@
--- Each field is at its place.
 use borrow.Author.Needs.{needs}
 use Rattle.image.proofs.fields.cartridge_at.Statement.{statement}
 use Rattle.image.proofs.fields.cartridge_at.Tie as tie
+use Rattle.image.proofs.fields.cartridge_at.Reads as reads
+use Rattle.image.proofs.fields.cartridge_at.Lts as lts
+use Rattle.image.proofs.fields.mapping_at.Reads as mapping-at-reads
+use Rattle.mbc.proofs.cartridge.Cartridge.banks_of.Reads as banks-of-reads
 
-u8-at-requires : tie.Need-u8-at-requires
-u8-at-requires c κs = search needs
+-- src/fields.rt:124:9
+mapping-at-requires : tie.Need-mapping-at-requires
+mapping-at-requires c κs = search needs
 
+-- src/fields.rt:126:36
+cast-banks-of : tie.Need-cast-banks-of
+cast-banks-of c = search needs
+
+-- src/fields.rt:126:16
 banks-of-requires : tie.Need-banks-of-requires
 banks-of-requires c κs = search needs
 
-u8-at-requires-2 : tie.Need-u8-at-requires-2
-u8-at-requires-2 c κs = search needs
+-- src/fields.rt:127:15
+cast-t9 : tie.Need-cast-t9
+cast-t9 c = search needs
 
+-- src/fields.rt:120:1
 returns : tie.Need-returns
-returns c = rw (c .before .banks-of .ensures, c .before .before .u8-at .ensures .0, c .u8-at2 .ensures .0)
+returns c = ?
 
 pub cartridge-at-spec : {M : Type 1} → statement M
-cartridge-at-spec = tie.close (tie.spec u8-at-requires banks-of-requires u8-at-requires-2 returns)
+cartridge-at-spec =
+    tie.close (tie.spec mapping-at-requires cast-banks-of banks-of-requires cast-t9 returns)

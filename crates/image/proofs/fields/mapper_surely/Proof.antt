@@ -1,44 +1,27 @@
--- The length, and Mbc1's own tests.
-use mathlib.Core.Path.{sym, _∙_}
-use Rattle.rules.proofs.Tests.{granted, untrue}
-use Rattle.image.proofs.MappedLaws.{first-mapped}
 use borrow.Author.Needs.{needs}
 use Rattle.image.proofs.fields.mapper_surely.Statement.{statement}
 use Rattle.image.proofs.fields.mapper_surely.Tie as tie
+use Rattle.image.proofs.fields.mapper_surely.Reads as reads
+use Rattle.image.proofs.fields.mapper_surely.Lts as lts
+use Rattle.image.proofs.fields.common_save.Reads as common-save-reads
+use Rattle.image.proofs.fields.mapping_at.Reads as mapping-at-reads
 
+-- src/fields.rt:363:9
 returns : tie.Need-returns
-returns c = λ z. untrue z
+returns c = ?
 
-registers-at-requires : tie.Need-registers-at-requires
-registers-at-requires c κs = search needs
+-- src/fields.rt:365:17
+mapping-at-requires : tie.Need-mapping-at-requires
+mapping-at-requires c κs = search needs
 
-has-requires : tie.Need-has-requires
-has-requires c κs = search needs
+-- src/fields.rt:365:5
+common-save-requires : tie.Need-common-save-requires
+common-save-requires c κs = search needs
 
+-- src/fields.rt:359:1
 returns-2 : tie.Need-returns-2
-returns-2 c = λ z. untrue z
-
-cartridge-at-requires : tie.Need-cartridge-at-requires
-cartridge-at-requires c κs = search needs
-
-from-registers-requires : tie.Need-from-registers-requires
-from-registers-requires c κs = search needs
-
-in-range-requires : tie.Need-in-range-requires
-in-range-requires c κs = search needs
-
-returns-3 : tie.Need-returns-3
-returns-3 c = λ z. first-mapped _ (c .before .before .before .before .before .registers-at .ensures) (c .before .from-registers .ensures) (granted (c .before .before .before .before .has .ensures) (c .before .before .before .if2 .left)) (c .before .before .before .before .before .before .if1 .left) (c .before .before .cartridge-at .ensures) (sym (c .in-range .ensures) ∙ z)
+returns-2 c = ?
 
 pub mapper-surely-spec : {M : Type 1} → statement M
 mapper-surely-spec =
-    tie.close
-    (tie.spec
-    returns
-    registers-at-requires
-    has-requires
-    returns-2
-    cartridge-at-requires
-    from-registers-requires
-    in-range-requires
-    returns-3)
+    tie.close (tie.spec returns mapping-at-requires common-save-requires returns-2)

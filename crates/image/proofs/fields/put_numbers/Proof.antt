@@ -46,11 +46,11 @@ cast-n-5 c = search needs
 add-n-4 : tie.Need-add-n-4
 add-n-4 c = search needs
 
-cast-put-narrow : tie.Need-cast-put-narrow
-cast-put-narrow c = search needs
+cast-put-u16 : tie.Need-cast-put-u16
+cast-put-u16 c = search needs
 
-put-narrow-requires : tie.Need-put-narrow-requires
-put-narrow-requires c κs = search needs
+put-u16-requires : tie.Need-put-u16-requires
+put-u16-requires c κs = search needs
 
 same-length : tie.Need-same-length
 same-length c = search needs
@@ -58,7 +58,7 @@ same-length c = search needs
 returns : tie.Need-returns
 returns c =
     let s = c .before .before .before .before .before .before .before .before .before .before in
-    c .before .before .put-narrow .ensures
+    c .before .before .put-u16 .ensures
     ∙ numbers-put (now (s .args .image)) (λ i. c .before .before .before .before .before .before .before .before .before .slice-known .given i .fits) (s .pre .0) (s .args .r) (s .pre .1) _ (omega arith)
 
 pub put-numbers-spec : {M : Type 1} → statement M
@@ -78,7 +78,7 @@ put-numbers-spec =
     add-n-3
     cast-n-5
     add-n-4
-    cast-put-narrow
-    put-narrow-requires
+    cast-put-u16
+    put-u16-requires
     same-length
     returns)

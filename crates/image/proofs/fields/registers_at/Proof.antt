@@ -1,37 +1,44 @@
--- Each field is at its place.
 use borrow.Author.Needs.{needs}
 use Rattle.image.proofs.fields.registers_at.Statement.{statement}
 use Rattle.image.proofs.fields.registers_at.Tie as tie
+use Rattle.image.proofs.fields.registers_at.Reads as reads
+use Rattle.image.proofs.fields.registers_at.Lts as lts
+use Rattle.image.proofs.fields.mapping_at.Reads as mapping-at-reads
+use Rattle.mbc.proofs.bit.Reads as bit-reads
 
-u8-at-requires : tie.Need-u8-at-requires
-u8-at-requires c κs = search needs
+-- src/fields.rt:135:9
+mapping-at-requires : tie.Need-mapping-at-requires
+mapping-at-requires c κs = search needs
 
-u16-at-requires : tie.Need-u16-at-requires
-u16-at-requires c κs = search needs
+-- src/fields.rt:137:15
+cast-t4 : tie.Need-cast-t4
+cast-t4 c = search needs
 
-u8-at-requires-2 : tie.Need-u8-at-requires-2
-u8-at-requires-2 c κs = search needs
+-- src/fields.rt:138:14
+cast-t7 : tie.Need-cast-t7
+cast-t7 c = search needs
 
-u8-at-requires-3 : tie.Need-u8-at-requires-3
-u8-at-requires-3 c κs = search needs
+-- src/fields.rt:139:14
+cast-t10 : tie.Need-cast-t10
+cast-t10 c = search needs
 
-u8-at-requires-4 : tie.Need-u8-at-requires-4
-u8-at-requires-4 c κs = search needs
+-- src/fields.rt:140:15
+cast-t13 : tie.Need-cast-t13
+cast-t13 c = search needs
 
-u8-at-requires-5 : tie.Need-u8-at-requires-5
-u8-at-requires-5 c κs = search needs
+-- src/fields.rt:141:18
+bit-requires : tie.Need-bit-requires
+bit-requires c κs = search needs
 
+-- src/fields.rt:142:15
+cast-t19 : tie.Need-cast-t19
+cast-t19 c = search needs
+
+-- src/fields.rt:131:1
 returns : tie.Need-returns
-returns c = rw (c .before .before .before .before .before .u8-at .ensures .0, c .before .before .before .before .u16-at .ensures .0, c .before .before .before .u8-at2 .ensures .0, c .before .before .u8-at3 .ensures .0, c .before .u8-at4 .ensures .0, c .u8-at5 .ensures .0)
+returns c = ?
 
 pub registers-at-spec : {M : Type 1} → statement M
 registers-at-spec =
     tie.close
-    (tie.spec
-    u8-at-requires
-    u16-at-requires
-    u8-at-requires-2
-    u8-at-requires-3
-    u8-at-requires-4
-    u8-at-requires-5
-    returns)
+    (tie.spec mapping-at-requires cast-t4 cast-t7 cast-t10 cast-t13 bit-requires cast-t19 returns)
