@@ -3,7 +3,7 @@ use mathlib.Core.Path.{_≡_, refl, sym, _∙_}
 use mathlib.Core.Bool.{Bool, true, false, _&&_, _||_, or-true}
 use mathlib.Core.List.{List, [], _∷_}
 use mathlib.Core.Logic.{_⊎_, inl, inr, ⊎-elim}
-use Prim.Native.Nat.{ℕ, _≤_}
+use Prim.Native.Nat.{ℕ, zero, suc, _<_, _≤_}
 use native.Mathlib.Omega.{arith}
 use lib.Dec.{eqb}
 use borrow.Author.Tests.{eq-eqb, ne-eqb, eqb-true, not-true}
@@ -55,3 +55,13 @@ pub weaker : (a b d : Bool) → implies (a || b) d ≡ true → implies b d ≡ 
 weaker a b true e = refl
 weaker true b false e = let z : true ≡ true = refl in cc
 weaker false b false e = e
+
+-- what is computed of all the numbers below n holds of each
+abbrev pub every : ℕ → (ℕ → Bool) → Bool
+every zero p = true
+every (suc n) p = p zero && every n (λ k. p (suc k))
+
+pub every-at : (n : ℕ) (p : ℕ → Bool) → every n p ≡ true → (k : ℕ) → k < n → p k ≡ true
+every-at zero p e k h = absurd (omega arith)
+every-at (suc n) p e zero h = and-left (p zero) (every n (λ k. p (suc k))) e
+every-at (suc n) p e (suc k) h = every-at n (λ k. p (suc k)) (and-right (p zero) (every n (λ k. p (suc k))) e) k (omega arith)

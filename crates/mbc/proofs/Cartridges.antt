@@ -1,16 +1,16 @@
 -- What a cartridge's description says, taken out of the tests; N and its logarithm, both ways.
 use mathlib.Core.Path.{_≡_, refl, sym, _∙_}
-use mathlib.Core.Bool.{Bool, true, false, cond, _||_, or-false}
+use mathlib.Core.Bool.{Bool, true, false, cond, _&&_, _||_, or-false}
 use mathlib.Core.List.{List, [], _∷_}
 use mathlib.Core.Logic.{⊎-elim}
-use Prim.Native.Nat.{ℕ, zero, suc, _<_, _≤_, _*_}
+use Prim.Native.Nat.{ℕ, zero, suc, _<_, _≤_, _*_, _^_}
 use native.Mathlib.Omega.{arith}
 use lib.Dec.{eqb, leb, lit≤}
-use borrow.Author.Tests.{leb-true, eqb-true}
-use Rattle.rules.proofs.Tests.{or-cases, by-cond}
-use Rattle.mbc.specs.Cartridge.{oneOf, powers, hasBanks, hasCode, ramBanks, log2, banksOf}
+use borrow.Author.Tests.{leb-true, le-leb, eqb-true}
+use Rattle.rules.proofs.Tests.{or-cases, by-cond, both-true}
+use Rattle.mbc.specs.Cartridge.{oneOf, powers, cartridgeOf, hasBanks, hasCode, ramBanks, log2, banksOf}
 use Rattle.mbc.specs.declared.cartridge.Cartridge.{Cartridge}
-use Rattle.mbc.proofs.Bools.{and-left, and-right, from}
+use Rattle.mbc.proofs.Bools.{and-left, and-right, from, every-at}
 
 pub banks-most : (most : ℕ) (c : Cartridge) → hasBanks most c ≡ true → c .banks ≤ most
 unfolding hasBanks
@@ -95,14 +95,22 @@ banks-of-log n e = one-back powers n (refl, (refl, (refl, (refl, (refl, (refl, (
 
 pub log-of-banks : (log : ℕ) → log ≤ 9 → log2 (banksOf log) ≡ log
 unfolding log2 banksOf
-log-of-banks zero h = refl
-log-of-banks (suc zero) h = refl
-log-of-banks (suc (suc zero)) h = refl
-log-of-banks (suc (suc (suc zero))) h = refl
-log-of-banks (suc (suc (suc (suc zero)))) h = refl
-log-of-banks (suc (suc (suc (suc (suc zero))))) h = refl
-log-of-banks (suc (suc (suc (suc (suc (suc zero)))))) h = refl
-log-of-banks (suc (suc (suc (suc (suc (suc (suc zero))))))) h = refl
-log-of-banks (suc (suc (suc (suc (suc (suc (suc (suc zero)))))))) h = refl
-log-of-banks (suc (suc (suc (suc (suc (suc (suc (suc (suc zero))))))))) h = refl
-log-of-banks (suc (suc (suc (suc (suc (suc (suc (suc (suc (suc n)))))))))) h = absurd (omega arith)
+log-of-banks log h = eqb-true _ _ (every-at 10 (λ (l : ℕ). eqb (log2 (banksOf l)) l) refl log (omega arith))
+
+pub banks-power-of : (log : ℕ) → log ≤ 9 → banksOf log ≡ 2 ^ log
+unfolding banksOf
+banks-power-of log h = rw (le-leb log 9 h)
+
+-- N of a logarithm that is not 0 is one, for Mbc1 and Mbc5 of three bits, for Mbc2 to 4
+pub has-banks-7 : (log code : ℕ) → 1 ≤ log → log ≤ 7
+    → (hasBanks 128 (cartridgeOf (banksOf log) code) ≡ true) × (hasBanks 512 (cartridgeOf (banksOf log) code) ≡ true)
+unfolding hasBanks banksOf
+has-banks-7 zero code l h = absurd (omega arith)
+has-banks-7 (suc k) code l h =
+    both-true _ _
+    (every-at 7 (λ (n : ℕ). hasBanks 128 (cartridgeOf (banksOf (suc n)) code) && hasBanks 512 (cartridgeOf (banksOf (suc n)) code)) refl k (omega arith))
+
+pub has-banks-4 : (log code : ℕ) → 1 ≤ log → log ≤ 4 → hasBanks 16 (cartridgeOf (banksOf log) code) ≡ true
+unfolding hasBanks banksOf
+has-banks-4 zero code l h = absurd (omega arith)
+has-banks-4 (suc k) code l h = every-at 4 (λ (n : ℕ). hasBanks 16 (cartridgeOf (banksOf (suc n)) code)) refl k (omega arith)

@@ -7,6 +7,7 @@ pub mod Places
 pub mod Lawful
 pub mod Cases
 pub mod ByKind
+pub mod Enough
 pub mod Ranges
 pub mod Sources
 pub mod RegisterLaws

@@ -8,17 +8,21 @@ use Rattle.mbc.specs.Registers.{same}
 use Rattle.mbc.specs.declared.held.Registers.{Registers}
 use Rattle.rules.proofs.Tests.{both-true}
 
-pub same-self : (r : Registers) → same r r ≡ true
+pub same-fields : (r s : Registers) → r .kind ≡ s .kind → r .rom ≡ s .rom → r .ram ≡ s .ram → r .mode ≡ s .mode → r .enabled ≡ s .enabled
+    → r .high ≡ s .high → same r s ≡ true
 unfolding same
-same-self r =
+same-fields r s p q t u v w =
     rw (
-      eq-eqb (r .kind) (r .kind) refl,
-      eq-eqb (r .rom) (r .rom) refl,
-      eq-eqb (r .ram) (r .ram) refl,
-      eq-eqb (r .mode) (r .mode) refl,
-      eq-eqb (r .enabled) (r .enabled) refl,
-      eq-eqb (r .high) (r .high) refl,
+      eq-eqb (r .kind) (s .kind) p,
+      eq-eqb (r .rom) (s .rom) q,
+      eq-eqb (r .ram) (s .ram) t,
+      eq-eqb (r .mode) (s .mode) u,
+      eq-eqb (r .enabled) (s .enabled) v,
+      eq-eqb (r .high) (s .high) w,
     )
+
+pub same-self : (r : Registers) → same r r ≡ true
+same-self r = same-fields r r refl refl refl refl refl refl
 
 numbers : (k r a o e h : ℕ) → Registers
 numbers k r a o e h = record { kind = k; rom = r; ram = a; mode = o; enabled = e; high = h }

@@ -69,7 +69,7 @@ ram-below c m e on =
     (λ h. some-ram (c .code) (enabled-needs m (c .code) (f .suit) on))
 
 -- the facts make the range again
-in-range1 : (c : Cartridge) (m : Registers1) → Mbc1Facts c m → inRange c (Mbc1 m) ≡ true
+pub in-range1 : (c : Cartridge) (m : Registers1) → Mbc1Facts c m → inRange c (Mbc1 m) ≡ true
 unfolding inRange described held
 in-range1 c m f =
     rw (f .banks, f .code, lt-ltb (m .rom) (c .banks) (f .rom), le-leb (m .ram) 3 (f .ram), le-leb (m .high) 3 (f .high))
@@ -85,7 +85,7 @@ unfolding suits
 ramful m code e =
     and-right (implies (m .mode || ltb 0 (m .ram)) (eqb code 3)) (implies (m .enabled) (oneOf (2 ∷ 3 ∷ []) code)) e
 
-suit : (m : Registers1) (code : ℕ) → implies (m .mode || ltb 0 (m .ram)) (eqb code 3) ≡ true
+pub suit : (m : Registers1) (code : ℕ) → implies (m .mode || ltb 0 (m .ram)) (eqb code 3) ≡ true
     → implies (m .enabled) (oneOf (2 ∷ 3 ∷ []) code) ≡ true → suits m code ≡ true
 unfolding suits
 suit m code a b = rw a b
