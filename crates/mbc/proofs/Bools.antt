@@ -1,13 +1,13 @@
 -- Laws of the tests that the ranges are made of: `&&`, `oneOf`, `implies`. They go both ways between a test and what it says.
-use mathlib.Core.Path.{_≡_, refl, sym, _∙_}
+use mathlib.Core.Path.{_≡_, refl, sym, subst, _∙_}
 use mathlib.Core.Bool.{Bool, true, false, _&&_, _||_, or-true}
 use mathlib.Core.List.{List, [], _∷_}
 use mathlib.Core.Logic.{_⊎_, inl, inr, ⊎-elim}
-use Prim.Native.Nat.{ℕ, zero, suc, _<_, _≤_}
+use Prim.Native.Nat.{ℕ, zero, suc, _<_}
 use native.Mathlib.Omega.{arith}
 use lib.Dec.{eqb}
 use borrow.Author.Tests.{eq-eqb, ne-eqb, eqb-true, not-true}
-use Rattle.rules.proofs.Tests.{or-cases}
+use Rattle.rules.proofs.Tests.{or-cases, untrue}
 use Rattle.mbc.specs.Mbc.{oneOf, implies}
 
 pub and-left : (a b : Bool) → (a && b) ≡ true → a ≡ true
@@ -36,15 +36,15 @@ pub implied : (a b : Bool) → implies a b ≡ true → a ≡ true → b ≡ tru
 implied a true e h = refl
 implied a false e h = sym (not-true a e) ∙ h
 
--- a number among some that are all at least k is at least k
-abbrev pub AllFrom : ℕ → List ℕ → Type 0
-AllFrom k [] = Unit {0}
-AllFrom k (x ∷ xs) = (k ≤ x) × AllFrom k xs
+-- what holds of each of some numbers holds of one of them
+abbrev pub All : (ℕ → Type 0) → List ℕ → Type 0
+All P [] = Unit {0}
+All P (x ∷ xs) = P x × All P xs
 
-pub from : (k : ℕ) (xs : List ℕ) (n : ℕ) → AllFrom k xs → oneOf xs n ≡ true → k ≤ n
-from k [] n all e = let z : _≡_ {A = ℕ} 0 1 = cc in omega arith
-from k (x ∷ xs) n all e =
-    ⊎-elim (λ h. omega (arith, eqb-true n x h, all .0)) (λ h. from k xs n (all .1) h) (or-cases (eqb n x) (oneOf xs n) e)
+pub of-one : (P : ℕ → Type 0) (xs : List ℕ) → All P xs → (n : ℕ) → oneOf xs n ≡ true → P n
+of-one P [] all n e = untrue e
+of-one P (x ∷ xs) all n e =
+    ⊎-elim (λ h. subst P (sym (eqb-true n x h)) (all .0)) (λ h. of-one P xs (all .1) n h) (or-cases (eqb n x) (oneOf xs n) e)
 
 pub and-implied : (a b : Bool) → (a ≡ true → b ≡ true) → (a && b) ≡ a
 and-implied true b h = h refl

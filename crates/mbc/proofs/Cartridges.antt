@@ -1,7 +1,7 @@
 -- What a cartridge's description says, taken out of the tests; N and its logarithm, both ways.
 use mathlib.Core.Path.{_≡_, refl, sym, _∙_}
 use mathlib.Core.Bool.{Bool, true, false, cond, _&&_, _||_, or-false}
-use mathlib.Core.List.{List, [], _∷_}
+use mathlib.Core.List.{[], _∷_}
 use mathlib.Core.Logic.{⊎-elim}
 use Prim.Native.Nat.{ℕ, zero, suc, _<_, _≤_, _*_, _^_}
 use native.Mathlib.Omega.{arith}
@@ -10,7 +10,7 @@ use borrow.Author.Tests.{leb-true, le-leb, eqb-true}
 use Rattle.rules.proofs.Tests.{or-cases, by-cond, both-true}
 use Rattle.mbc.specs.Cartridge.{oneOf, powers, cartridgeOf, hasBanks, hasCode, ramBanks, log2, banksOf}
 use Rattle.mbc.specs.declared.cartridge.Cartridge.{Cartridge}
-use Rattle.mbc.proofs.Bools.{and-left, and-right, from, every-at}
+use Rattle.mbc.proofs.Bools.{and-left, and-right, of-one, every-at}
 
 pub banks-most : (most : ℕ) (c : Cartridge) → hasBanks most c ≡ true → c .banks ≤ most
 unfolding hasBanks
@@ -20,9 +20,13 @@ pub banks-power : (most : ℕ) (c : Cartridge) → hasBanks most c ≡ true → 
 unfolding hasBanks
 banks-power most c e = and-right (leb (c .banks) most) (oneOf powers (c .banks)) e
 
+-- what N may be, by cases
+pub by-power : (P : ℕ → Type 0) → P 2 → P 4 → P 8 → P 16 → P 32 → P 64 → P 128 → P 256 → P 512 → (n : ℕ) → oneOf powers n ≡ true → P n
+by-power P a b c d e f g h i = of-one P powers (a, (b, (c, (d, (e, (f, (g, (h, (i, tt)))))))))
+
 pub power-least : (n : ℕ) → oneOf powers n ≡ true → 2 ≤ n
-power-least n e =
-    from 2 powers n (lit≤ tt, (lit≤ tt, (lit≤ tt, (lit≤ tt, (lit≤ tt, (lit≤ tt, (lit≤ tt, (lit≤ tt, (lit≤ tt, tt))))))))) e
+power-least =
+    by-power (λ (n : ℕ). 2 ≤ n) (lit≤ tt) (lit≤ tt) (lit≤ tt) (lit≤ tt) (lit≤ tt) (lit≤ tt) (lit≤ tt) (lit≤ tt) (lit≤ tt)
 
 pub banks-least : (most : ℕ) (c : Cartridge) → hasBanks most c ≡ true → 2 ≤ c .banks
 banks-least most c e = power-least (c .banks) (banks-power most c e)
@@ -80,18 +84,9 @@ by-ram-banks P none one four code =
 
 -- N and its logarithm
 
-abbrev AllBack : List ℕ → Type 0
-AllBack [] = Unit {0}
-AllBack (x ∷ xs) = (banksOf (log2 x) ≡ x) × AllBack xs
-
-one-back : (xs : List ℕ) (n : ℕ) → AllBack xs → oneOf xs n ≡ true → banksOf (log2 n) ≡ n
-one-back [] n all e = let z : _≡_ {A = ℕ} 0 1 = cc in absurd (omega arith)
-one-back (x ∷ xs) n all e =
-    ⊎-elim (λ h. rw (eqb-true n x h) (all .0)) (λ h. one-back xs n (all .1) h) (or-cases (eqb n x) (oneOf xs n) e)
-
 pub banks-of-log : (n : ℕ) → oneOf powers n ≡ true → banksOf (log2 n) ≡ n
 unfolding log2 banksOf
-banks-of-log n e = one-back powers n (refl, (refl, (refl, (refl, (refl, (refl, (refl, (refl, (refl, tt))))))))) e
+banks-of-log = by-power (λ (n : ℕ). banksOf (log2 n) ≡ n) refl refl refl refl refl refl refl refl refl
 
 pub log-of-banks : (log : ℕ) → log ≤ 9 → log2 (banksOf log) ≡ log
 unfolding log2 banksOf

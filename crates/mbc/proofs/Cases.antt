@@ -17,6 +17,7 @@ pub mod RomOnlyLaws
 pub mod Mbc1Laws
 pub mod Mbc2Laws
 pub mod Mbc5Laws
+pub mod Mbc5Exact
 
 pub lawful : (m : Mapper) → Lawful m
 lawful RomOnly = rom-only-lawful

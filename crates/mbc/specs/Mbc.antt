@@ -1,7 +1,8 @@
 -- The mappers as document 01 has them (sections are named in quotes). A further mapper is a file like specs/Mbc/RomOnlyRules.antt, one case of `behaviour`,
 -- one of `mapperOf` and the last kind in `known`; all else is common. Pan Docs' pieces are in specs/PanDocs.antt.
-use mathlib.Core.Bool.{Bool, cond, not, _&&_, _||_}
-use mathlib.Core.List.{List}
+use mathlib.Core.Path.{_≡_}
+use mathlib.Core.Bool.{Bool, true, cond, not, _&&_, _||_}
+use mathlib.Core.List.{List, [], _∷_}
 use Prim.Native.Nat.{ℕ, _*_, _<_}
 use lib.Dec.{eqb, ltb, leb}
 use lib.ListN.{length, getD}
@@ -31,10 +32,13 @@ pub use Rattle.mbc.specs.Mbc.Mbc2Rules.{kindMbc2, mbc2, from2, ramSource
 unfoldable pub use Rattle.mbc.specs.Mbc.Mbc2Rules.{enable2, select2, after2}
 pub use Rattle.mbc.specs.Mbc.Mbc5Rules.{kindMbc5, mbc5, from5, held5, numbers5, withRom5, withRam5, withEnabled5}
 unfoldable pub use Rattle.mbc.specs.Mbc.Mbc5Rules.{chosenRam, ramFits, enable5, low5, ninth5, ram5, after5}
+pub use Rattle.mbc.specs.Mbc.Mbc5Apart.{Apart, apartOf, apartStart, shown, apartAll}
+unfoldable pub use Rattle.mbc.specs.Mbc.Mbc5Apart.{apartAfter}
 pub mod RomOnlyRules
 pub mod Mbc1Rules
 pub mod Mbc2Rules
 pub mod Mbc5Rules
+pub mod Mbc5Apart
 
 -- The cases
 
@@ -134,6 +138,18 @@ after c m index value = behaviour m .after c index value
 
 abbrev pub written : Cartridge → Mapper → ℕ → ℕ → Written
 written c m index value = record { mapper = after c m index value; answer = answer c m index value }
+
+-- and after some writes, each an index and a value
+abbrev pub afterAll : Cartridge → Mapper → List (ℕ × ℕ) → Mapper
+afterAll c m [] = m
+afterAll c m (w ∷ ws) = afterAll c (after c m (w .0) (w .1)) ws
+
+-- MBC5's ROM bank is one field here, masked at each write, and two registers with Pan Docs: whatever is written, they show the same bank
+abbrev pub OneField : Type 0
+OneField =
+    (c : Cartridge) (ws : List (ℕ × ℕ))
+    → described c (start kindMbc5) ≡ true
+    → romBank (afterAll c (start kindMbc5) ws) ≡ shown (c .banks) (apartAll apartStart ws)
 
 -- The public calls ("Numbers a call gives back": order 3, 4, 7)
 

@@ -28,7 +28,7 @@ ramFits banks bank = cond (eqb banks 0) (eqb bank 0) (ltb bank banks)
 abbrev pub held5 : Cartridge → Registers5 → Bool
 held5 c m = ltb (m .rom) (c .banks) && (ramFits (ramBanks (c .code)) (m .ram) && implies (m .enabled) (oneOf (2 ∷ 3 ∷ []) (c .code)))
 
--- Writes. Pan Docs' two registers of the ROM bank are one field here, masked at each write: proofs/Cases/Mbc5Laws.antt, `one-field`.
+-- Writes. Pan Docs' two registers of the ROM bank are one field here, masked at each write: specs/Mbc.antt, `OneField`.
 
 abbrev pub withRom5 : Registers5 → ℕ → Registers5
 withRom5 m b = record { rom = b; ram = m .ram; enabled = m .enabled }
