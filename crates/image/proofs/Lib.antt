@@ -6,6 +6,7 @@ pub mod LoadLaws
 pub mod Round
 pub mod OpenLaws
 pub mod MappedLaws
+pub mod MappingLaws
 pub mod PatchLaws
 pub mod LoadedPatches
 pub mod GroupPatches

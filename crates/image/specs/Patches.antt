@@ -3,6 +3,7 @@
 use mathlib.Core.Bool.{Bool, true, _&&_}
 use mathlib.Core.List.{List, _++_}
 use mathlib.Core.Path.{_≡_}
+use mathlib.Core.Logic.{_⊎_}
 use Prim.Native.Nat.{ℕ, suc, _+_, _*_, _/_, _%_, _^_, _≤_}
 use lib.Dec.{eqb}
 use lib.ListN.{length, take, drop, getD}
@@ -93,7 +94,11 @@ registersBy n = record { kind = part n 0; rom = part n 3; ram = part n 4; mode =
 abbrev pub mapperBy : ℕ → Bool
 mapperBy n = mbc.sound (registersBy n) && mbc.inRange (cartridgeBy n) (mbc.mapperOf (registersBy n))
 
--- what the tests of the commonest mappers say: such a mapper fits, has at most 128 banks, and a save of s bytes
+-- what the tests of the commonest mappers say: Mbc1, or Mbc5 without what it lacks
+abbrev pub CommonKind : ℕ → Type 0
+CommonKind n = (part n 0 ≡ mbc.kindMbc1) ⊎ ((part n 0 ≡ mbc.kindMbc5) × ((part n 5 ≡ 0) × (part n 7 ≡ 0)))
+
+-- such a mapper fits, has at most 128 banks, and a save of s bytes
 pub record Common (n s : ℕ) : Type 0 where
   pub fits : mapperBy n ≡ true
   pub log : part n 1 ≤ 7

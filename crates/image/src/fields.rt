@@ -22,7 +22,7 @@ ghost use Rattle.mbc.specs.Mbc.{mapperOf, registersOf};
 ghost use Rattle.mbc.specs.declared.mbc.Mapper.{Mapper};
 ghost use Rattle.image.specs.Layout.{imageLen, fieldWidths, fieldValues, usedField};
 ghost use Rattle.image.specs.Load.{banksOf, lcdOf, hdmaOf, joypadOf, clockOf, cartridgeOf, registersIn, coreFrom, at};
-ghost use Rattle.image.specs.Patches.{fields, headFits, mapperFits, tailFits, restFits, Mapped, mappingBits, mappingNumber, mapperBy, Common, noSave, MapperFits, MachineFits, SameRange, RestFits, put, Fits, banksFields, linesFields, lcdFields, hdmaFields, joypadFields, clockFields, cartridgeFields, numbersFields, registersFields, Slim, usedPut, mappingPut, clockPut, groupsFields, coreFields};
+ghost use Rattle.image.specs.Patches.{fields, headFits, mapperFits, tailFits, restFits, Mapped, mappingBits, mappingNumber, mapperBy, CommonKind, Common, noSave, MapperFits, MachineFits, SameRange, RestFits, put, Fits, banksFields, linesFields, lcdFields, hdmaFields, joypadFields, clockFields, cartridgeFields, numbersFields, registersFields, Slim, usedPut, mappingPut, clockPut, groupsFields, coreFields};
 
 // No save is so long.
 const NO_SAVE: usize = 1;
@@ -197,6 +197,23 @@ pub fn head_fits(image: &[u8]) -> bool
 // Tests that are enough for a load, and for the lengths of what is lent beside the image: small, so that the compiler puts them in place where they are
 // called, and on the number that has all of a mapper, where each is a mask. Who fails one is no worse off than before it.
 
+// Mbc1, or Mbc5 without what it lacks.
+fn common_kind(n: u32) -> bool
+    requires { ⌜ n < 2 ^ mappingBits ⌝ }
+    ensures { λ r. ⌜ (r ≡ true → CommonKind n) ⌝ }
+{
+    if n / layout::KIND_UNIT % 2 != 1 {
+        return false;
+    }
+    if n / layout::KIND_UNIT / 2 == 1 {
+        if n / layout::BANKING_UNIT % 2 != 0 {
+            return false;
+        }
+        return n % layout::HIGH_SIZE == 0;
+    }
+    true
+}
+
 // The commonest mappers, Mbc1 and Mbc5 of at most 128 banks, in range: the length of the save beside it. A number that no save's length is where a test fails.
 fn common_save(n: u32) -> usize
     requires { ⌜ n < 2 ^ mappingBits ⌝ }
@@ -205,16 +222,8 @@ fn common_save(n: u32) -> usize
     if n / layout::LOG_UNIT % layout::LOG_SIZE > 7 {
         return NO_SAVE;
     }
-    if n / layout::KIND_UNIT % 2 != 1 {
+    if !common_kind(n) {
         return NO_SAVE;
-    }
-    if n / layout::KIND_UNIT / 2 == 1 {
-        if n / layout::BANKING_UNIT % 2 != 0 {
-            return NO_SAVE;
-        }
-        if n % layout::HIGH_SIZE != 0 {
-            return NO_SAVE;
-        }
     }
     let log = n / layout::LOG_UNIT % 8;
     if log == 0 {
@@ -306,7 +315,8 @@ pub fn mapper_surely_fits(image: &[u8], rom: usize, save: usize) -> bool
     if its == NO_SAVE {
         return false;
     }
-    if rom != (1 << (n / layout::LOG_UNIT % 8)) as usize * 0x4000 {
+    let banks: usize = 1 << (n / layout::LOG_UNIT % 8);
+    if rom != banks * 0x4000 {
         return false;
     }
     save == its

@@ -1,3 +1,5 @@
+use mathlib.Core.Path.{_∙_}
+use Rattle.image.proofs.MappingLaws.{cartridge-by}
 use borrow.Author.Needs.{needs}
 use Rattle.image.proofs.fields.cartridge_at.Statement.{statement}
 use Rattle.image.proofs.fields.cartridge_at.Tie as tie
@@ -24,7 +26,7 @@ cast-t9 c = search needs
 
 -- src/fields.rt:120:1
 returns : tie.Need-returns
-returns c = ?
+returns c = rw (c .banks-of .ensures, c .before .mapping-at .ensures .0) (cartridge-by _ (c .before .before .before .pre))
 
 pub cartridge-at-spec : {M : Type 1} → statement M
 cartridge-at-spec =

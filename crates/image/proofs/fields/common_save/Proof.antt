@@ -1,86 +1,113 @@
+use Rattle.image.proofs.MappingLaws.{common}
+use Rattle.mbc.specs.Mbc.{ramBanks}
+use Rattle.mbc.proofs.Enough.{four, one, none}
+use borrow.Author.Tests.{not-false}
+use Rattle.rules.proofs.Tests.{granted}
+use native.Mathlib.Omega.{arith}
+use Prim.Native.Nat.{_/_, _%_}
+use mathlib.Core.Path.{_≡_, refl}
 use borrow.Author.Needs.{needs}
 use Rattle.image.proofs.fields.common_save.Statement.{statement}
 use Rattle.image.proofs.fields.common_save.Tie as tie
 use Rattle.image.proofs.fields.common_save.Reads as reads
 use Rattle.image.proofs.fields.common_save.Lts as lts
+use Rattle.image.proofs.fields.common_kind.Reads as common-kind-reads
 use Rattle.mbc.proofs.cartridge.Cartridge.banks_of.Reads as banks-of-reads
 
--- src/fields.rt:206:9
+-- src/fields.rt:223:9
 returns : tie.Need-returns
-returns c = ?
+returns c = λ f. absurd (f refl)
 
--- src/fields.rt:209:9
+-- src/fields.rt:225:9
+common-kind-requires : tie.Need-common-kind-requires
+common-kind-requires c κs = search needs
+
+-- src/fields.rt:226:9
 returns-2 : tie.Need-returns-2
-returns-2 c = ?
+returns-2 c = λ f. absurd (f refl)
 
--- src/fields.rt:213:13
+-- src/fields.rt:230:9
 returns-3 : tie.Need-returns-3
-returns-3 c = ?
+returns-3 c = λ f. absurd (f refl)
 
--- src/fields.rt:216:13
-returns-4 : tie.Need-returns-4
-returns-4 c = ?
-
--- src/fields.rt:221:9
-returns-5 : tie.Need-returns-5
-returns-5 c = ?
-
--- src/fields.rt:223:15
+-- src/fields.rt:232:15
 cast-rom : tie.Need-cast-rom
 cast-rom c = search needs
 
--- src/fields.rt:224:28
+-- src/fields.rt:233:28
 cast-banks-of : tie.Need-cast-banks-of
 cast-banks-of c = search needs
 
--- src/fields.rt:224:8
+-- src/fields.rt:233:8
 banks-of-requires : tie.Need-banks-of-requires
 banks-of-requires c κs = search needs
 
--- src/fields.rt:225:9
-returns-6 : tie.Need-returns-6
-returns-6 c = ?
-
--- src/fields.rt:229:13
-returns-7 : tie.Need-returns-7
-returns-7 c = ?
-
--- src/fields.rt:232:13
-returns-8 : tie.Need-returns-8
-returns-8 c = ?
-
 -- src/fields.rt:234:9
+returns-4 : tie.Need-returns-4
+returns-4 c = λ f. absurd (f refl)
+
+-- src/fields.rt:238:13
+returns-5 : tie.Need-returns-5
+returns-5 c = λ f. absurd (f refl)
+
+-- src/fields.rt:241:13
+returns-6 : tie.Need-returns-6
+returns-6 c = λ f. absurd (f refl)
+
+-- src/fields.rt:243:9
+returns-7 : tie.Need-returns-7
+unfolding ramBanks
+returns-7 c =
+    let n = c .before .before .before .before .before .before .before .before .before .args .n in
+    let log : n / 131072 % 8 ≡ n / 131072 % 16 = omega (arith, c .before .before .before .before .before .before .before .before .if1 .left) in
+    let rom = rw (c .before .before .before .before .banks-of .ensures, log) at (c .before .before .before .if4 .left) in
+    let kind = c .before .before .before .before .before .before .before .common-kind .ensures (not-false _ (c .before .before .before .before .before .before .if2 .left)) in
+    let code : n / 32768 % 4 ≡ 0 = omega (arith, c .before .before .if5 .taken, c .before .if6 .left) in
+    λ f. common n kind (c .before .before .before .before .before .before .before .before .if1 .left) (omega (arith, c .before .before .before .before .before .if3 .left)) rom
+    (none code (omega (arith, c .if7 .left)) (omega (arith, c .if7 .left)) (omega (arith, c .if7 .left))) 0 (rw code)
+
+-- src/fields.rt:246:9
+returns-8 : tie.Need-returns-8
+unfolding ramBanks
+returns-8 c =
+    let n = c .before .before .before .before .before .before .before .before .args .n in
+    let log : n / 131072 % 8 ≡ n / 131072 % 16 = omega (arith, c .before .before .before .before .before .before .before .if1 .left) in
+    let rom = rw (c .before .before .before .banks-of .ensures, log) at (c .before .before .if4 .left) in
+    let kind = c .before .before .before .before .before .before .common-kind .ensures (not-false _ (c .before .before .before .before .before .if2 .left)) in
+    let code : n / 32768 % 4 ≡ 3 = omega (arith, c .before .if5 .left, c .if8 .taken) in
+    λ f. common n kind (c .before .before .before .before .before .before .before .if1 .left) (omega (arith, c .before .before .before .before .if3 .left)) rom (four code) 0x8000 (rw code)
+
+-- src/fields.rt:249:9
 returns-9 : tie.Need-returns-9
-returns-9 c = ?
+returns-9 c = λ f. absurd (f refl)
 
--- src/fields.rt:237:9
+-- src/fields.rt:218:1
 returns-10 : tie.Need-returns-10
-returns-10 c = ?
-
--- src/fields.rt:240:9
-returns-11 : tie.Need-returns-11
-returns-11 c = ?
-
--- src/fields.rt:201:1
-returns-12 : tie.Need-returns-12
-returns-12 c = ?
+unfolding ramBanks
+returns-10 c =
+    let n = c .before .before .before .before .before .before .before .before .before .args .n in
+    let log : n / 131072 % 8 ≡ n / 131072 % 16 = omega (arith, c .before .before .before .before .before .before .before .before .if1 .left) in
+    let rom = rw (c .before .before .before .before .banks-of .ensures, log) at (c .before .before .before .if4 .left) in
+    let kind = c .before .before .before .before .before .before .before .common-kind .ensures (not-false _ (c .before .before .before .before .before .before .if2 .left)) in
+    let code : n / 32768 % 4 ≡ 2 = omega (arith, c .before .before .if5 .left, c .before .if8 .left) in
+    λ f. common n kind (c .before .before .before .before .before .before .before .before .if1 .left) (omega (arith, c .before .before .before .before .before .if3 .left)) rom
+    (one code (omega (arith, c .if9 .left)) (omega (arith, c .if9 .left))) 0x2000 (rw code)
 
 pub common-save-spec : {M : Type 1} → statement M
 common-save-spec =
     tie.close
     (tie.spec
     returns
+    common-kind-requires
     returns-2
     returns-3
-    returns-4
-    returns-5
     cast-rom
     cast-banks-of
     banks-of-requires
+    returns-4
+    returns-5
     returns-6
     returns-7
     returns-8
     returns-9
-    returns-10
-    returns-11
-    returns-12)
+    returns-10)

@@ -1,3 +1,5 @@
+use Rattle.image.proofs.MappingLaws.{mapped-by}
+use mathlib.Core.Path.{sym}
 use borrow.Author.Needs.{needs}
 use Rattle.image.proofs.fields.mapper_fits.Statement.{statement}
 use Rattle.image.proofs.fields.mapper_fits.Tie as tie
@@ -10,41 +12,44 @@ use Rattle.image.proofs.fields.registers_at.Reads as registers-at-reads
 use Rattle.image.proofs.fields.small_fits.Reads as small-fits-reads
 use Rattle.mbc.proofs.held.Registers.fit.Reads as fit-reads
 
--- src/fields.rt:287:9
+-- src/fields.rt:296:9
 mapping-at-requires : tie.Need-mapping-at-requires
 mapping-at-requires c κs = search needs
 
--- src/fields.rt:288:8
+-- src/fields.rt:297:8
 common-save-requires : tie.Need-common-save-requires
 common-save-requires c κs = search needs
 
--- src/fields.rt:289:9
+-- src/fields.rt:298:9
 returns : tie.Need-returns
-returns c = ?
+returns c =
+    let its = c .before .common-save .result in
+    sym (mapped-by _ (c .before .before .before .before .pre) (c .before .before .mapping-at .ensures .0) (c .before .common-save .ensures (c .if1 .taken) .fits) .mapper)
 
--- src/fields.rt:291:8
+-- src/fields.rt:300:8
 small-fits-requires : tie.Need-small-fits-requires
 small-fits-requires c κs = search needs
 
--- src/fields.rt:292:9
+-- src/fields.rt:301:9
 returns-2 : tie.Need-returns-2
-returns-2 c = ?
+returns-2 c =
+    sym (mapped-by _ (c .before .before .before .before .before .before .pre) (c .before .before .before .before .mapping-at .ensures .0) (c .before .small-fits .ensures (c .if2 .taken)) .mapper)
 
--- src/fields.rt:294:9
+-- src/fields.rt:303:9
 registers-at-requires : tie.Need-registers-at-requires
 registers-at-requires c κs = search needs
 
--- src/fields.rt:295:19
+-- src/fields.rt:304:19
 cartridge-at-requires : tie.Need-cartridge-at-requires
 cartridge-at-requires c κs = search needs
 
--- src/fields.rt:295:5
+-- src/fields.rt:304:5
 fit-requires : tie.Need-fit-requires
 fit-requires c κs = search needs
 
--- src/fields.rt:283:1
+-- src/fields.rt:292:1
 returns-3 : tie.Need-returns-3
-returns-3 c = ?
+returns-3 c = rw (c .fit .ensures, c .before .cartridge-at .ensures, c .before .before .registers-at .ensures)
 
 pub mapper-fits-spec : {M : Type 1} → statement M
 mapper-fits-spec =

@@ -1,3 +1,8 @@
+use Rattle.image.proofs.MappingLaws.{mapped-by}
+use Rattle.image.specs.Patches.{noSave}
+use borrow.Author.Tests.{eqb-false, not-true}
+use lib.Dec.{eqb}
+use Rattle.rules.proofs.Tests.{untrue}
 use borrow.Author.Needs.{needs}
 use Rattle.image.proofs.fields.mapper_surely.Statement.{statement}
 use Rattle.image.proofs.fields.mapper_surely.Tie as tie
@@ -8,7 +13,7 @@ use Rattle.image.proofs.fields.mapping_at.Reads as mapping-at-reads
 
 -- src/fields.rt:363:9
 returns : tie.Need-returns
-returns c = ?
+returns c = λ z. untrue z
 
 -- src/fields.rt:365:17
 mapping-at-requires : tie.Need-mapping-at-requires
@@ -20,7 +25,9 @@ common-save-requires c κs = search needs
 
 -- src/fields.rt:359:1
 returns-2 : tie.Need-returns-2
-returns-2 c = ?
+returns-2 c = λ z.
+    let its = c .common-save .result in
+    mapped-by _ (c .before .before .if1 .left) (c .before .mapping-at .ensures .0) (c .common-save .ensures (eqb-false its noSave (not-true (eqb its noSave) z)) .fits)
 
 pub mapper-surely-spec : {M : Type 1} → statement M
 mapper-surely-spec =

@@ -1,3 +1,4 @@
+use Rattle.image.specs.Patches.{mappingNumber}
 use borrow.Author.Needs.{needs}
 use Rattle.image.proofs.fields.mapping_at.Statement.{statement}
 use Rattle.image.proofs.fields.mapping_at.Tie as tie
@@ -11,7 +12,8 @@ u32-at-requires c κs = search needs
 
 -- src/fields.rt:113:1
 returns : tie.Need-returns
-returns c = ?
+unfolding mappingNumber
+returns c = c .u32-at .ensures
 
 pub mapping-at-spec : {M : Type 1} → statement M
 mapping-at-spec = tie.close (tie.spec u32-at-requires returns)

@@ -1,3 +1,8 @@
+use Prim.Native.Nat.{_/_, _%_}
+use Rattle.mbc.proofs.Bits.{bit-forth}
+use Rattle.image.proofs.MappingLaws.{registers-by}
+use native.Mathlib.Omega.{arith}
+use mathlib.Core.Path.{_≡_, _∙_}
 use borrow.Author.Needs.{needs}
 use Rattle.image.proofs.fields.registers_at.Statement.{statement}
 use Rattle.image.proofs.fields.registers_at.Tie as tie
@@ -12,7 +17,7 @@ mapping-at-requires c κs = search needs
 
 -- src/fields.rt:137:15
 cast-t4 : tie.Need-cast-t4
-cast-t4 c = search needs
+cast-t4 c = let h = c .mapping-at .ensures .1 in omega (arith, h)
 
 -- src/fields.rt:138:14
 cast-t7 : tie.Need-cast-t7
@@ -36,7 +41,11 @@ cast-t19 c = search needs
 
 -- src/fields.rt:131:1
 returns : tie.Need-returns
-returns c = ?
+returns c =
+    let n = c .before .mapping-at .result in
+    let kind : n / 2097152 ≡ n / 2097152 % 4 = omega (arith, c .before .mapping-at .ensures .1) in
+    let high : n % 4 ≡ n / 1 % 4 = omega arith in
+    rw (c .bit .ensures, ← bit-forth (n / 4 % 2) (omega arith), kind, high, c .before .mapping-at .ensures .0) (registers-by _ (c .before .before .before .pre))
 
 pub registers-at-spec : {M : Type 1} → statement M
 registers-at-spec =

@@ -1,3 +1,10 @@
+use lib.Dec.{eqb}
+use borrow.Author.Tests.{ltb-true, ne-eqb, eqb-false, not-true}
+use Prim.Native.Nat.{_/_, _%_}
+use mathlib.Core.Path.{_≡_}
+use Rattle.image.proofs.MappingLaws.{other-code, rom-only-fits, mbc2-fits}
+use native.Mathlib.Omega.{arith}
+use Rattle.rules.proofs.Tests.{untrue}
 use borrow.Author.Needs.{needs}
 use Rattle.image.proofs.fields.small_fits.Statement.{statement}
 use Rattle.image.proofs.fields.small_fits.Tie as tie
@@ -7,39 +14,43 @@ use Rattle.mbc.proofs.cartridge.Cartridge.banks_of.Reads as banks-of-reads
 
 -- src/fields.rt:252:13
 returns : tie.Need-returns
-returns c = ?
+returns c = λ z. untrue z
 
 -- src/fields.rt:255:13
 returns-2 : tie.Need-returns-2
-returns-2 c = ?
+returns-2 c = λ z. untrue z
 
 -- src/fields.rt:257:9
 returns-3 : tie.Need-returns-3
-returns-3 c = ?
+returns-3 c =
+    let n = c .before .before .before .args .n in
+    let low : n % 32768 ≡ 64 = c .if3 .left in
+    λ z. rom-only-fits n (omega (arith, c .before .before .if1 .taken)) (omega (arith, c .before .if2 .left)) (omega (arith, low)) (omega (arith, low)) (omega (arith, low)) (omega (arith, low)) (omega (arith, low))
+    (other-code _ (n / 32768 % 4) (omega arith) (eqb-false (n / 32768 % 4) 1 (not-true (eqb (n / 32768 % 4) 1) z)))
 
 -- src/fields.rt:260:9
 returns-4 : tie.Need-returns-4
-returns-4 c = ?
+returns-4 c = λ z. untrue z
 
 -- src/fields.rt:263:9
 returns-5 : tie.Need-returns-5
-returns-5 c = ?
+returns-5 c = λ z. untrue z
 
 -- src/fields.rt:266:9
 returns-6 : tie.Need-returns-6
-returns-6 c = ?
+returns-6 c = λ z. untrue z
 
 -- src/fields.rt:269:9
 returns-7 : tie.Need-returns-7
-returns-7 c = ?
+returns-7 c = λ z. untrue z
 
 -- src/fields.rt:272:9
 returns-8 : tie.Need-returns-8
-returns-8 c = ?
+returns-8 c = λ z. untrue z
 
 -- src/fields.rt:276:9
 returns-9 : tie.Need-returns-9
-returns-9 c = ?
+returns-9 c = λ z. untrue z
 
 -- src/fields.rt:278:15
 cast-rom : tie.Need-cast-rom
@@ -55,7 +66,13 @@ banks-of-requires c κs = search needs
 
 -- src/fields.rt:246:1
 returns-10 : tie.Need-returns-10
-returns-10 c = ?
+returns-10 c =
+    let n = c .before .before .before .before .before .before .before .before .args .n in
+    let log : n / 131072 % 8 ≡ n / 131072 % 16 = omega (arith, c .before .before .if8 .left) in
+    let two : n / 2097152 ≡ 2 = c .before .before .before .before .before .before .if4 .left in
+    let kind : n / 2097152 % 4 ≡ 2 = rw two in
+    λ z. mbc2-fits n kind (c .before .before .if8 .left) (omega (arith, c .before .if9 .left)) (c .before .before .before .before .before .if5 .left)
+    (rw (← log, ← c .banks-of .ensures) (ltb-true _ _ z)) (omega (arith, c .before .before .before .before .if6 .left)) (omega (arith, c .before .before .before .before .if6 .left)) (omega (arith, c .before .before .before .if7 .left))
 
 pub small-fits-spec : {M : Type 1} → statement M
 small-fits-spec =
