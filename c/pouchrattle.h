@@ -8,7 +8,7 @@
  *
  *   image   the state of the bus, POUCH_IMAGE_LEN bytes. Made by pouch_fresh, changed by the calls. It is plain data: the host may copy it, store it,
  *           put it back (with the memories as they were then; what that means for save and log is in README.md beside this file).
- *   rom     the cartridge's ROM: N banks of 16,384 bytes.
+ *   rom     the cartridge's ROM: N banks of 16,384 bytes, N a power of two, 512 (8 MiB) at most.
  *   vram    video memory: 8,192 bytes, in colour 16,384 (bank 0, then bank 1).
  *   wram    work memory: 8,192 bytes, in colour 32,768 (banks 0 to 7).
  *   save    the cartridge's RAM: 0, 512, 8,192 or 32,768 bytes, as the cartridge has.
@@ -83,24 +83,24 @@ enum pouch_interrupt {
     POUCH_NO_INTERRUPT = 5
 };
 
-/* Mappers, for pouch_fresh. */
+/* Mappers, for pouch_fresh. RAM code 0, 2 or 3, where nothing else is said. */
 enum pouch_kind {
     POUCH_ROM_ONLY = 0, /* 2 ROM banks */
-    POUCH_MBC1 = 1,     /* 2, 4, .. 128 ROM banks */
+    POUCH_MBC1 = 1,     /* 2, 4, .. 128 ROM banks: up to 2 MiB */
     POUCH_MBC2 = 2,     /* 2, 4, 8, 16 ROM banks, a save of 512 bytes, RAM code 0 */
-    POUCH_MBC5 = 3      /* 2, 4, .. 512 ROM banks */
+    POUCH_MBC5 = 3      /* 2, 4, .. 512 ROM banks: up to 8 MiB */
 };
 
 /* Lengths in bytes. */
-#define POUCH_IMAGE_LEN 666
+#define POUCH_IMAGE_LEN 666 /* 665 before version 2.0 */
 #define POUCH_ROM_BANK_LEN 16384
 #define POUCH_VRAM_LEN_MONOCHROME 8192
 #define POUCH_VRAM_LEN_COLOUR 16384
 #define POUCH_WRAM_LEN_MONOCHROME 8192
 #define POUCH_WRAM_LEN_COLOUR 32768
-#define POUCH_SAVE_LEN_CODE_0 0     /* RAM code 0, RomOnly, Mbc1 and Mbc5 */
-#define POUCH_SAVE_LEN_CODE_2 8192  /* RAM code 2 */
-#define POUCH_SAVE_LEN_CODE_3 32768 /* RAM code 3 */
+#define POUCH_SAVE_LEN_CODE_0 0     /* RAM code 0 of RomOnly, Mbc1 and Mbc5 */
+#define POUCH_SAVE_LEN_CODE_2 8192  /* RAM code 2 of the same: one bank */
+#define POUCH_SAVE_LEN_CODE_3 32768 /* RAM code 3 of the same: four banks */
 #define POUCH_SAVE_LEN_MBC2 512     /* Mbc2, RAM code 0 */
 #define POUCH_SOUND_LEN 48
 #define POUCH_LOG_LEN_MAX 65535
@@ -112,7 +112,7 @@ enum pouch_kind {
 #define POUCH_RECORD_LEN 3
 
 /* The version that this header is of, the image's length and a record's, as one number: what pouch_version gives where the library is of the same. */
-#define POUCH_VERSION_MAJOR 1
+#define POUCH_VERSION_MAJOR 2
 #define POUCH_VERSION_MINOR 0
 #define POUCH_VERSION_PATCH 0
 #define POUCH_VERSION                                                                                                              \
