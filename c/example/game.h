@@ -1,12 +1,20 @@
-/* The game that the player plays: its list of save writes, write i for i = 0, 1, ... A pass goes once over the whole save, in a scattered order. */
+/* The game that the player plays: its cartridge, and its list of save writes, write i for i = 0, 1, ... A pass goes once over the whole save, in a scattered
+ * order. */
 #ifndef GAME_H
 #define GAME_H
 
-#include <stdint.h>
+#include <pouchrattle.h>
 
-#define SAVE_LEN 8192
+#ifdef LARGE_GAME /* the largest cartridge, whose save has four banks: the tests play and kill it too */
+enum { GAME_KIND = POUCH_MBC5, GAME_BANKS = 512, GAME_CODE = 3, SAVE_LEN = POUCH_SAVE_LEN_CODE_3 };
+#else
+enum { GAME_KIND = POUCH_MBC1, GAME_BANKS = 2, GAME_CODE = 2, SAVE_LEN = POUCH_SAVE_LEN_CODE_2 };
+#endif
 
-/* The address in the save: 0, 3001, 6002, .. modulo 8,192. 3001 is odd, so a pass meets each address once. */
+/* The bus shows one bank of the save, at A000..BFFF. */
+enum { SAVE_BANK_LEN = 8192 };
+
+/* The address in the save: 0, 3001, 6002, .. modulo its length. 3001 is odd, so a pass meets each address once. */
 static inline uint16_t game_at(uint32_t i)
 {
     return (uint16_t)(i * 3001u % SAVE_LEN);

@@ -12,7 +12,7 @@
 #include <stdlib.h>
 #include <sys/stat.h>
 
-static uint8_t rom[2 * POUCH_ROM_BANK_LEN], vram[POUCH_VRAM_LEN_COLOUR], wram[POUCH_WRAM_LEN_COLOUR], save[SAVE_LEN], sound[POUCH_SOUND_LEN];
+static uint8_t rom[GAME_BANKS * POUCH_ROM_BANK_LEN], vram[POUCH_VRAM_LEN_COLOUR], wram[POUCH_WRAM_LEN_COLOUR], save[SAVE_LEN], sound[POUCH_SOUND_LEN];
 static uint8_t save_log[96]; /* short, so that it is cleared often */
 
 static void require(bool holds, const char *what)
@@ -72,7 +72,7 @@ static uint32_t place(void)
     return first + i;
 }
 
-/* Save write i, and what else a game does: time passes, tiles are drawn, and now and then a transfer runs over the end of video memory. */
+/* Save write i, and what else a game does: time passes, tiles are drawn, banks are selected, and now and then a transfer runs over the end of video memory. */
 static void step(struct pouch_bus *bus, uint32_t i)
 {
     pouch_update_timer(bus->image, sizeof bus->image, i % 456);
@@ -83,7 +83,9 @@ static void step(struct pouch_bus *bus, uint32_t i)
         for (uint16_t r = 0; r < sizeof registers; r++)
             pouch_bus_write(bus, (uint16_t)(0xFF51 + r), registers[r]);
     }
-    pouch_bus_write(bus, (uint16_t)(0xA000 + game_at(i)), game_value(i));
+    pouch_bus_write(bus, 0x2100, (uint8_t)i);
+    pouch_bus_write(bus, 0x4000, (uint8_t)(game_at(i) / SAVE_BANK_LEN));
+    pouch_bus_write(bus, (uint16_t)(0xA000 + game_at(i) % SAVE_BANK_LEN), game_value(i));
 }
 
 int main(int count, char **words)
@@ -100,7 +102,7 @@ int main(int count, char **words)
 
     struct pouch_bus bus;
     pouch_bus_lend(&bus, rom, sizeof rom, vram, sizeof vram, wram, sizeof wram, save, sizeof save, save_log, sizeof save_log, sound);
-    pouch_bus_fresh(&bus, POUCH_MBC1, 2, 2, true);
+    pouch_bus_fresh(&bus, GAME_KIND, GAME_BANKS, GAME_CODE, true);
     pouch_bus_write(&bus, 0x0000, 0x0A); /* the mapper lets save writes in */
 
     uint32_t from = place(), end = from + (uint32_t)strtoul(words[2], NULL, 10);

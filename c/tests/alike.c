@@ -65,9 +65,9 @@ static uint64_t truth(uint64_t x)
 
 static void cartridge(void)
 {
-    const uint8_t kind = (uint8_t)(any() % 3), codes[] = {0, 2, 3};
+    const uint8_t kind = (uint8_t)(any() % 4), codes[] = {0, 2, 3}, sizes[] = {1, 7, 4, 9};
     const uint8_t code = kind == POUCH_MBC2 ? 0 : codes[any() % 3];
-    const uint16_t banks = kind == POUCH_ROM_ONLY ? 2 : (uint16_t)(2u << any() % (kind == POUCH_MBC2 ? 4 : 7));
+    const uint16_t banks = (uint16_t)(2u << any() % sizes[kind]);
     const bool colour = any() % 2 != 0;
     const size_t log_len = any() % 8 == 0 ? any() % 7 : any() % (POUCH_LOG_LEN_MAX + 1);
     start(kind, banks, code, colour, log_len);
@@ -108,7 +108,7 @@ int main(void)
             for (int i = 0; i < BLOCKS; i++)
                 mix(LEND(blocks[i]));
         }
-        mix(arena, sizeof arena);
+        mix(arena, arena_len);
         printf("%d: %016" PRIx64 "\n", bus, digest);
     }
     for (int i = 0; i < 8; i++) {

@@ -1,18 +1,9 @@
 /* What each entry of pouchrattle.h does, so that none is exchanged for another and no two arguments are; and the corners that the bus's rules name. */
 #include "lent.h"
 
-/* Bits of the image, most significant first. */
-static uint32_t field(unsigned at, unsigned width)
-{
-    uint32_t bits = 0;
-    for (; width > 0; width--, at++)
-        bits = bits << 1 | (image.at[at / 8] >> (7 - at % 8) & 1u);
-    return bits;
-}
-
-enum { /* where fields start */
+enum { /* where other fields of the image start */
     OAM = 0, BACKGROUND = 4096, DISABLED = 5057, JOYPAD_STATE = 5065, RELEASED = 5073, SCAN_LINE = 5081, SIGNAL = 5089, MODE = 5097, SOURCE = 5123,
-    DESTINATION = 5139, DELAY = 5155, COUNTER = 5187, AUX = 5219, WINDOW = 5251, ROM_BANK = 5290, ENABLED = 5300, LOG_USE = 5303
+    DESTINATION = 5139, DELAY = 5155, COUNTER = 5187, AUX = 5219, WINDOW = 5251
 };
 
 static uint16_t load(uint16_t index)
@@ -25,7 +16,7 @@ static uint16_t load(uint16_t index)
 static void check_memories(void)
 {
     uint8_t byte = 0xEE;
-    start_mbc1(false);
+    start_one(false);
     IS(pouch_store(LEND(image), 0xFF80, 0x12), POUCH_DONE);
     IS(load(0xFF80), 0x12);
     IS(rd(0xFF80), 0x12);
@@ -36,7 +27,7 @@ static void check_memories(void)
     IS(value, 0x3412);
     IS(pouch_write_word(WRITES, 0xFFFF, 0x0A00), POUCH_DONE); /* FFFF is followed by 0000 */
     IS(field(ENABLED, 1), 1);
-    start_mbc1(true);
+    start_one(true);
     IS(wr(0xFF4F, 1), POUCH_DONE);
     IS(wr(0x8001, 0x77), POUCH_DONE);
     IS(wr(0xFF4F, 0), POUCH_DONE);
@@ -55,7 +46,7 @@ static void check_read_block(void)
         uint16_t index;
         size_t count;
     } blocks[] = {{0x3FF0, 32}, {0x7FF0, 32}, {0x9FF0, 32}, {0xBFF0, 32}, {0xFDF0, 32}, {0xFE80, 300}, {0xC000, 0}, {0xFFFF, POUCH_BLOCK_LEN_MAX}};
-    start_mbc1(true);
+    start_one(true);
     IS(wr(0x0000, 0x0A), POUCH_DONE);
     IS(wr(0xFF70, 2), POUCH_DONE);
     for (uint16_t at = 0x8000; at < 0xFE00; at = (uint16_t)(at + 0x17))
@@ -74,7 +65,7 @@ static void check_read_block(void)
 /* The lowest bit first. */
 static void check_interrupts(void)
 {
-    start_mbc1(false);
+    start_one(false);
     IS(ask(pouch_get_interrupts), POUCH_NO_INTERRUPT);
     IS(pouch_store(LEND(image), 0xFFFF, 0x1F), POUCH_DONE);
     IS(ask(pouch_get_interrupts), POUCH_VBLANK);
@@ -90,7 +81,7 @@ static void check_interrupts(void)
 static void check_buttons(void)
 {
     const uint8_t bits[] = {0x04, 0x08, 0x02, 0x01, 0x10, 0x20, 0x80, 0x40}; /* Up, Down, Left, Right, A, B, Start, Select */
-    start_mbc1(false);
+    start_one(false);
     for (uint8_t i = POUCH_UP; i <= POUCH_SELECT; i++) {
         IS(pouch_press(LEND(image), i), POUCH_DONE);
         IS(field(RELEASED, 8), 0xFF - bits[i]);
@@ -113,7 +104,7 @@ static void check_screen(void)
 {
     uint8_t disabled = 0xEE, line = 0xEE, signal = 0xEE, mode = 0xEE;
     int32_t delay = 0, counter = 0, aux = 0, window = 0;
-    start_mbc1(false);
+    start_one(false);
     IS(pouch_host(LEND(image), false, 0x12, 0x34, 0x56, -2, 0x11111111, 0x22222222, INT32_MIN), POUCH_DONE);
     IS(field(DISABLED, 1), 0);
     IS(field(SCAN_LINE, 8), 0x12);
@@ -155,10 +146,10 @@ static void check_screen(void)
     const uint16_t indexes[] = {0xFF40, 0xFF41, 0xFF44, 0xFF45};
     for (int i = 0; i < 4; i++) {
         uint8_t by_write[POUCH_IMAGE_LEN];
-        start_mbc1(false);
+        start_one(false);
         IS(wr(indexes[i], 0x35), POUCH_DONE);
         memcpy(by_write, image.at, image.len);
-        start_mbc1(false);
+        start_one(false);
         IS(memcmp(by_write, image.at, image.len) != 0, true);
         IS(calls[i](LEND(image), 0x35), POUCH_DONE);
         IS(memcmp(by_write, image.at, image.len), 0);
@@ -202,7 +193,7 @@ static void check_one_number(void)
         for (int which = 0; which < 8; which++)
             for (int i = 0; i < 3; i++) {
                 uint8_t wanted[POUCH_IMAGE_LEN];
-                start_mbc1(true);
+                start_one(true);
                 IS(pouch_host(LEND(image), set, set * 0xFF, set * 0xFF, set * 0xFF, -set, -set, -set, -set), POUCH_DONE);
                 struct numbers other = shown();
                 other.at[which] = values[which][i];
@@ -223,7 +214,7 @@ static void check_one_number(void)
 static void check_turned_off(void)
 {
     for (int one_by_one = 0; one_by_one < 2; one_by_one++) {
-        start_mbc1(true);
+        start_one(true);
         IS(pouch_host(LEND(image), false, 20, 0, 3, 0, 200, 10, 5), POUCH_DONE);
         struct numbers mine = shown();
         IS(wr(0xFF40, 0x00), POUCH_DONE);
@@ -243,7 +234,7 @@ static void check_turned_off(void)
         IS(shown().at[5], 204);
     }
     /* on again by the game: the delay, and then the host */
-    start_mbc1(true);
+    start_one(true);
     IS(wr(0xFF40, 0x00), POUCH_DONE);
     IS(wr(0xFF40, 0x91), POUCH_DONE);
     IS(shown().at[0], 1);
@@ -280,11 +271,11 @@ static void check_shared_numbers(void)
         {&on, 30, 0x80, 0, 0xFF45, 0x00, {{0, 20, 0x0F, 2, 9, 200, 10, 0}}}, /* the same byte */
         {&on, 30, 0x00, 0, 0xFF45, 0x21, {{0, 20, 0x0F, 2, 9, 200, 10, 0}}},
     };
-    start_mbc1(true);
+    start_one(true);
     const struct numbers first = {{0, 144, 0, 1, 0, 0, 0, 0}};
     IS(memcmp(shown().at, first.at, sizeof first.at), 0);
     for (unsigned i = 0; i < sizeof writes / sizeof *writes; i++) {
-        start_mbc1(true);
+        start_one(true);
         for (int which = 0; which < 8; which++)
             IS(set_one(which, writes[i].from->at[which]), POUCH_DONE);
         IS(pouch_store(LEND(image), 0xFF4A, writes[i].window_top), POUCH_DONE);
@@ -300,7 +291,7 @@ static void check_shared_numbers(void)
 /* FF4D is armed by the game and switched by the host. */
 static void check_speed(void)
 {
-    start_mbc1(true);
+    start_one(true);
     IS(rd(0xFF4D) & 0x80, 0);
     IS(wr(0xFF4D, 0x01), POUCH_DONE);
     IS(rd(0xFF4D), 0x7F);
@@ -316,7 +307,7 @@ static void check_speed(void)
 static void check_oam(void)
 {
     uint8_t oam[POUCH_OAM_LEN + 1];
-    start_mbc1(true);
+    start_one(true);
     for (uint16_t at = 0; at < 0x100; at++)
         IS(wr((uint16_t)(0xC100 + at), (uint8_t)(at * 7 + 1)), POUCH_DONE);
     IS(wr(0xFF46, 0xC1), POUCH_DONE);
@@ -339,14 +330,14 @@ static void check_version(void)
     IS(POUCH_PATCH_OF(pouch_version()), POUCH_VERSION_PATCH);
     IS(POUCH_IMAGE_LEN_OF(pouch_version()), POUCH_IMAGE_LEN);
     IS(POUCH_RECORD_LEN_OF(pouch_version()), POUCH_RECORD_LEN);
-    IS(pouch_version() == 0x0001000000029903, true);
+    IS(pouch_version() == 0x0002000000029A03, true);
 }
 
 /* Each colour at its three bytes: the background's second and the sprites' last, and no others. */
 static void check_colors(void)
 {
     uint8_t colors[POUCH_COLORS_LEN], wanted[POUCH_COLORS_LEN];
-    start_mbc1(true);
+    start_one(true);
     IS(pouch_colors(LEND(image), wanted, sizeof wanted), POUCH_DONE);
     IS(wr(0xFF68, 0x82), POUCH_DONE);
     IS(wr(0xFF69, 0xE2), POUCH_DONE);
@@ -362,7 +353,7 @@ static void check_colors(void)
 
 static void check_blocks(void)
 {
-    start_mbc1(true);
+    start_one(true);
     IS(ask(pouch_is_hdma_enabled), 0);
     IS(wr(0xFF55, 0x81), POUCH_DONE);
     IS(ask(pouch_is_hdma_enabled), 1);
@@ -371,7 +362,7 @@ static void check_blocks(void)
 /* A record for each stored byte, the same value too; clearing leaves the bytes. */
 static void check_log(void)
 {
-    start_mbc1(false);
+    start_one(false);
     IS(wr(0xA001, 0x11), POUCH_DONE); /* RAM is off: not stored */
     IS(ask(pouch_log_used), 0);
     IS(wr(0x0000, 0x0A), POUCH_DONE);
@@ -406,7 +397,7 @@ static void check_timer_corners(void)
         uint8_t div;
     } divs[] = {{255, 0xD3}, {256, 0xD4}, {11520, 0x00}};
     for (int i = 0; i < 3; i++) {
-        start_mbc1(false);
+        start_one(false);
         IS(rd(0xFF44), 0x90);
         IS(rd(0xFF00), 0xC0);
         IS(pouch_update_timer(LEND(image), divs[i].cycles), POUCH_DONE);
@@ -417,7 +408,7 @@ static void check_timer_corners(void)
         uint8_t tima, flags;
     } timas[] = {{15, 0xFF, 0xE1}, {16, 0xF0, 0xE5}, {272, 0xF0, 0xE5}};
     for (int i = 0; i < 3; i++) {
-        start_mbc1(false);
+        start_one(false);
         IS(wr(0xFF07, 0x05), POUCH_DONE);
         IS(wr(0xFF06, 0xF0), POUCH_DONE);
         IS(wr(0xFF05, 0xFF), POUCH_DONE);
@@ -443,7 +434,7 @@ static void check_cycles_to_overflow(void)
     } timers[] = {{0x05, 0xFF, 0, 16}, {0x05, 0xF0, 4, 252}, {0x06, 0x80, 63, 128 * 64 - 63}, {0x07, 0x01, 1, 65279}, {0x04, 0xFF, 1000, 24}};
     for (unsigned i = 0; i < sizeof timers / sizeof *timers; i++)
         for (unsigned more = 0; more < 3; more++) {
-            start_mbc1(false);
+            start_one(false);
             IS(cycles_left(), POUCH_NEVER);
             IS(wr(0xFF07, timers[i].control), POUCH_DONE);
             IS(wr(0xFF05, timers[i].tima), POUCH_DONE);
@@ -452,7 +443,7 @@ static void check_cycles_to_overflow(void)
             IS(pouch_update_timer(LEND(image), timers[i].left - 1 + more), POUCH_DONE);
             IS(rd(0xFF0F), more == 0 ? 0xE1 : 0xE5);
         }
-    start_mbc1(false);
+    start_one(false);
     IS(wr(0xFF07, 0x04), POUCH_DONE);
     IS(cycles_left(), 256 * 1024);
     IS(wr(0xFF05, 0xFF), POUCH_DONE);
@@ -467,21 +458,25 @@ static void check_cycles_to_overflow(void)
 static void check_sprites_from_rom(void)
 {
     const struct {
-        uint8_t kind, code, banks, bank;
-    } cartridges[] = {{POUCH_ROM_ONLY, 0, 2, 1}, {POUCH_MBC1, 2, 8, 5}, {POUCH_MBC1, 3, 64, 19}, {POUCH_MBC2, 0, 16, 11}};
+        uint8_t kind, code;
+        uint16_t banks, bank;
+    } cartridges[] = {{POUCH_ROM_ONLY, 0, 2, 1}, {POUCH_MBC1, 2, 8, 5},   {POUCH_MBC1, 3, 64, 19},   {POUCH_MBC2, 0, 16, 11},   {POUCH_MBC5, 0, 2, 0},
+                      {POUCH_MBC5, 2, 8, 7},     {POUCH_MBC5, 3, 64, 32}, {POUCH_MBC5, 3, 256, 128}, {POUCH_MBC5, 2, 512, 256}, {POUCH_MBC5, 3, 512, 511}};
     const uint8_t pages[] = {0x00, 0x3F, 0x40, 0x7F};
     uint8_t behind[256 - POUCH_OAM_LEN], block[POUCH_OAM_LEN];
     for (unsigned i = 0; i < sizeof cartridges / sizeof *cartridges; i++) {
         start(cartridges[i].kind, cartridges[i].banks, cartridges[i].code, i % 2 == 1, 4095);
         for (size_t at = 0; at < rom.len; at++)
-            rom.at[at] = (uint8_t)(at + at / 256 * 3 + at / POUCH_ROM_BANK_LEN * 7);
-        IS(wr(0x2100, cartridges[i].bank), POUCH_DONE);
+            rom.at[at] = (uint8_t)(at + at / 256 * 3 + at / POUCH_ROM_BANK_LEN * 7 + at / POUCH_ROM_BANK_LEN / 256 * 5);
+        IS(wr(0x2100, (uint8_t)cartridges[i].bank), POUCH_DONE);
+        if (cartridges[i].kind == POUCH_MBC5)
+            IS(wr(0x3000, (uint8_t)(cartridges[i].bank >> 8)), POUCH_DONE);
         for (uint16_t at = 0xFEA0; at <= 0xFEFF; at++)
             IS(wr(at, (uint8_t)~at), POUCH_DONE);
         memcpy(behind, image.at + POUCH_OAM_LEN, sizeof behind);
         for (unsigned k = 0; k < 4 * sizeof pages; k++) {
             uint8_t page = pages[k % 4];
-            size_t from = (size_t)page * 256 + (page < 0x40 ? 0 : (size_t)(cartridges[i].bank - 1) * POUCH_ROM_BANK_LEN);
+            size_t from = page < 0x40 ? page * 256u : (size_t)cartridges[i].bank * POUCH_ROM_BANK_LEN + (page - 0x40u) * 256u;
             IS(pouch_read_block(READS, (uint16_t)(page * 256), block, sizeof block), POUCH_DONE);
             IS(memcmp(block, rom.at + from, sizeof block), 0);
             switch (k / 4) {
@@ -504,7 +499,7 @@ static void check_transfer_corners(void)
     } pages[] = {{0x7F, FILL}, {0x80, 0x21}, {0xDF, 0x43}, {0xE0, 0}};
     for (int i = 0; i < 4; i++)
         for (int by_write = 0; by_write < 2; by_write++) {
-            start_mbc1(false);
+            start_one(false);
             IS(wr(0x8000, 0x21), POUCH_DONE);
             IS(wr(0xDF00, 0x43), POUCH_DONE);
             IS(wr(0xC000, 0x65), POUCH_DONE);
@@ -514,16 +509,16 @@ static void check_transfer_corners(void)
         }
     const uint8_t kept[][2] = {{0x7F, 0x7F}, {0xC0, 0xC0}, {0x80, 0x00}, {0xBF, 0x00}};
     for (int i = 0; i < 4; i++) {
-        start_mbc1(true);
+        start_one(true);
         IS(wr(0xFF51, kept[i][0]), POUCH_DONE);
         IS(rd(0xFF51), kept[i][1]);
     }
-    start_mbc1(true);
+    start_one(true);
     IS(wr(0xFF70, 0x00), POUCH_DONE);
     IS(rd(0xFF70), 0x40);
 
     /* a block from 7FF0 to 9FF0 */
-    start_mbc1(true);
+    start_one(true);
     IS(wr(0xFF51, 0x7F), POUCH_DONE);
     IS(wr(0xFF52, 0xF0), POUCH_DONE);
     IS(wr(0xFF53, 0x1F), POUCH_DONE);
@@ -536,7 +531,7 @@ static void check_transfer_corners(void)
     IS(all_are(vram.at + 0x1FF0, 16, FILL) && vram.at[0x2000] == 0, true);
 
     /* fresh: FFF0..FFFF to 9FF0..9FFF */
-    start_mbc1(true);
+    start_one(true);
     IS(wr(0xFFF0, 0x99), POUCH_DONE);
     IS(wr(0xFF55, 0x00), POUCH_DONE);
     IS(vram.at[0x1FF0], 0x99);
@@ -544,7 +539,7 @@ static void check_transfer_corners(void)
     IS(field(DESTINATION, 16), 0xA000);
 
     /* over the end of video memory: 16 bytes land, save and log are untouched */
-    start_mbc1(true);
+    start_one(true);
     IS(wr(0x0000, 0x0A), POUCH_DONE);
     IS(wr(0xFF51, 0x40), POUCH_DONE);
     IS(wr(0xFF52, 0x10), POUCH_DONE);
@@ -557,7 +552,7 @@ static void check_transfer_corners(void)
     IS(field(DESTINATION, 16), 0xA010);
 }
 
-static void check_other_corners(void)
+static void check_mapper_corners(void)
 {
     start(POUCH_MBC1, 4, 0, false, 0);
     IS(wr(0x2000, 0x10), POUCH_DONE);
@@ -568,27 +563,46 @@ static void check_other_corners(void)
     IS(wr(0x4000, 1), POUCH_DONE);
     IS(wr(0x2000, 0), POUCH_DONE);
     IS(rd(0x4000), 33);
-    IS(field(ROM_BANK, 7), 33);
+    IS(field(ROM_BANK, 9), 33);
+
+    /* Mbc5: any bank, 0 too, of nine bits; four RAM banks, of which 4 is 0 again */
+    start(POUCH_MBC5, 512, 3, false, 2 * POUCH_RECORD_LEN);
+    IS(rd(0x4000), 1);
+    IS(wr(0x2000, 0x00), POUCH_DONE);
+    IS(rd(0x4000) == 0 && rd(0x4001) == 0, true);
+    IS(wr(0x3000, 0xFF), POUCH_DONE);
+    IS(rd(0x4000) == 0 && rd(0x4001) == 1, true);
+    IS(field(ROM_BANK, 9), 256);
+    IS(wr(0x0000, 0x0A), POUCH_DONE);
+    IS(wr(0x4000, 3), POUCH_DONE);
+    IS(wr(0xA001, 0x77), POUCH_DONE);
+    IS(wr(0x4000, 4), POUCH_DONE);
+    IS(wr(0xA001, 0x88), POUCH_DONE);
+    IS(memcmp(log_.at, "\xE0\x01\x77\x80\x01\x88", 2 * POUCH_RECORD_LEN), 0);
+    IS(save.at[3 * 8192 + 1] == 0x77 && save.at[1] == 0x88, true);
 
     start(POUCH_MBC2, 2, 0, false, POUCH_RECORD_LEN);
     IS(wr(0x0000, 0x0A), POUCH_DONE);
     IS(wr(0xA000, 0xAB), POUCH_DONE);
     IS(save.at[0], 0x0B);
     IS(memcmp(log_.at, "\x80\x00\x0B", POUCH_RECORD_LEN), 0);
+}
 
-    start_mbc1(false);
+static void check_other_corners(void)
+{
+    start_one(false);
     IS(wr(0x0000, 0x0A), POUCH_DONE);
     IS(wr(0xB234, 0x56), POUCH_DONE);
     IS(memcmp(log_.at, "\x92\x34\x56", POUCH_RECORD_LEN), 0);
 
-    start_mbc1(true);
+    start_one(true);
     IS(wr(0xFF68, 0x80), POUCH_DONE);
     IS(wr(0xFF69, 0x1F), POUCH_DONE);
     IS(wr(0xFF69, 0x7C), POUCH_DONE);
     IS(field(BACKGROUND, 15), 31 << 10 | 0 << 5 | 31);
     IS(rd(0xFF68), 0xC2);
 
-    start_mbc1(false);
+    start_one(false);
     IS(pouch_press(LEND(image), POUCH_A), POUCH_DONE);
     IS(pouch_press(LEND(image), POUCH_UP), POUCH_DONE);
     IS(pouch_update_joypad(LEND(image)), POUCH_DONE);
@@ -601,7 +615,7 @@ static void check_mapper(void)
 {
     uint8_t byte = 0;
     uint32_t answer = 1;
-    start_mbc1(false);
+    start_one(false);
     IS(pouch_mapper_write(LEND(image), 0xB234, 0x56, &answer), POUCH_DONE);
     IS(answer, 0);
     IS(pouch_mapper_read(LEND(image), LEND(rom), LEND(save), 0xB234, &byte), POUCH_DONE);
@@ -618,25 +632,29 @@ static void check_mapper(void)
 
 int main(void)
 {
-    check_memories();
-    check_read_block();
-    check_mapper();
-    check_interrupts();
-    check_buttons();
-    check_screen();
-    check_one_number();
-    check_turned_off();
-    check_shared_numbers();
-    check_speed();
-    check_colors();
-    check_oam();
+    for (size_t i = 0; i < sizeof with_save / sizeof *with_save; i++) {
+        one = &with_save[i];
+        check_memories();
+        check_read_block();
+        check_mapper();
+        check_interrupts();
+        check_buttons();
+        check_screen();
+        check_one_number();
+        check_turned_off();
+        check_shared_numbers();
+        check_speed();
+        check_colors();
+        check_oam();
+        check_blocks();
+        check_log();
+        check_timer_corners();
+        check_cycles_to_overflow();
+        check_transfer_corners();
+        check_other_corners();
+    }
+    check_mapper_corners();
     check_sprites_from_rom();
     check_version();
-    check_blocks();
-    check_log();
-    check_timer_corners();
-    check_cycles_to_overflow();
-    check_transfer_corners();
-    check_other_corners();
     return report("calls");
 }

@@ -1,5 +1,5 @@
-/* Checks of pouch_bus.h: the journal holds every stored byte once and in order, whatever the log's length and however badly the file takes it, and recovery
- * from it gives the save, also from a journal longer than a log can be, or torn. */
+/* Checks of pouch_bus.h: the journal holds every stored byte once and in order, whatever the mapper and the log's length and however badly the file takes it,
+ * and recovery from it gives the save, also from a journal longer than a log can be, or torn. */
 #define _POSIX_C_SOURCE 200809L
 #include "record.h"
 #include <pouch_bus.h>
@@ -13,7 +13,19 @@
 
 enum { WRITES = 30000 };
 
-static uint8_t rom[2 * POUCH_ROM_BANK_LEN], vram[POUCH_VRAM_LEN_MONOCHROME], wram[POUCH_WRAM_LEN_MONOCHROME], save[POUCH_SAVE_LEN_CODE_2];
+/* The cartridges: with four save banks the list goes over all of them. */
+static const struct cartridge {
+    uint8_t kind;
+    uint16_t banks;
+    uint8_t code;
+    size_t save_len;
+} cartridges[] = {
+    {POUCH_MBC1, 2, 2, POUCH_SAVE_LEN_CODE_2}, {POUCH_MBC5, 2, 2, POUCH_SAVE_LEN_CODE_2}, {POUCH_MBC5, 8, 3, POUCH_SAVE_LEN_CODE_3},
+    {POUCH_MBC5, 512, 3, POUCH_SAVE_LEN_CODE_3},
+};
+static const struct cartridge *here = cartridges;
+
+static uint8_t rom[512 * POUCH_ROM_BANK_LEN], vram[POUCH_VRAM_LEN_MONOCHROME], wram[POUCH_WRAM_LEN_MONOCHROME], save[POUCH_SAVE_LEN_CODE_3];
 static uint8_t save_log[POUCH_LOG_LEN_MAX], sound[POUCH_SOUND_LEN];
 static uint8_t journal[WRITES * POUCH_RECORD_LEN + 1], records[WRITES * POUCH_RECORD_LEN], recovered[sizeof save];
 
@@ -21,14 +33,14 @@ static void require(bool holds, const char *what)
 {
     if (holds)
         return;
-    fprintf(stderr, "journal: %s\n", what);
+    fprintf(stderr, "journal: %s; mapper %d, N %d, code %d\n", what, here->kind, here->banks, here->code);
     exit(1);
 }
 
 /* Write i of the test's list, and its record. */
 static uint16_t at(uint32_t i)
 {
-    return (uint16_t)(i * 4093 % sizeof save);
+    return (uint16_t)(i * 4093 % here->save_len);
 }
 
 static uint8_t value(uint32_t i)
@@ -39,7 +51,8 @@ static uint8_t value(uint32_t i)
 static uint8_t write_number(struct pouch_bus *bus, uint32_t i)
 {
     put_record(records + (size_t)i * POUCH_RECORD_LEN, at(i), value(i));
-    return pouch_bus_write(bus, (uint16_t)(0xA000 + at(i)), value(i));
+    require(pouch_bus_write(bus, 0x4000, (uint8_t)(at(i) / 8192)) == POUCH_DONE, "the save's bank");
+    return pouch_bus_write(bus, (uint16_t)(0xA000 + at(i) % 8192), value(i));
 }
 
 /* Lets files of this process grow to so many bytes: a longer write is cut there. */
@@ -56,13 +69,15 @@ static void allow(rlim_t len)
 static void run(const char *path, size_t log_len, uint32_t writes, uint32_t pace, uint32_t trouble)
 {
     struct pouch_bus bus;
-    pouch_bus_lend(&bus, rom, sizeof rom, vram, sizeof vram, wram, sizeof wram, save, sizeof save, save_log, log_len, sound);
+    const size_t rom_len = (size_t)here->banks * POUCH_ROM_BANK_LEN, save_len = here->save_len;
+    pouch_bus_lend(&bus, rom, rom_len, vram, sizeof vram, wram, sizeof wram, save, save_len, save_log, log_len, sound);
     memset(save, 0, sizeof save);
     memset(recovered, 0, sizeof recovered);
     int file = open(path, O_RDWR | O_CREAT | O_TRUNC | O_APPEND, 0644);
     require(file >= 0, path);
     require(pouch_bus_write(&bus, 0xC000, 1) == POUCH_OUT_OF_RANGE && !pouch_bus_keep(&bus, file), "a bus that is lent and not yet fresh is refused");
-    require(pouch_bus_fresh(&bus, POUCH_MBC1, 2, 2, false) == POUCH_DONE && pouch_bus_write(&bus, 0x0000, 0x0A) == POUCH_DONE, "fresh bus");
+    require(pouch_bus_fresh(&bus, here->kind, here->banks, here->code, false) == POUCH_DONE, "fresh bus");
+    require(pouch_bus_write(&bus, 0x0000, 0x0A) == POUCH_DONE, "the save is on");
     for (uint32_t i = 0; i < writes; i++) {
         if (write_number(&bus, i) == POUCH_NO_ROOM) {
             require(pouch_bus_keep(&bus, file), "keep after number 2");
@@ -81,7 +96,7 @@ static void run(const char *path, size_t log_len, uint32_t writes, uint32_t pace
     size_t len = (size_t)writes * POUCH_RECORD_LEN;
     require(pread(file, journal, sizeof journal, 0) == (ssize_t)len, "the journal's length");
     require(memcmp(journal, records, len) == 0, "the journal's bytes");
-    require(pouch_bus_recover(recovered, sizeof recovered, journal, len) == POUCH_DONE, "recovery");
+    require(pouch_bus_recover(recovered, save_len, journal, len) == POUCH_DONE, "recovery");
     require(memcmp(recovered, save, sizeof save) == 0, "the recovered save");
     close(file);
 }
@@ -102,7 +117,7 @@ static void run_torn(size_t len)
         memcpy(torn, journal, n);
         memset(torn + n, 0, len - n);
         memset(recovered, 0, sizeof recovered);
-        require(pouch_bus_recover(recovered, sizeof recovered, torn, len) == POUCH_DONE, "recovery from a torn journal");
+        require(pouch_bus_recover(recovered, here->save_len, torn, len) == POUCH_DONE, "recovery from a torn journal");
         require(memcmp(recovered, stood, sizeof stood) == 0, "the save from a torn journal");
     }
     const size_t one = POUCH_RECORD_LEN, two = 2 * one;
@@ -119,11 +134,14 @@ int main(int count, char **words)
 {
     require(count == 2, "usage: journal FILE");
     signal(SIGXFSZ, SIG_IGN);
-    for (size_t log_len = 4 * POUCH_RECORD_LEN; log_len < 40; log_len++)
-        run(words[1], log_len, 60, 1000, 0); /* kept after number 2 alone */
-    run_torn(60 * POUCH_RECORD_LEN);
-    run(words[1], 4095, 3000, 10, 7);
-    run(words[1], POUCH_LOG_LEN_MAX, WRITES, 5000, 0);
+    for (size_t i = 0; i < sizeof cartridges / sizeof *cartridges; i++) {
+        here = &cartridges[i];
+        for (size_t log_len = 4 * POUCH_RECORD_LEN; log_len < 40; log_len++)
+            run(words[1], log_len, 60, 1000, 0); /* kept after number 2 alone */
+        run_torn(60 * POUCH_RECORD_LEN);
+        run(words[1], 4095, 3000, 10, 7);
+        run(words[1], POUCH_LOG_LEN_MAX, WRITES, 5000, 0);
+    }
     puts("journal: every record once and in order, and recovered");
     return 0;
 }

@@ -12,9 +12,10 @@ struct lent {
     size_t len;
 };
 
-enum { GUARD_LEN = 64, GUARD = 0xC5, FILL = 0x5A };
+enum { GUARD_LEN = 64, LAST_GUARD_LEN = 65536, GUARD = 0xC5, FILL = 0x5A };
 
-static uint8_t arena[128 * POUCH_ROM_BANK_LEN + 200000];
+static uint8_t arena[512 * POUCH_ROM_BANK_LEN + 250000];
+static size_t arena_len; /* up to the end of the last guard */
 static struct lent image, rom, vram, wram, save, log_, sound;
 static struct lent *const lent[] = {&rom, &vram, &wram, &save, &log_, &sound, &image};
 
@@ -23,23 +24,36 @@ static struct lent *const lent[] = {&rom, &vram, &wram, &save, &log_, &sound, &i
 #define READS LEND(image), LEND(rom), LEND(vram), LEND(wram), LEND(save), LEND(sound)
 #define WRITES LEND(image), LEND(rom), LEND(vram), LEND(wram), LEND(save), LEND(log_), LEND(sound)
 
+/* What a bus is made for, and the one that it is made for now. */
+struct cartridge {
+    uint8_t kind;
+    uint16_t banks;
+    uint8_t code;
+};
+
+static struct cartridge here;
+
+enum { SHOWN = 50 }; /* failures that are told; the others are counted */
+
 static unsigned checks, failures;
 
 static inline void check(long got, long wanted, const char *what, const char *of, int line)
 {
     checks++;
-    if (got == wanted)
+    if (got == wanted || failures++ >= SHOWN)
         return;
-    failures++;
-    fprintf(stderr, "line %d: %s%s is %ld (hex %lX), not %ld (hex %lX)\n", line, of, what, got, (unsigned long)got, wanted, (unsigned long)wanted);
+    fprintf(
+        stderr, "line %d: %s%s is %ld (hex %lX), not %ld (hex %lX); mapper %d, N %d, code %d\n", line, of, what, got, (unsigned long)got, wanted,
+        (unsigned long)wanted, here.kind, here.banks, here.code);
 }
 
 #define IS(got, wanted) check((long)(got), (long)(wanted), #got, "", __LINE__)
 
-/* Lays the memories out for a cartridge. The first byte of each ROM bank is the bank's number. */
+/* Lays the memories out for a cartridge. The first byte of each ROM bank is the bank's number, the second its ninth bit. */
 static inline void lay_out(uint8_t kind, uint16_t banks, uint8_t code, bool colour, size_t log_len)
 {
     const size_t saves[] = {POUCH_SAVE_LEN_CODE_0, 0, POUCH_SAVE_LEN_CODE_2, POUCH_SAVE_LEN_CODE_3};
+    here = (struct cartridge){kind, banks, code};
     rom.len = (size_t)banks * POUCH_ROM_BANK_LEN;
     vram.len = colour ? POUCH_VRAM_LEN_COLOUR : POUCH_VRAM_LEN_MONOCHROME;
     wram.len = colour ? POUCH_WRAM_LEN_COLOUR : POUCH_WRAM_LEN_MONOCHROME;
@@ -47,16 +61,20 @@ static inline void lay_out(uint8_t kind, uint16_t banks, uint8_t code, bool colo
     log_.len = log_len;
     sound.len = POUCH_SOUND_LEN;
     image.len = POUCH_IMAGE_LEN;
-    memset(arena, GUARD, sizeof arena);
     uint8_t *at = arena;
     for (int i = 0; i < 7; i++) {
+        memset(at, GUARD, GUARD_LEN);
         at += GUARD_LEN;
         lent[i]->at = at;
         memset(at, FILL, lent[i]->len);
         at += lent[i]->len;
     }
-    for (uint16_t bank = 0; bank < banks; bank++)
+    memset(at, GUARD, LAST_GUARD_LEN);
+    arena_len = (size_t)(at - arena) + LAST_GUARD_LEN;
+    for (uint16_t bank = 0; bank < banks; bank++) {
         rom.at[(size_t)bank * POUCH_ROM_BANK_LEN] = (uint8_t)bank;
+        rom.at[(size_t)bank * POUCH_ROM_BANK_LEN + 1] = (uint8_t)(bank >> 8);
+    }
 }
 
 static inline uint8_t fresh(uint8_t kind, uint16_t banks, uint8_t code, bool colour)
@@ -70,14 +88,40 @@ static inline void start(uint8_t kind, uint16_t banks, uint8_t code, bool colour
     IS(fresh(kind, banks, code, colour), POUCH_DONE);
 }
 
-static inline void start_mbc1(bool colour)
+/* Cartridges that show a save of 8,192 bytes at A000 once 0000 is given 0A. What a list of calls does with one of them it does with each. */
+static const struct cartridge with_save[] = {{POUCH_MBC1, 2, 2}, {POUCH_MBC5, 2, 2}, {POUCH_MBC5, 64, 2}, {POUCH_MBC5, 512, 2}};
+static const struct cartridge *one = with_save;
+
+static inline void start_one(bool colour)
 {
-    start(POUCH_MBC1, 2, 2, colour, 4095);
+    start(one->kind, one->banks, one->code, colour, 4095);
 }
 
 static inline bool all_are(const uint8_t *bytes, size_t len, uint8_t byte)
 {
     return len == 0 || (bytes[0] == byte && memcmp(bytes, bytes + 1, len - 1) == 0);
+}
+
+/* Fields of the image: the mapper's part, by the bit that each starts at, most significant first */
+
+enum {
+    MAPPER = 5283, LOG_BANKS = 5285, CODE = 5289, ROM_BANK = 5291, RAM_BANK = 5300, BANKING = 5302, ENABLED = 5303, HIGH = 5304, LOG_USE = 5306, ZEROS = 5322
+};
+
+static inline uint32_t field(unsigned at, unsigned width)
+{
+    uint32_t bits = 0;
+    for (; width > 0; width--, at++)
+        bits = bits << 1 | (image.at[at / 8] >> (7 - at % 8) & 1u);
+    return bits;
+}
+
+static inline void put_field(uint8_t *bytes, unsigned at, unsigned width, uint32_t to)
+{
+    for (; width > 0; width--, at++) {
+        const uint8_t bit = (uint8_t)(0x80 >> at % 8);
+        bytes[at / 8] = (uint8_t)(to >> (width - 1) & 1 ? bytes[at / 8] | bit : bytes[at / 8] & ~bit);
+    }
 }
 
 /* The calls by short names, with the memories as they stand */

@@ -1,18 +1,8 @@
 /* What refuses each entry of pouchrattle.h: which numbers, in which order, and that a refused call gives 0 and changes no byte: neither of what is lent nor
  * of the guards before and behind it. */
-#include "lent.h"
+#include "refused.h"
 
 enum { ROM = 1, VRAM = 2, WRAM = 4, SAVE = 8, LOG = 16, SOUND = 32, READ = ROM | VRAM | WRAM | SAVE | SOUND, WRITE = READ | LOG }; /* bits of lent[] */
-
-static uint8_t before[sizeof arena];
-
-/* Refused calls: `call` must give the number and leave every byte of the arena. */
-#define REFUSED(call, number)                                      \
-    do {                                                           \
-        memcpy(before, arena, sizeof arena);                       \
-        IS(call, number);                                          \
-        IS(memcmp(before, arena, sizeof arena), 0);                \
-    } while (0)
 
 /* What refuses all entries alike: each is called with arguments that are in range */
 
@@ -158,10 +148,10 @@ static const struct entry {
 /* The entry is refused by the number, gives 0 and changes nothing. */
 static void refuses(const struct entry *entry, uint8_t number, int line)
 {
-    memcpy(before, arena, sizeof arena);
+    memcpy(before, arena, arena_len);
     check(entry->call(), number, "the number", entry->name, line);
     check(value, 0, "the value", entry->name, line);
-    check(memcmp(before, arena, sizeof arena), 0, "what is changed", entry->name, line);
+    check(memcmp(before, arena, arena_len), 0, "what is changed", entry->name, line);
 }
 
 #define REFUSES(entry, number) refuses(entry, number, __LINE__)
@@ -169,26 +159,26 @@ static void refuses(const struct entry *entry, uint8_t number, int line)
 static void check_entry(const struct entry *entry)
 {
     /* done, within bounds, and what is lent for reading is kept */
-    start_mbc1(false);
-    memcpy(before, arena, sizeof arena);
+    start_one(false);
+    memcpy(before, arena, arena_len);
     check(entry->call(), POUCH_DONE, "the number", entry->name, __LINE__);
     for (int i = 0; i < 7; i++)
         if (lent[i] == &image || lent[i] == &vram || lent[i] == &wram || lent[i] == &save || lent[i] == &log_)
             memcpy(before + (lent[i]->at - arena), lent[i]->at, lent[i]->len);
-    check(memcmp(before, arena, sizeof arena), 0, "what is changed beside", entry->name, __LINE__);
+    check(memcmp(before, arena, arena_len), 0, "what is changed beside", entry->name, __LINE__);
 
     /* the image's length, before anything else is looked at */
-    start_mbc1(false);
+    start_one(false);
     image.len = POUCH_IMAGE_LEN - 1;
     REFUSES(entry, POUCH_WRONG_LENGTH);
-    image.len = 666;
+    image.len = POUCH_IMAGE_LEN + 1;
     REFUSES(entry, POUCH_WRONG_LENGTH);
     image.len = 0;
     REFUSES(entry, POUCH_WRONG_LENGTH);
 
     /* the image's contents: a last bit of 1, then all zero; also with wrong lengths beside */
-    start_mbc1(false);
-    image.at[664] |= 1;
+    start_one(false);
+    image.at[POUCH_IMAGE_LEN - 1] |= 1;
     REFUSES(entry, POUCH_OUT_OF_RANGE);
     memset(image.at, 0, image.len);
     REFUSES(entry, POUCH_OUT_OF_RANGE);
@@ -200,7 +190,7 @@ static void check_entry(const struct entry *entry)
     for (int i = 0; i < 6; i++) {
         if (!(entry->lends & 1 << i))
             continue;
-        start_mbc1(false);
+        start_one(false);
         if (lent[i] != &log_) {
             lent[i]->len--;
             REFUSES(entry, POUCH_WRONG_LENGTH);
@@ -210,7 +200,7 @@ static void check_entry(const struct entry *entry)
             REFUSES(entry, POUCH_WRONG_LENGTH);
             continue;
         }
-        start(POUCH_MBC1, 2, 2, false, POUCH_LOG_LEN_MAX);
+        start(one->kind, one->banks, one->code, false, POUCH_LOG_LEN_MAX);
         check(entry->call(), POUCH_DONE, "the number", entry->name, __LINE__);
         log_.len++;
         REFUSES(entry, POUCH_WRONG_LENGTH);
@@ -219,7 +209,7 @@ static void check_entry(const struct entry *entry)
     }
 
     /* a log's use beyond the lent log is out of range, where a log is lent */
-    start_mbc1(false);
+    start_one(false);
     IS(wr(0x0000, 0x0A), POUCH_DONE);
     IS(wr(0xA000, 1), POUCH_DONE);
     log_.len = 2;
@@ -229,52 +219,80 @@ static void check_entry(const struct entry *entry)
         check(entry->call(), POUCH_DONE, "the number", entry->name, __LINE__);
 }
 
+/* Whether the documents have such a cartridge. */
+static bool is_described(uint8_t kind, uint16_t banks, uint8_t code)
+{
+    const uint16_t most[] = {2, 128, 16, 512};
+    if (kind > POUCH_MBC5 || banks < 2 || banks > most[kind] || (banks & (banks - 1)) != 0)
+        return false;
+    return code == 0 || (kind != POUCH_MBC2 && (code == 2 || code == 3));
+}
+
 static void check_fresh(void)
 {
     /* what it zeroes, and what it keeps */
-    for (int colour = 0; colour < 2; colour++) {
-        lay_out(POUCH_MBC1, 128, 3, colour, 100);
-        memcpy(before, arena, sizeof arena);
-        IS(fresh(POUCH_MBC1, 128, 3, colour), POUCH_DONE);
+    const struct cartridge largest[] = {{POUCH_MBC1, 128, 3}, {POUCH_MBC5, 512, 3}};
+    for (int i = 0; i < 4; i++) {
+        const struct cartridge *c = &largest[i / 2];
+        lay_out(c->kind, c->banks, c->code, i % 2, 100);
+        memcpy(before, arena, arena_len);
+        IS(fresh(c->kind, c->banks, c->code, i % 2), POUCH_DONE);
         IS(all_are(vram.at, vram.len, 0) && all_are(wram.at, wram.len, 0), true);
         memcpy(before + (image.at - arena), image.at, image.len);
         memset(before + (vram.at - arena), 0, vram.len);
         memset(before + (wram.at - arena), 0, wram.len);
-        IS(memcmp(before, arena, sizeof arena), 0);
+        IS(memcmp(before, arena, arena_len), 0);
         IS(ask(pouch_log_used), 0);
     }
-    /* the descriptions that are in range */
-    start(POUCH_ROM_ONLY, 2, 0, false, 0);
-    start(POUCH_ROM_ONLY, 2, 3, false, 0);
-    start(POUCH_MBC1, 64, 0, true, 0);
-    start(POUCH_MBC2, 16, 0, true, 0);
+    /* each description that is in range */
+    unsigned taken = 0;
+    for (uint8_t kind = 0; kind < 5; kind++)
+        for (uint16_t banks = 2; banks <= 512; banks = (uint16_t)(banks * 2))
+            for (uint8_t code = 0; code < 4; code++)
+                if (is_described(kind, banks, code)) {
+                    start(kind, banks, code, banks % 3 == 1, 0);
+                    taken++;
+                }
+    IS(taken, 3 * (1 + 7 + 9) + 4);
+    /* any description, with a length that is wrong: 3 before 4 */
+    const uint8_t kinds[] = {0, 1, 2, 3, 4, 5, 255}, codes[] = {0, 1, 2, 3, 4, 255};
+    unsigned wrong = 0;
+    start_one(false);
+    sound.len--;
+    memcpy(before, arena, arena_len);
+    for (unsigned k = 0; k < sizeof kinds; k++)
+        for (unsigned c = 0; c < sizeof codes; c++)
+            for (unsigned n = 0; n < 65536; n++)
+                wrong += fresh(kinds[k], (uint16_t)n, codes[c], false) !=
+                         (is_described(kinds[k], (uint16_t)n, codes[c]) ? POUCH_WRONG_LENGTH : POUCH_OUT_OF_RANGE);
+    IS(wrong, 0);
+    IS(memcmp(before, arena, arena_len), 0);
     /* the image's length, then the description, then the lengths */
-    start_mbc1(false);
-    image.len = POUCH_IMAGE_LEN - 1;
-    REFUSED(fresh(3, 3, 1, false), POUCH_WRONG_LENGTH);
-    image.len = POUCH_IMAGE_LEN;
-    for (int i = 0; i < 6; i++) { /* 4, and 3 before it */
-        size_t len = lent[i]->len;
-        lent[i]->len = lent[i] == &log_ ? 65536 : len - 1;
-        REFUSED(fresh(POUCH_MBC1, 2, 2, false), POUCH_WRONG_LENGTH);
-        REFUSED(fresh(POUCH_MBC1, 3, 2, false), POUCH_OUT_OF_RANGE);
-        lent[i]->len = len;
+    for (size_t k = 0; k < sizeof with_save / sizeof *with_save; k++) {
+        one = &with_save[k];
+        start_one(false);
+        image.len = POUCH_IMAGE_LEN - 1;
+        REFUSED(fresh(4, 3, 1, false), POUCH_WRONG_LENGTH);
+        image.len = POUCH_IMAGE_LEN;
+        for (int i = 0; i < 6; i++) { /* 4, and 3 before it */
+            size_t len = lent[i]->len;
+            lent[i]->len = lent[i] == &log_ ? 65536 : len - 1;
+            REFUSED(fresh(one->kind, one->banks, 2, false), POUCH_WRONG_LENGTH);
+            REFUSED(fresh(one->kind, 3, 2, false), POUCH_OUT_OF_RANGE);
+            lent[i]->len = len;
+        }
+        REFUSED(fresh(4, one->banks, 2, false), POUCH_OUT_OF_RANGE);
+        REFUSED(fresh(one->kind, one->banks, 2, true), POUCH_WRONG_LENGTH);
+        REFUSED(fresh(one->kind, one->banks, 0, false), POUCH_WRONG_LENGTH);
+        REFUSED(fresh(one->kind, one->banks == 2 ? 4 : 2, 2, false), POUCH_WRONG_LENGTH);
     }
-    REFUSED(fresh(3, 2, 2, false), POUCH_OUT_OF_RANGE);
-    REFUSED(fresh(POUCH_ROM_ONLY, 4, 2, false), POUCH_OUT_OF_RANGE);
-    REFUSED(fresh(POUCH_MBC1, 1, 2, false), POUCH_OUT_OF_RANGE);
-    REFUSED(fresh(POUCH_MBC1, 256, 2, false), POUCH_OUT_OF_RANGE);
-    REFUSED(fresh(POUCH_MBC2, 32, 0, false), POUCH_OUT_OF_RANGE);
-    REFUSED(fresh(POUCH_MBC2, 2, 2, false), POUCH_OUT_OF_RANGE);
-    REFUSED(fresh(POUCH_MBC1, 2, 1, false), POUCH_OUT_OF_RANGE);
-    REFUSED(fresh(POUCH_MBC1, 2, 2, true), POUCH_WRONG_LENGTH);
 }
 
 static void check_numbers(void)
 {
     uint8_t byte = 0xEE;
     /* 1: an index of the write in FF10..FF3F; the write changes nothing */
-    start_mbc1(false);
+    start_one(false);
     IS(wr(0xFF0F, 0), POUCH_DONE);
     IS(wr(0xFF40, 0), POUCH_DONE);
     REFUSED(wr(0xFF10, 0x12), POUCH_OWED);
@@ -285,14 +303,14 @@ static void check_numbers(void)
     IS(pouch_write_word(WRITES, 0xFF40, 0), POUCH_DONE);
 
     /* 2: by index alone, RAM off too; 4 before it */
-    start(POUCH_MBC1, 2, 2, false, POUCH_RECORD_LEN - 1);
+    start(one->kind, one->banks, one->code, false, POUCH_RECORD_LEN - 1);
     REFUSED(wr(0xA000, 1), POUCH_NO_ROOM);
     REFUSED(wr(0xBFFF, 1), POUCH_NO_ROOM);
     IS(wr(0x9FFF, 1), POUCH_DONE);
     IS(wr(0xC000, 1), POUCH_DONE);
     sound.len--;
     REFUSED(wr(0xA000, 1), POUCH_WRONG_LENGTH);
-    start(POUCH_MBC1, 2, 2, false, 3 * POUCH_RECORD_LEN - 1);
+    start(one->kind, one->banks, one->code, false, 3 * POUCH_RECORD_LEN - 1);
     IS(wr(0x0000, 0x0A), POUCH_DONE);
     IS(wr(0xA000, 1), POUCH_DONE); /* a byte less than two records is left: room for a byte, not for a word */
     REFUSED(pouch_write_word(WRITES, 0xA000, 1), POUCH_NO_ROOM);
@@ -305,14 +323,14 @@ static void check_numbers(void)
     IS(wr(0xA000, 1), POUCH_DONE);
 
     /* 3: a use of the log that is no whole records */
-    start_mbc1(false);
+    start_one(false);
     REFUSED(pouch_set_log_used(LEND(image), 1), POUCH_OUT_OF_RANGE);
     REFUSED(pouch_set_log_used(LEND(image), POUCH_LOG_LEN_MAX - 1), POUCH_OUT_OF_RANGE);
     IS(pouch_set_log_used(LEND(image), POUCH_LOG_LEN_MAX), POUCH_DONE);
     REFUSED(wr(0xC000, 1), POUCH_OUT_OF_RANGE); /* beyond the lent log */
 
     /* 4: of the colours, into memory between guards; 3 before it */
-    start_mbc1(true);
+    start_one(true);
     REFUSED(pouch_colors(LEND(image), wram.at, POUCH_COLORS_LEN - 1), POUCH_WRONG_LENGTH);
     REFUSED(pouch_colors(LEND(image), wram.at, POUCH_COLORS_LEN + 1), POUCH_WRONG_LENGTH);
     REFUSED(pouch_colors(LEND(image), wram.at, 0), POUCH_WRONG_LENGTH);
@@ -320,7 +338,7 @@ static void check_numbers(void)
     REFUSED(pouch_colors(LEND(image), wram.at, 0), POUCH_OUT_OF_RANGE);
 
     /* 4: of the sprites, and 3 before it */
-    start_mbc1(true);
+    start_one(true);
     REFUSED(pouch_oam(LEND(image), wram.at, POUCH_OAM_LEN - 1), POUCH_WRONG_LENGTH);
     REFUSED(pouch_oam(LEND(image), wram.at, POUCH_OAM_LEN + 1), POUCH_WRONG_LENGTH);
     REFUSED(pouch_oam(LEND(image), wram.at, 0), POUCH_WRONG_LENGTH);
@@ -330,14 +348,14 @@ static void check_numbers(void)
     /* 4: a block longer than all there is to read; 3 before it */
     static uint8_t out[POUCH_BLOCK_LEN_MAX + 1];
     memset(out, FILL, sizeof out);
-    start_mbc1(false);
+    start_one(false);
     REFUSED(pouch_read_block(READS, 0x0000, out, sizeof out), POUCH_WRONG_LENGTH);
     memset(image.at, 0, image.len);
     REFUSED(pouch_read_block(READS, 0x0000, out, sizeof out), POUCH_OUT_OF_RANGE);
     IS(all_are(out, sizeof out, FILL), true);
 
     /* 5; 3 before it */
-    start_mbc1(false);
+    start_one(false);
     IS(pouch_update_timer(LEND(image), 65536), POUCH_DONE);
     REFUSED(pouch_update_timer(LEND(image), 65537), POUCH_TOO_MANY_CYCLES);
     REFUSED(pouch_update_timer(LEND(image), 0xFFFFFFFF), POUCH_TOO_MANY_CYCLES);
@@ -347,7 +365,7 @@ static void check_numbers(void)
     /* 6; 4 before it; a cut record is ignored */
     const uint8_t sound_records[] = {0x80, 0x00, 0x11, 0x9F, 0xFF, 0x22, 0x80, 0x00}, no_bit[] = {0x80, 0x00, 0x11, 0x00, 0x00, 0x22},
                   outside[] = {0x80, 0x00, 0x11, 0xA0, 0x00, 0x22};
-    start_mbc1(false);
+    start_one(false);
     REFUSED(pouch_recover(LEND(save), no_bit, sizeof no_bit), POUCH_DAMAGED);
     REFUSED(pouch_recover(LEND(save), outside, sizeof outside), POUCH_DAMAGED);
     REFUSED(pouch_recover(save.at, 8191, outside, sizeof outside), POUCH_WRONG_LENGTH);
@@ -363,7 +381,7 @@ static void check_numbers(void)
     IS(all_are(save.at + 1, 8190, FILL) && all_are(save.at + 8192, GUARD_LEN, GUARD), true);
 
     /* 7; a length by 4 before it */
-    start_mbc1(false);
+    start_one(false);
     REFUSED(pouch_press(LEND(image), 8), POUCH_OUTSIDE);
     REFUSED(pouch_release(LEND(image), 255), POUCH_OUTSIDE);
     REFUSED(pouch_request_interrupt(LEND(image), 5), POUCH_OUTSIDE);
@@ -374,7 +392,7 @@ static void check_numbers(void)
     IS(value, 0);
     REFUSED(pouch_read_cgb_lcd_ram(LEND(image), LEND(vram), 0x8000, 1, &byte), POUCH_OUTSIDE);
     IS(byte, 0);
-    start_mbc1(true);
+    start_one(true);
     REFUSED(pouch_read_cgb_lcd_ram(LEND(image), LEND(vram), 0x8000, 2, &byte), POUCH_OUTSIDE);
     REFUSED(pouch_read_cgb_lcd_ram(LEND(image), LEND(vram), 0x7FFF, 0, &byte), POUCH_OUTSIDE);
     REFUSED(pouch_read_cgb_lcd_ram(LEND(image), LEND(vram), 0xA000, 0, &byte), POUCH_OUTSIDE);
@@ -390,9 +408,12 @@ static void check_numbers(void)
 
 int main(void)
 {
-    for (size_t i = 0; i < sizeof entries / sizeof entries[0]; i++)
-        check_entry(&entries[i]);
     check_fresh();
-    check_numbers();
+    for (size_t k = 0; k < sizeof with_save / sizeof *with_save; k++) {
+        one = &with_save[k];
+        for (size_t i = 0; i < sizeof entries / sizeof entries[0]; i++)
+            check_entry(&entries[i]);
+        check_numbers();
+    }
     return report("refusals");
 }
