@@ -1,6 +1,6 @@
 //! What the number of a call says.
 
-use crate::mmu::cartridge::{MbcType, BANK_LEN, GAMEBOY_CORE_LEN};
+use crate::mmu::cartridge::{MbcType, BANK_LEN, GAMEBOY_CORE_LEN, GAMEBOY_CORE_LEN_MBC5};
 use crate::RECORD_LEN;
 use std::error::Error;
 use std::fmt;
@@ -81,6 +81,7 @@ impl fmt::Display for OutOfRange {
                     MbcType::RomOnly => "2",
                     MbcType::Mbc1 => "2, 4, 8, 16, 32, 64 or 128",
                     MbcType::Mbc2 => "2, 4, 8 or 16",
+                    MbcType::Mbc5 => "2, 4, 8, 16, 32, 64, 128, 256 or 512",
                 };
                 write!(f, "the ROM has {} bytes, and {mbc_type:?} takes {banks} banks of {}", Grouped(found), Grouped(BANK_LEN))
             }
@@ -104,12 +105,24 @@ pub struct WrongLength {
     pub expected: Expected,
 }
 
+impl WrongLength {
+    /// What is wrong, without a hint.
+    pub(crate) fn lengths(&self, f: &mut fmt::Formatter) -> fmt::Result {
+        write!(f, "the {} has {} bytes, and must have {}", self.memory, Grouped(self.found), self.expected)
+    }
+}
+
 impl fmt::Display for WrongLength {
     fn fmt(&self, f: &mut fmt::Formatter) -> fmt::Result {
-        write!(f, "the {} has {} bytes, and must have {}", self.memory, Grouped(self.found), self.expected)?;
+        self.lengths(f)?;
         // The lengths of the cartridges for which gameboy_core keeps more than there is.
-        let cut = [Expected::Exactly(0), Expected::Exactly(8192)].contains(&self.expected);
-        if self.memory == Which::Save && self.found == GAMEBOY_CORE_LEN && cut {
+        let longer: &[usize] = match self.found {
+            GAMEBOY_CORE_LEN => &[0, 8192],
+            GAMEBOY_CORE_LEN_MBC5 => &[0, 8192, 32768],
+            _ => &[],
+        };
+        let cut = longer.iter().any(|bytes| self.expected == Expected::Exactly(*bytes));
+        if self.memory == Which::Save && cut {
             f.write_str(": if gameboy_core kept it, Cartridge::save_from_gameboy_core cuts it")?;
         }
         Ok(())

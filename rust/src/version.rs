@@ -3,7 +3,7 @@
 use crate::entries;
 use std::fmt;
 
-/// A version of the library, and what it says of what is stored: pouch_version, taken apart. Shown as 1.0.0.
+/// A version of the library, and what it says of what is stored: pouch_version, taken apart. Shown as 2.0.0.
 #[derive(Clone, Copy, Debug, PartialEq, Eq)]
 pub struct Version {
     /// The first number.

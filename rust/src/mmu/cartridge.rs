@@ -8,8 +8,9 @@ use std::fmt;
 /// The bytes of a ROM bank.
 pub(crate) const BANK_LEN: usize = 16384;
 
-/// The bytes that gameboy_core keeps for every RomOnly and Mbc1 cartridge.
+/// The bytes that gameboy_core keeps for every RomOnly and Mbc1 cartridge, and for every Mbc5 one.
 pub(crate) const GAMEBOY_CORE_LEN: usize = 32768;
+pub(crate) const GAMEBOY_CORE_LEN_MBC5: usize = 131_072;
 
 /// The mappers of this bus, by their numbers.
 #[derive(Clone, Copy, Debug, PartialEq, Eq)]
@@ -21,12 +22,15 @@ pub enum MbcType {
     Mbc1 = 1,
     /// The second: up to 16 ROM banks, and 512 half bytes of RAM within the mapper.
     Mbc2 = 2,
+    /// The fifth: up to 512 ROM banks, of which the first too can stand at 4000, and up to 4 banks of RAM.
+    Mbc5 = 3,
 }
 
 /// A cartridge's ROM, and its description. `Memory::new` checks it.
 #[derive(Clone, PartialEq, Eq)]
 pub struct Cartridge {
-    /// Whole banks of 16,384 bytes, a power of two of them: 2 with RomOnly, 2 to 128 with Mbc1, 2 to 16 with Mbc2.
+    /// Whole banks of 16,384 bytes, a power of two of them: 2 with RomOnly, 2 to 128 with Mbc1, 2 to 16 with Mbc2, 2 to 512 with
+    /// Mbc5.
     pub rom: Vec<u8>,
     /// The mapper.
     pub mbc_type: MbcType,
@@ -46,8 +50,8 @@ impl Cartridge {
     }
 
     /// The save within what gameboy_core keeps for this cartridge, for `Memory::new`. That crate keeps 32,768 bytes for every RomOnly and
-    /// Mbc1 cartridge and makes them FF; with RAM code 2 a game reaches the first 8,192, with code 0 none. What is behind them is cut. A save
-    /// that has the cartridge's own length is given as it is.
+    /// Mbc1 cartridge, 131,072 for every Mbc5 one, and makes them FF; with RAM code 2 a game reaches the first 8,192, with code 3 the first
+    /// 32,768, with code 0 none. What is behind them is cut. A save that has the cartridge's own length is given as it is.
     ///
     /// Refused, and nothing cut, by `NotCut::WrongLength` for any other length; and by `NotCut::Used` where a byte behind them is not as it was
     /// made: that is no save of this cartridge, and cutting it would lose a player's bytes. Hosts make them FF as gameboy_core does, or 00.
@@ -67,7 +71,12 @@ impl Cartridge {
         if ram.len() == len {
             return Ok(ram);
         }
-        if ram.len() != GAMEBOY_CORE_LEN || self.mbc_type == MbcType::Mbc2 {
+        let kept = match self.mbc_type {
+            MbcType::RomOnly | MbcType::Mbc1 => GAMEBOY_CORE_LEN,
+            MbcType::Mbc2 => len,
+            MbcType::Mbc5 => GAMEBOY_CORE_LEN_MBC5,
+        };
+        if ram.len() != kept {
             return Err(NotCut::WrongLength(WrongLength { memory: Which::Save, found: ram.len(), expected: Expected::Exactly(len) }));
         }
         let (save, rest) = ram.split_at(len);
@@ -103,7 +112,7 @@ pub enum NotCut {
 impl fmt::Display for NotCut {
     fn fmt(&self, f: &mut fmt::Formatter) -> fmt::Result {
         match self {
-            NotCut::WrongLength(what) => what.fmt(f),
+            NotCut::WrongLength(what) => what.lengths(f),
             NotCut::Used { at, byte } => {
                 write!(f, "this is a save of another cartridge: byte {} is {byte:02X}, which this one does not reach", Grouped(*at))
             }

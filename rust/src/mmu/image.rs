@@ -1,9 +1,9 @@
 //! The image, and what an engine's drawing part takes from it.
 
 /// The bytes of an image: POUCH_IMAGE_LEN.
-pub const IMAGE_LEN: usize = 665;
+pub const IMAGE_LEN: usize = 666;
 
-/// A state of the bus, as document 01 lays it out. Plain data: a host may store it and put it back by `Memory::set_image`, which checks it.
+/// A state of the bus, as documents 01 and 02 lay it out. Plain data: a host may store it and put it back by `Memory::set_image`, which checks it.
 pub type Image = [u8; IMAGE_LEN];
 
 /// The numbers of the screen that the bus and the host's drawing part share. The first four are fields of the Rust's `Memory`, the others

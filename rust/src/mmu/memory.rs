@@ -79,8 +79,8 @@ impl fmt::Debug for Memory {
 /// Building, and what stands around the bus.
 impl Memory {
     /// A fresh bus over a save as the host has kept it, with the longest log. Refused by `OutOfRange` for a description that no cartridge of
-    /// this bus has, and by `WrongLength` for a ROM that is not whole banks, or a save of another length than `Cartridge::save_len`; one of
-    /// 32,768 bytes that gameboy_core kept is cut by `Cartridge::save_from_gameboy_core`.
+    /// this bus has, and by `WrongLength` for a ROM that is not whole banks, or a save of another length than `Cartridge::save_len`; a
+    /// longer one that gameboy_core kept is cut by `Cartridge::save_from_gameboy_core`.
     pub fn new(cartridge: Cartridge, is_cgb: bool, save: &[u8]) -> Result<Memory, Refusal> {
         Memory::with_log(cartridge, is_cgb, save, LONGEST_LOG)
     }
@@ -255,8 +255,8 @@ impl Memory {
     /// The library tells which lengths go with an image in its ranges: there is one that it takes.
     #[cold]
     fn of_other_lengths(&self, image: &Image) -> Refusal {
-        let zeros = vec![0; 128 * BANK_LEN];
-        for banks in [2, 4, 8, 16, 32, 64, 128] {
+        let zeros = vec![0; 512 * BANK_LEN];
+        for banks in [2, 4, 8, 16, 32, 64, 128, 256, 512] {
             for save in [0, 512, 8192, 32768] {
                 for (vram, wram) in [MONOCHROME, COLOUR] {
                     let rom = banks * BANK_LEN;
@@ -289,6 +289,7 @@ fn takes_banks(mbc_type: MbcType, banks: usize) -> bool {
         MbcType::RomOnly => 2,
         MbcType::Mbc1 => 128,
         MbcType::Mbc2 => 16,
+        MbcType::Mbc5 => 512,
     };
     (2..=most).contains(&banks) && banks.is_power_of_two()
 }
