@@ -128,9 +128,9 @@ fn place(save: &[u8]) -> usize {
     pass * 8192 + (pass * 8192..(pass + 1) * 8192).take_while(made).count()
 }
 
-/// Plays so many frames, and gives how many save writes the game has made, with those of the sessions before.
-pub fn play(folder: &Path, frames: usize) -> Outcome<usize> {
-    let cartridge = Cartridge { rom: vec![0; 32768], mbc_type: MbcType::Mbc1, ram_size: 2 };
+/// Plays so many frames, and gives how many save writes the game has made, with those of the sessions before. The mapper is one that enables RAM.
+pub fn play(folder: &Path, mbc_type: MbcType, frames: usize) -> Outcome<usize> {
+    let cartridge = Cartridge { rom: vec![0; 32768], mbc_type, ram_size: 2 };
     let save = take_up(folder, &cartridge)?;
     let saved = place(&save);
     let mut engine = Engine {
@@ -159,6 +159,6 @@ fn main() -> Outcome<()> {
     let [_, folder, frames] = &words[..] else {
         return Err("usage: engine FOLDER FRAMES".into());
     };
-    play(Path::new(folder), frames.parse()?)?;
+    play(Path::new(folder), MbcType::Mbc1, frames.parse()?)?;
     Ok(())
 }

@@ -1,5 +1,6 @@
 //! The public constants and the paths of the Rust's modules, by which an engine names them.
 
+use pouchrattle::MbcType;
 use std::collections::BTreeMap;
 use std::io::Write;
 use std::{env, fs, io};
@@ -16,7 +17,13 @@ fn the_rusts() {
     let ours = fs::read_to_string(format!("{HERE}/src/mmu/mod.rs")).unwrap();
     let folder = env::var("GAMEBOY_CORE_SRC").unwrap_or(format!("{HERE}/../../shared/docs/src"));
     match fs::read_to_string(format!("{folder}/src/mmu/mod.rs")) {
-        Ok(theirs) => assert_eq!(constants(&ours), constants(&theirs)),
+        Ok(theirs) => {
+            assert_eq!(constants(&ours), constants(&theirs));
+            // It makes the mapper of each name.
+            for mbc_type in [MbcType::RomOnly, MbcType::Mbc1, MbcType::Mbc2, MbcType::Mbc5] {
+                assert!(theirs.contains(&format!("MbcType::{mbc_type:?} =>")), "{mbc_type:?}");
+            }
+        }
         // Not by println!, whose words a test that passes does not show; by one write, as tests run side by side. rust/test counts them.
         Err(error) => {
             let words = format!("\nskipped: the_rusts, of tests/constants.rs: {folder}: {error}\n");

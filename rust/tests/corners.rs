@@ -2,7 +2,7 @@
 
 mod common;
 
-use common::{bus, colour, monochrome, rom_byte, with_save, write};
+use common::{bus, colour, each_mapper, monochrome, rom_byte, with_saves, write};
 use pouchrattle::{
     Button, CGBColor, Controller, Expected, HostNumbers, Interrupt, MbcType, Memory, Refusal, Timer, Which, Written, WrongLength, LONGEST_BLOCK,
 };
@@ -14,7 +14,7 @@ fn after(mut memory: Memory, cycles: i32) -> Memory {
 
 #[test]
 fn corner_1_fresh() {
-    for memory in [monochrome(), colour()] {
+    for memory in each_mapper(false).chain(each_mapper(true)) {
         assert_eq!(memory.read_byte(0xFF44), 0x90);
         assert_eq!(memory.read_byte(0xFF00), 0xC0);
     }
@@ -41,11 +41,12 @@ fn corner_3_timer() {
 fn corner_4_oam_transfer() {
     let in_rom = (rom_byte(0x7F00), rom_byte(0x7F9F));
     for (page, shown) in [(0x7F, in_rom), (0x80, (0x12, 0x34)), (0xDF, (0x12, 0x34)), (0xE0, (0, 0))] {
-        let mut memory = monochrome();
-        write(&mut memory, &[(0x8000, 0x12), (0x809F, 0x34), (0xDF00, 0x12), (0xDF9F, 0x34), (0xC000, 0x12), (0xFEA0, 0x78)]);
-        write(&mut memory, &[(0xFF46, page)]);
-        assert_eq!((memory.read_byte(0xFE00), memory.read_byte(0xFE9F)), shown, "{page:02X}");
-        assert_eq!((memory.read_byte(0xFEA0), memory.read_byte(0xFF46)), (0x78, page));
+        for mut memory in each_mapper(false) {
+            write(&mut memory, &[(0x8000, 0x12), (0x809F, 0x34), (0xDF00, 0x12), (0xDF9F, 0x34), (0xC000, 0x12), (0xFEA0, 0x78)]);
+            write(&mut memory, &[(0xFF46, page)]);
+            assert_eq!((memory.read_byte(0xFE00), memory.read_byte(0xFE9F)), shown, "{page:02X}");
+            assert_eq!((memory.read_byte(0xFEA0), memory.read_byte(0xFF46)), (0x78, page));
+        }
     }
     let mut memory = monochrome();
     write(&mut memory, &[(0xC001, 0x56)]);
@@ -72,29 +73,32 @@ fn corner_6_work_bank() {
 
 #[test]
 fn corner_7_block() {
-    let mut memory = colour();
-    write(&mut memory, &[(0xFF51, 0x7F), (0xFF52, 0xF0), (0xFF53, 0x1F), (0xFF54, 0xF0)]);
-    assert_eq!(memory.do_hdma(), 36);
-    assert_eq!((memory.read_word(0xFF51), memory.read_word(0xFF53)), (0x00A0, 0x0080));
-    assert_eq!((memory.read_byte(0x9FF0), memory.read_byte(0x9FFF)), (rom_byte(0x7FF0), rom_byte(0x7FFF)));
+    for mut memory in each_mapper(true) {
+        write(&mut memory, &[(0xFF51, 0x7F), (0xFF52, 0xF0), (0xFF53, 0x1F), (0xFF54, 0xF0)]);
+        assert_eq!(memory.do_hdma(), 36);
+        assert_eq!((memory.read_word(0xFF51), memory.read_word(0xFF53)), (0x00A0, 0x0080));
+        assert_eq!((memory.read_byte(0x9FF0), memory.read_byte(0x9FFF)), (rom_byte(0x7FF0), rom_byte(0x7FFF)));
+    }
 }
 
 #[test]
 fn corner_8_general_transfer_from_the_page() {
-    let mut memory = colour();
-    write(&mut memory, &[(0xFF55, 0x00)]);
-    assert_eq!((memory.read_byte(0x9FF0), memory.read_byte(0x9FF7), memory.read_byte(0x9FFE)), (0x98, 0xFF, 0x0B));
-    // The hidden source is 0000 now, the destination A000: the next lands at 8000.
-    write(&mut memory, &[(0xFF55, 0x00)]);
-    assert_eq!((memory.read_byte(0x8001), memory.read_byte(0x800F), memory.read_byte(0x8010)), (rom_byte(1), rom_byte(15), 0));
+    for mut memory in each_mapper(true) {
+        write(&mut memory, &[(0xFF55, 0x00)]);
+        assert_eq!((memory.read_byte(0x9FF0), memory.read_byte(0x9FF7), memory.read_byte(0x9FFE)), (0x98, 0xFF, 0x0B));
+        // The hidden source is 0000 now, the destination A000: the next lands at 8000.
+        write(&mut memory, &[(0xFF55, 0x00)]);
+        assert_eq!((memory.read_byte(0x8001), memory.read_byte(0x800F), memory.read_byte(0x8010)), (rom_byte(1), rom_byte(15), 0));
+    }
 }
 
 #[test]
 fn corner_9_general_transfer_at_the_end() {
-    let mut memory = with_save(true);
-    write(&mut memory, &[(0xFF51, 0x01), (0xFF52, 0x00), (0xFF53, 0x1F), (0xFF54, 0xF0), (0xFF55, 0x01)]);
-    assert_eq!((memory.read_byte(0x9FF0), memory.read_byte(0x9FFF)), (rom_byte(0x100), rom_byte(0x10F)));
-    assert!(memory.save().iter().all(|&byte| byte == 0x11));
+    for mut memory in with_saves(true) {
+        write(&mut memory, &[(0xFF51, 0x01), (0xFF52, 0x00), (0xFF53, 0x1F), (0xFF54, 0xF0), (0xFF55, 0x01)]);
+        assert_eq!((memory.read_byte(0x9FF0), memory.read_byte(0x9FFF)), (rom_byte(0x100), rom_byte(0x10F)));
+        assert!(memory.save().iter().all(|&byte| byte == 0x11));
+    }
 }
 
 #[test]
@@ -151,12 +155,13 @@ fn corner_14_buttons() {
 
 #[test]
 fn words_low_byte_first() {
-    let mut memory = with_save(false);
-    assert_eq!(memory.write_word(0xBFFF, 0x3412), Ok(Written { owes_sound: false }));
-    assert_eq!((memory.read_byte(0xBFFF), memory.read_byte(0xC000), memory.read_word(0xBFFF)), (0x12, 0x34, 0x3412));
-    // FFFF is followed by 0000: the mapper, which switches the RAM off.
-    memory.write_word(0xFFFF, 0x0000).unwrap();
-    assert_eq!(memory.read_byte(0xA000), 0xFF);
+    for mut memory in with_saves(false) {
+        assert_eq!(memory.write_word(0xBFFF, 0x3412), Ok(Written { owes_sound: false }));
+        assert_eq!((memory.read_byte(0xBFFF), memory.read_byte(0xC000), memory.read_word(0xBFFF)), (0x12, 0x34, 0x3412));
+        // FFFF is followed by 0000: the mapper, which switches the RAM off.
+        memory.write_word(0xFFFF, 0x0000).unwrap();
+        assert_eq!(memory.read_byte(0xA000), 0xFF);
+    }
 }
 
 #[test]

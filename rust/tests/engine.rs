@@ -4,7 +4,7 @@
 mod engine;
 
 use engine::{game, play};
-use pouchrattle::RECORD_LEN;
+use pouchrattle::{MbcType, RECORD_LEN};
 use std::fs;
 use std::path::PathBuf;
 
@@ -23,57 +23,66 @@ fn save(writes: usize) -> Vec<u8> {
     save
 }
 
+/// The mappers that enable RAM, and what gameboy_core keeps for them.
+const MAPPERS: [(MbcType, usize); 2] = [(MbcType::Mbc1, 32768), (MbcType::Mbc5, 131_072)];
+
 #[test]
 fn killed_at_every_byte() {
-    let folder = folder("killed");
-    assert_eq!(play(&folder, 1).unwrap(), 20);
-    let (before, journal) = (fs::read(folder.join("hero.sav")).unwrap(), fs::read(folder.join("hero.journal")).unwrap());
-    assert!(before == save(0) && journal.len() == 20 * RECORD_LEN);
-    for cut in 0..=journal.len() {
-        fs::write(folder.join("hero.sav"), &before).unwrap();
-        fs::write(folder.join("hero.journal"), &journal[..cut]).unwrap();
-        let whole = cut / RECORD_LEN;
-        assert_eq!(play(&folder, 0).unwrap(), whole);
-        assert!(fs::read(folder.join("hero.sav")).unwrap() == save(whole), "{cut}");
-        // Killed between the save's file and the journal's: the journal is there still.
-        fs::write(folder.join("hero.journal"), &journal[..cut]).unwrap();
-        assert_eq!(play(&folder, 1).unwrap(), whole + 20);
-        assert_eq!(play(&folder, 0).unwrap(), whole + 20);
-        assert!(fs::read(folder.join("hero.sav")).unwrap() == save(whole + 20), "{cut}");
+    for (mbc_type, _) in MAPPERS {
+        let folder = folder("killed");
+        assert_eq!(play(&folder, mbc_type, 1).unwrap(), 20);
+        let (before, journal) = (fs::read(folder.join("hero.sav")).unwrap(), fs::read(folder.join("hero.journal")).unwrap());
+        assert!(before == save(0) && journal.len() == 20 * RECORD_LEN);
+        for cut in 0..=journal.len() {
+            fs::write(folder.join("hero.sav"), &before).unwrap();
+            fs::write(folder.join("hero.journal"), &journal[..cut]).unwrap();
+            let whole = cut / RECORD_LEN;
+            assert_eq!(play(&folder, mbc_type, 0).unwrap(), whole);
+            assert!(fs::read(folder.join("hero.sav")).unwrap() == save(whole), "{cut}");
+            // Killed between the save's file and the journal's: the journal is there still.
+            fs::write(folder.join("hero.journal"), &journal[..cut]).unwrap();
+            assert_eq!(play(&folder, mbc_type, 1).unwrap(), whole + 20);
+            assert_eq!(play(&folder, mbc_type, 0).unwrap(), whole + 20);
+            assert!(fs::read(folder.join("hero.sav")).unwrap() == save(whole + 20), "{cut}");
+        }
+        fs::remove_dir_all(&folder).unwrap();
     }
-    fs::remove_dir_all(&folder).unwrap();
 }
 
 #[test]
 fn goes_on_in_any_pass() {
     let folder = folder("passes");
-    for writes in [1, 8191, 8192, 8193, 3 * 8192 + 100, 255 * 8192] {
-        fs::write(folder.join("hero.sav"), save(writes)).unwrap();
-        assert_eq!(play(&folder, 0).unwrap(), writes);
+    for (mbc_type, _) in MAPPERS {
+        for writes in [1, 8191, 8192, 8193, 3 * 8192 + 100, 255 * 8192] {
+            fs::write(folder.join("hero.sav"), save(writes)).unwrap();
+            assert_eq!(play(&folder, mbc_type, 0).unwrap(), writes);
+        }
     }
     fs::remove_dir_all(&folder).unwrap();
 }
 
 #[test]
 fn refused_with_words() {
-    let folder = folder("refused");
-    // A damaged journal: nothing is touched.
-    fs::write(folder.join("hero.sav"), save(7)).unwrap();
-    fs::write(folder.join("hero.journal"), [0x80, 0x00, 0x01, 0x7F, 0x00, 0x01]).unwrap();
-    assert_eq!(play(&folder, 1).unwrap_err().to_string(), "record 1 is damaged: 7F 00 01");
-    assert!(fs::read(folder.join("hero.sav")).unwrap() == save(7) && fs::read(folder.join("hero.journal")).unwrap().len() == 2 * RECORD_LEN);
-    fs::remove_file(folder.join("hero.journal")).unwrap();
-    // A save that gameboy_core kept is cut; one of another cartridge is not.
-    let mut kept = save(7);
-    kept.resize(32768, 0xFF);
-    fs::write(folder.join("hero.sav"), &kept).unwrap();
-    assert_eq!(play(&folder, 0).unwrap(), 7);
-    assert!(fs::read(folder.join("hero.sav")).unwrap() == save(7));
-    kept[9000] = 1;
-    fs::write(folder.join("hero.sav"), &kept).unwrap();
-    let words = "this is a save of another cartridge: byte 9,000 is 01, which this one does not reach";
-    assert_eq!(play(&folder, 0).unwrap_err().to_string(), words);
-    fs::write(folder.join("hero.sav"), []).unwrap();
-    assert_eq!(play(&folder, 0).unwrap_err().to_string(), "the save has 0 bytes, and must have 8,192");
-    fs::remove_dir_all(&folder).unwrap();
+    for (mbc_type, len) in MAPPERS {
+        let folder = folder("refused");
+        // A damaged journal: nothing is touched.
+        fs::write(folder.join("hero.sav"), save(7)).unwrap();
+        fs::write(folder.join("hero.journal"), [0x80, 0x00, 0x01, 0x7F, 0x00, 0x01]).unwrap();
+        assert_eq!(play(&folder, mbc_type, 1).unwrap_err().to_string(), "record 1 is damaged: 7F 00 01");
+        assert!(fs::read(folder.join("hero.sav")).unwrap() == save(7) && fs::read(folder.join("hero.journal")).unwrap().len() == 2 * RECORD_LEN);
+        fs::remove_file(folder.join("hero.journal")).unwrap();
+        // A save that gameboy_core kept is cut; one of another cartridge is not.
+        let mut kept = save(7);
+        kept.resize(len, 0xFF);
+        fs::write(folder.join("hero.sav"), &kept).unwrap();
+        assert_eq!(play(&folder, mbc_type, 0).unwrap(), 7);
+        assert!(fs::read(folder.join("hero.sav")).unwrap() == save(7));
+        kept[9000] = 1;
+        fs::write(folder.join("hero.sav"), &kept).unwrap();
+        let words = "this is a save of another cartridge: byte 9,000 is 01, which this one does not reach";
+        assert_eq!(play(&folder, mbc_type, 0).unwrap_err().to_string(), words);
+        fs::write(folder.join("hero.sav"), []).unwrap();
+        assert_eq!(play(&folder, mbc_type, 0).unwrap_err().to_string(), "the save has 0 bytes, and must have 8,192");
+        fs::remove_dir_all(&folder).unwrap();
+    }
 }

@@ -2,18 +2,23 @@
 
 mod common;
 
-use common::{bus, cartridge, colour, monochrome, rom_byte, with_save, write};
-use pouchrattle::{recover, version, Expected, GpuCycles, HostNumbers, MbcType, Memory, NotCut, Refusal, Which, WrongLength, IMAGE_LEN, RECORD_LEN};
+use common::{bus, cartridge, colour, monochrome, rom_byte, with_save, with_saves, write};
+use pouchrattle::{recover, version, Cartridge, Expected, GpuCycles, HostNumbers, MbcType, Memory, NotCut, Refusal, Which, WrongLength, IMAGE_LEN, RECORD_LEN};
 
 #[test]
 fn rom() {
-    let memory = bus(MbcType::Mbc1, 4, 0, false);
-    assert!(memory.rom().len() == 65536 && memory.rom().iter().enumerate().all(|(at, byte)| *byte == rom_byte(at)));
+    for (mbc_type, banks, len) in [(MbcType::Mbc1, 4, 65536), (MbcType::Mbc5, 512, 8_388_608)] {
+        let memory = bus(mbc_type, banks, 0, false);
+        assert!(memory.rom().len() == len && memory.rom().iter().enumerate().all(|(at, byte)| *byte == rom_byte(at)));
+    }
 }
 
 #[test]
 fn the_save_is_changed_on_an_empty_log_alone() {
-    let mut memory = with_save(false);
+    with_saves(false).for_each(changed_on_an_empty_log_alone);
+}
+
+fn changed_on_an_empty_log_alone(mut memory: Memory) {
     let file = memory.save().to_vec();
     write(&mut memory, &[(0xA000, 0x22), (0xA001, 0x23)]);
     assert!(memory.save_mut().is_none());
@@ -125,25 +130,35 @@ fn the_version() {
     assert_eq!((version.image_len, version.record_len), (IMAGE_LEN, RECORD_LEN));
 }
 
-/// What gameboy_core keeps for a cartridge: a save, and FF behind it.
-fn kept(save: &[u8]) -> Vec<u8> {
-    let mut ram = vec![0xFF; 32768];
+/// What gameboy_core keeps for a cartridge, so many bytes: a save, and FF behind it.
+fn kept(len: usize, save: &[u8]) -> Vec<u8> {
+    let mut ram = vec![0xFF; len];
     ram[..save.len()].copy_from_slice(save);
     ram
 }
 
 #[test]
 fn a_save_of_gameboy_core() {
-    for (mbc_type, code, len) in [(MbcType::Mbc1, 2, 8192), (MbcType::RomOnly, 2, 8192), (MbcType::Mbc1, 0, 0), (MbcType::RomOnly, 0, 0)] {
+    use MbcType::*;
+    for (mbc_type, code, len, found) in [
+        (RomOnly, 0, 0, 32768),
+        (RomOnly, 2, 8192, 32768),
+        (Mbc1, 0, 0, 32768),
+        (Mbc1, 2, 8192, 32768),
+        (Mbc5, 0, 0, 131_072),
+        (Mbc5, 2, 8192, 131_072),
+        (Mbc5, 3, 32768, 131_072),
+    ] {
         let cartridge = cartridge(mbc_type, 2, code);
         let save: Vec<u8> = (0..len).map(|at| (at * 7) as u8).collect();
-        let mut ram = kept(&save);
+        let mut ram = kept(found, &save);
 
         // As it is, it is refused, and the words name what cuts it.
         let refused = Memory::new(cartridge.clone(), false, &ram).unwrap_err();
-        assert_eq!(refused, Refusal::WrongLength(WrongLength { memory: Which::Save, found: 32768, expected: Expected::Exactly(len) }));
+        assert_eq!(refused, Refusal::WrongLength(WrongLength { memory: Which::Save, found, expected: Expected::Exactly(len) }));
+        let begin = format!("the save has {},{:03} bytes, and must have ", found / 1000, found % 1000);
         let end = ": if gameboy_core kept it, Cartridge::save_from_gameboy_core cuts it";
-        assert!(refused.to_string().starts_with("the save has 32,768 bytes, and must have ") && refused.to_string().ends_with(end), "{refused}");
+        assert!(refused.to_string().starts_with(&begin) && refused.to_string().ends_with(end), "{refused}");
 
         assert_eq!(cartridge.save_from_gameboy_core(&ram), Ok(&save[..]));
         assert_eq!(cartridge.save_from_gameboy_core(&save), Ok(&save[..]));
@@ -155,12 +170,39 @@ fn a_save_of_gameboy_core() {
 
 #[test]
 fn what_is_not_cut() {
-    let code_2 = cartridge(MbcType::Mbc1, 2, 2);
+    for (mbc_type, len) in [(MbcType::Mbc1, 32768), (MbcType::Mbc5, 131_072)] {
+        behind_the_save(&cartridge(mbc_type, 2, 2), len);
+    }
+
+    let wrong = |found, expected| WrongLength { memory: Which::Save, found, expected: Expected::Exactly(expected) };
+    let not_cut = |found, expected| Err(NotCut::WrongLength(wrong(found, expected)));
+    for (mbc_type, lens) in [(MbcType::Mbc1, [32767, 32769, 131_072]), (MbcType::Mbc5, [32768, 131_071, 131_073])] {
+        for found in [0, 8191, 8193, 16384].into_iter().chain(lens) {
+            let cut = cartridge(mbc_type, 2, 2);
+            let ram = vec![0xFF; found];
+            assert_eq!(cut.save_from_gameboy_core(&ram), not_cut(found, 8192));
+            // Its words do not send the host here again.
+            assert!(cut.save_from_gameboy_core(&ram).unwrap_err().to_string().ends_with("must have 8,192"));
+        }
+    }
+    // Code 3 of Mbc1 has all of it, and Mbc2 512 bytes in gameboy_core too.
+    let all = vec![0x11; 32768];
+    assert_eq!(cartridge(MbcType::Mbc1, 2, 3).save_from_gameboy_core(&all), Ok(&all[..]));
+    assert_eq!(cartridge(MbcType::Mbc2, 2, 0).save_from_gameboy_core(&kept(32768, &[])), not_cut(32768, 512));
+    assert_eq!(cartridge(MbcType::Mbc2, 2, 0).save_from_gameboy_core(&[7; 512]), Ok(&[7; 512][..]));
+    // No cartridge for which gameboy_core keeps more.
+    for (found, expected) in [(131_072, 512), (32768, 512), (32769, 8192), (8192, 0), (512, 8192)] {
+        assert!(!wrong(found, expected).to_string().contains("gameboy_core"), "{found} {expected}");
+    }
+}
+
+/// Of a cartridge with code 2, for which gameboy_core keeps so many bytes.
+fn behind_the_save(code_2: &Cartridge, len: usize) {
     // Each byte behind the save counts, and a mixture of FF and 00 is no save that was made.
     for filler in [0x00, 0xFF] {
-        let mut ram = kept(&[0x11; 8192]);
+        let mut ram = kept(len, &[0x11; 8192]);
         ram[8192..].fill(filler);
-        for at in [8192, 8193, 20000, 32767] {
+        for at in [8192, 8193, 20000, len - 1] {
             for byte in [0x00, 0x01, 0x80, 0xFE, 0xFF] {
                 ram[at] = byte;
                 // The first byte tells with what the rest was made.
@@ -174,25 +216,16 @@ fn what_is_not_cut() {
         let words = "this is a save of another cartridge: byte 20,000 is 4C, which this one does not reach";
         assert_eq!(code_2.save_from_gameboy_core(&ram).unwrap_err().to_string(), words);
     }
-
-    let wrong = |found, expected| Err(NotCut::WrongLength(WrongLength { memory: Which::Save, found, expected: Expected::Exactly(expected) }));
-    for found in [0, 8191, 8193, 16384, 32767, 32769] {
-        assert_eq!(code_2.save_from_gameboy_core(&vec![0xFF; found]), wrong(found, 8192));
-    }
-    // Code 3 has all of it, and Mbc2 512 bytes in gameboy_core too.
-    let all = vec![0x11; 32768];
-    assert_eq!(cartridge(MbcType::Mbc1, 2, 3).save_from_gameboy_core(&all), Ok(&all[..]));
-    assert_eq!(cartridge(MbcType::Mbc2, 2, 0).save_from_gameboy_core(&kept(&[])), wrong(32768, 512));
-    assert_eq!(cartridge(MbcType::Mbc2, 2, 0).save_from_gameboy_core(&[7; 512]), Ok(&[7; 512][..]));
 }
 
 /// A game with code 2 reaches none of what is cut: every write of the save is below 8,192.
 #[test]
 fn code_2_reaches_the_first_8192_bytes() {
-    let mut memory = bus(MbcType::Mbc1, 2, 2, false);
-    write(&mut memory, &[(0x0000, 0x0A), (0x6000, 0x01), (0x4000, 0x03)]);
-    for index in [0xA000, 0xBFFF] {
-        write(&mut memory, &[(index, 0x5A)]);
+    for mut memory in with_saves(false) {
+        write(&mut memory, &[(0x6000, 0x01), (0x4000, 0x03)]);
+        for index in [0xA000, 0xBFFF] {
+            write(&mut memory, &[(index, 0x5A)]);
+        }
+        assert_eq!((memory.save()[0], memory.save()[8191], memory.log().len()), (0x5A, 0x5A, 2 * RECORD_LEN));
     }
-    assert_eq!((memory.save()[0], memory.save()[8191], memory.log().len()), (0x5A, 0x5A, 2 * RECORD_LEN));
 }

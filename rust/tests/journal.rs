@@ -10,11 +10,18 @@ use std::io::{BufWriter, Error, ErrorKind, Result, Write};
 
 const SAVE_LEN: usize = 8192;
 
-/// Mbc1 with 8,192 bytes of RAM, enabled, all 0, and a log of so many bytes.
-fn bus(log: usize) -> Memory {
-    let mut memory = Memory::with_log(cartridge(MbcType::Mbc1, 2, 2), false, &[0; SAVE_LEN], log).unwrap();
+/// The mappers that enable RAM of a code.
+const MAPPERS: [MbcType; 2] = [MbcType::Mbc1, MbcType::Mbc5];
+
+/// A mapper with 8,192 bytes of RAM, enabled, all 0, and a log of so many bytes.
+fn bus_of(mbc_type: MbcType, log: usize) -> Memory {
+    let mut memory = Memory::with_log(cartridge(mbc_type, 2, 2), false, &[0; SAVE_LEN], log).unwrap();
     write(&mut memory, &[(0x0000, 0x0A)]);
     memory
+}
+
+fn bus(log: usize) -> Memory {
+    bus_of(MbcType::Mbc1, log)
 }
 
 /// Save write i of the list: address and value. Every 256th value is 0.
@@ -52,17 +59,19 @@ fn every_record_once_and_in_order() {
     // Kept after NoRoom alone; then at some pace; then a journal longer than the longest log.
     let short = (4 * RECORD_LEN..40).map(|log| (log, 60, usize::MAX));
     for (log, writes, pace) in short.chain([(4095, 3000, 10), (LONGEST_LOG, 30_000, 5000)]) {
-        let (mut memory, mut journal) = (bus(log), Journal::new(Vec::new()));
-        for i in 0..writes {
-            play(&mut memory, &mut journal, i);
-            if i % pace == pace - 1 {
-                journal.keep(&mut memory).unwrap();
+        for mbc_type in MAPPERS {
+            let (mut memory, mut journal) = (bus_of(mbc_type, log), Journal::new(Vec::new()));
+            for i in 0..writes {
+                play(&mut memory, &mut journal, i);
+                if i % pace == pace - 1 {
+                    journal.keep(&mut memory).unwrap();
+                }
             }
+            journal.keep(&mut memory).unwrap();
+            let (expected, save) = records(writes);
+            assert!(*journal.get_ref() == expected && memory.save() == save, "{log}");
+            assert!(recovered(journal.get_ref()) == save, "{log}");
         }
-        journal.keep(&mut memory).unwrap();
-        let (expected, save) = records(writes);
-        assert!(*journal.get_ref() == expected && memory.save() == save, "{log}");
-        assert!(recovered(journal.get_ref()) == save, "{log}");
     }
 }
 
@@ -140,10 +149,10 @@ impl Write for Bad {
 fn a_failure_at_every_byte_loses_nothing() {
     const WRITES: usize = 12;
     let (expected, save) = records(WRITES);
-    for error in [Some(ErrorKind::StorageFull), None] {
+    for (error, mbc_type) in [Some(ErrorKind::StorageFull), None].into_iter().flat_map(|error| MAPPERS.map(|mbc_type| (error, mbc_type))) {
         for at_a_time in [1, 2, 3, 4, 7, 1000] {
             for limit in 0..=expected.len() {
-                let mut memory = bus(WRITES * RECORD_LEN);
+                let mut memory = bus_of(mbc_type, WRITES * RECORD_LEN);
                 let mut journal = Journal::new(Bad { taken: vec![], at_a_time, limit, error, interrupted: false });
                 let mut failed = false;
                 for i in 0..WRITES {

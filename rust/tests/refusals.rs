@@ -3,29 +3,29 @@
 mod common;
 
 use common::{bus, cartridge, colour, monochrome, with_save, write};
-use pouchrattle::{recover, Expected, MbcType, Memory, OutOfRange, Refusal, Timer, Which, WrongLength, LONGEST_LOG, RECORD_LEN};
+use pouchrattle::{recover, Cartridge, Expected, MbcType, Memory, OutOfRange, Refusal, Timer, Which, WrongLength, IMAGE_LEN, LONGEST_LOG, RECORD_LEN};
 
 /// A fresh bus over a save of so many bytes: its refusal, if any.
 fn built(mbc_type: MbcType, banks: usize, ram_size: u8, save: usize) -> Option<Refusal> {
-    Memory::new(cartridge(mbc_type, banks, ram_size), false, &vec![0; save]).err()
+    Memory::new(Cartridge { rom: vec![0; banks * 16384], mbc_type, ram_size }, false, &vec![0; save]).err()
 }
 
 #[test]
 fn descriptions_out_of_range() {
     use MbcType::*;
-    for (mbc_type, most) in [(RomOnly, 2), (Mbc1, 128), (Mbc2, 16)] {
+    for (mbc_type, most) in [(RomOnly, 2), (Mbc1, 128), (Mbc2, 16), (Mbc5, 512)] {
         let save = cartridge(mbc_type, 0, 0).save_len();
-        for banks in [0, 1, 2, 3, 4, 5, 8, 15, 16, 17, 32, 64, 127, 128, 129, 256usize] {
+        for banks in (0..=18).chain([31, 32, 64, 127, 128, 129, 255, 256, 257, 384, 511, 512, 513, 1024usize]) {
             let wrong = banks < 2 || banks > most || !banks.is_power_of_two();
             let expected = wrong.then_some(Refusal::OutOfRange(OutOfRange::Rom { mbc_type, found: banks * 16384 }));
             assert_eq!(built(mbc_type, banks, 0, save), expected, "{mbc_type:?} {banks}");
         }
     }
     for code in 0..=255 {
-        for (mbc_type, codes) in [(RomOnly, &[0, 2, 3][..]), (Mbc1, &[0, 2, 3]), (Mbc2, &[0])] {
+        for (mbc_type, banks, codes) in [(RomOnly, 2, &[0, 2, 3][..]), (Mbc1, 2, &[0, 2, 3]), (Mbc2, 2, &[0]), (Mbc5, 2, &[0, 2, 3]), (Mbc5, 512, &[0, 2, 3])] {
             let save = cartridge(mbc_type, 0, code).save_len();
             let expected = (!codes.contains(&code)).then_some(Refusal::OutOfRange(OutOfRange::RamSize { mbc_type, found: code }));
-            assert_eq!(built(mbc_type, 2, code, save), expected, "{mbc_type:?} {code}");
+            assert_eq!(built(mbc_type, banks, code, save), expected, "{mbc_type:?} {code}");
         }
     }
 }
@@ -37,8 +37,9 @@ fn wrong(memory: Which, found: usize, expected: Expected) -> Refusal {
 #[test]
 fn wrong_lengths() {
     use MbcType::*;
-    for (mbc_type, code, right) in [(RomOnly, 0, 0), (RomOnly, 2, 8192), (Mbc1, 2, 8192), (Mbc1, 3, 32768), (Mbc2, 0, 512)] {
-        for save in [0, 1, 511, 512, 513, 8191, 8192, 8193, 32767, 32768, 32769] {
+    let lengths = [(RomOnly, 0, 0), (RomOnly, 2, 8192), (Mbc1, 2, 8192), (Mbc1, 3, 32768), (Mbc2, 0, 512), (Mbc5, 0, 0), (Mbc5, 2, 8192), (Mbc5, 3, 32768)];
+    for (mbc_type, code, right) in lengths {
+        for save in [0, 1, 511, 512, 513, 8191, 8192, 8193, 32767, 32768, 32769, 131_072] {
             let expected = (save != right).then_some(wrong(Which::Save, save, Expected::Exactly(right)));
             assert_eq!(built(mbc_type, 2, code, save), expected, "{mbc_type:?} {save}");
         }
@@ -51,6 +52,9 @@ fn wrong_lengths() {
         cartridge.rom = vec![0; length];
         assert_eq!(Memory::new(cartridge, false, &[]).err(), Some(refusal), "{length}");
     }
+    // As many banks as there can be, and a byte more.
+    let long = Cartridge { rom: vec![0; 8_388_609], mbc_type: Mbc5, ram_size: 0 };
+    assert_eq!(Memory::new(long, false, &[]).err(), Some(wrong(Which::Rom, 8_388_609, Expected::Exactly(8_388_608))));
     let log = |found| Some(wrong(Which::Log, found, Expected::AtMost(LONGEST_LOG)));
     for (length, refusal) in [(0, None), (LONGEST_LOG, None), (LONGEST_LOG + 1, log(LONGEST_LOG + 1)), (usize::MAX, log(usize::MAX))] {
         assert_eq!(Memory::with_log(cartridge(RomOnly, 2, 0), false, &[], length).err(), refusal, "{length}");
@@ -69,17 +73,20 @@ fn words() {
     says(built(Mbc1, 3, 0, 0), 3, "the ROM has 49,152 bytes, and Mbc1 takes 2, 4, 8, 16, 32, 64 or 128 banks of 16,384");
     says(built(RomOnly, 4, 0, 0), 3, "the ROM has 65,536 bytes, and RomOnly takes 2 banks of 16,384");
     says(built(Mbc2, 0, 0, 512), 3, "the ROM has 0 bytes, and Mbc2 takes 2, 4, 8 or 16 banks of 16,384");
+    says(built(Mbc5, 1024, 0, 0), 3, "the ROM has 16,777,216 bytes, and Mbc5 takes 2, 4, 8, 16, 32, 64, 128, 256 or 512 banks of 16,384");
     says(built(Mbc1, 2, 5, 0), 3, "the RAM code is 5, and Mbc1 takes 0, 2 or 3");
+    says(built(Mbc5, 512, 4, 131_072), 3, "the RAM code is 4, and Mbc5 takes 0, 2 or 3");
     says(built(Mbc2, 2, 2, 512), 3, "the RAM code is 2, and Mbc2 takes 0");
     says(built(Mbc1, 2, 3, 8192), 4, "the save has 8,192 bytes, and must have 32,768");
     says(built(Mbc1, 2, 2, 8191), 4, "the save has 8,191 bytes, and must have 8,192");
     says(built(Mbc2, 2, 0, 32768), 4, "the save has 32,768 bytes, and must have 512");
+    says(built(Mbc5, 512, 3, 8192), 4, "the save has 8,192 bytes, and must have 32,768");
     says(Memory::with_log(cartridge(RomOnly, 2, 0), false, &[], 1_000_000).err(), 4, "the log has 1,000,000 bytes, and must have at most 65,535");
     says(recover(&mut [0; 513], &[]).err(), 4, "the save has 513 bytes, and must have 0, 512, 8,192 or 32,768");
     says(recover(&mut [0; 512], &[0x82, 0x00, 0x0F]).err(), 6, "record 0 is damaged: 82 00 0F");
     let mut memory = monochrome();
     says(memory.read_block(0, &mut vec![0; 70_000]).err(), 4, "the block has 70,000 bytes, and must have at most 65,536");
-    says(memory.set_image(&[0; pouchrattle::IMAGE_LEN]).err(), 3, "the image holds no state of a bus");
+    says(memory.set_image(&[0; IMAGE_LEN]).err(), 3, "the image holds no state of a bus");
     says(memory.set_image(colour().image()).err(), 4, "the video memory has 8,192 bytes, and must have 16,384");
     says(memory.update_timer(65537).err(), 5, "more than 65,536 cycles in one update");
     says(memory.load(0).err(), 7, "an index below FF00, or a bank or an index outside video memory");
@@ -120,7 +127,13 @@ fn cycles() {
 
 #[test]
 fn full_log() {
-    let mut memory = Memory::with_log(cartridge(MbcType::Mbc1, 2, 2), false, &[0; 8192], 3 * RECORD_LEN - 1).unwrap();
+    for (mbc_type, banks) in [(MbcType::Mbc1, 2), (MbcType::Mbc5, 2), (MbcType::Mbc5, 512)] {
+        no_room(cartridge(mbc_type, banks, 2));
+    }
+}
+
+fn no_room(cartridge: Cartridge) {
+    let mut memory = Memory::with_log(cartridge, false, &[0; 8192], 3 * RECORD_LEN - 1).unwrap();
     write(&mut memory, &[(0x0000, 0x0A), (0xA000, 1)]);
     let before = memory.clone();
     for index in [0x9FFF, 0xA000, 0xBFFF] {
@@ -146,10 +159,13 @@ fn images() {
     write(&mut memory, &[(0xA000, 7)]);
     let before = memory.clone();
     let no_state = Err(Refusal::OutOfRange(OutOfRange::Image));
-    assert_eq!(memory.set_image(&[0; pouchrattle::IMAGE_LEN]), no_state);
-    let mut image = *memory.image();
-    image[664] |= 1;
-    assert_eq!(memory.set_image(&image), no_state);
+    assert_eq!(memory.set_image(&[0; IMAGE_LEN]), no_state);
+    // The last six bits.
+    for bit in 0..6 {
+        let mut image = *memory.image();
+        image[IMAGE_LEN - 1] |= 1 << bit;
+        assert_eq!(memory.set_image(&image), no_state);
+    }
     // Of another cartridge: which memory it would need, how long.
     for (other, which, found, expected) in [
         (with_save(true), Which::Vram, 8192, 16384),
@@ -158,6 +174,11 @@ fn images() {
         (bus(MbcType::Mbc1, 2, 3, false), Which::Save, 8192, 32768),
         (bus(MbcType::Mbc1, 2, 0, false), Which::Save, 8192, 0),
         (bus(MbcType::Mbc2, 2, 0, false), Which::Save, 8192, 512),
+        (bus(MbcType::Mbc5, 256, 2, false), Which::Rom, 32768, 4_194_304),
+        (bus(MbcType::Mbc5, 512, 2, true), Which::Rom, 32768, 8_388_608),
+        (bus(MbcType::Mbc5, 2, 2, true), Which::Vram, 8192, 16384),
+        (bus(MbcType::Mbc5, 2, 3, false), Which::Save, 8192, 32768),
+        (bus(MbcType::Mbc5, 2, 0, false), Which::Save, 8192, 0),
     ] {
         assert_eq!(memory.set_image(other.image()), Err(wrong(which, found, Expected::Exactly(expected))));
     }

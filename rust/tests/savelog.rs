@@ -2,20 +2,24 @@
 
 mod common;
 
-use common::{cartridge, rom_byte, with_save, write};
-use pouchrattle::{recover, Damaged, Expected, MbcType, Memory, Refusal, Timer, Which, WrongLength, LONGEST_LOG, RECORD_LEN};
+use common::{cartridge, rom_byte, with_saves, write};
+use pouchrattle::{recover, Cartridge, Damaged, Expected, MbcType, Memory, Refusal, Timer, Which, WrongLength, LONGEST_LOG, RECORD_LEN};
 
 #[test]
 fn corner_12_record() {
-    let mut memory = with_save(false);
-    write(&mut memory, &[(0xB234, 0x56)]);
-    assert_eq!(memory.log(), [0x92, 0x34, 0x56]);
-    assert_eq!(memory.save()[0x1234], 0x56);
+    for mut memory in with_saves(false) {
+        write(&mut memory, &[(0xB234, 0x56)]);
+        assert_eq!(memory.log(), [0x92, 0x34, 0x56]);
+        assert_eq!(memory.save()[0x1234], 0x56);
+    }
 }
 
 #[test]
 fn every_stored_byte_is_logged() {
-    let mut memory = with_save(false);
+    with_saves(false).for_each(every_stored_byte);
+}
+
+fn every_stored_byte(mut memory: Memory) {
     let start = memory.save().to_vec();
     let mut kept = Vec::new();
     for step in 0..50_000u32 {
@@ -41,11 +45,12 @@ fn every_stored_byte_is_logged() {
 
 #[test]
 fn nothing_else_is_logged() {
-    let mut memory = with_save(false);
-    write(&mut memory, &[(0x9FFF, 1), (0xC000, 1), (0x0000, 0x00), (0xA000, 1)]);
-    assert_eq!((memory.read_byte(0x9FFF), memory.read_byte(0xC000), memory.read_byte(0xA000)), (1, 1, 0xFF));
-    assert!(memory.log().is_empty());
-    assert!(memory.save().iter().all(|&byte| byte == 0x11));
+    for mut memory in with_saves(false) {
+        write(&mut memory, &[(0x9FFF, 1), (0xC000, 1), (0x0000, 0x00), (0xA000, 1)]);
+        assert_eq!((memory.read_byte(0x9FFF), memory.read_byte(0xC000), memory.read_byte(0xA000)), (1, 1, 0xFF));
+        assert!(memory.log().is_empty());
+        assert!(memory.save().iter().all(|&byte| byte == 0x11));
+    }
 }
 
 #[test]
@@ -85,25 +90,35 @@ fn recovery_takes_the_lengths_of_saves() {
 
 #[test]
 fn a_transfer_past_video_memory_leaves_the_save_alone() {
-    let mut memory = with_save(true);
-    for length in [0x01, 0x3F, 0x7F] {
-        write(&mut memory, &[(0xFF51, 0x01), (0xFF52, 0x00), (0xFF53, 0x1F), (0xFF54, 0xF0), (0xFF55, length)]);
-        assert!((0..16).all(|at| memory.read_byte(0x9FF0 + at) == rom_byte(0x100 + usize::from(at))));
-        assert!(memory.save().iter().all(|&byte| byte == 0x11));
-        assert!(memory.log().is_empty());
+    for mut memory in with_saves(true) {
+        for length in [0x01, 0x3F, 0x7F] {
+            write(&mut memory, &[(0xFF51, 0x01), (0xFF52, 0x00), (0xFF53, 0x1F), (0xFF54, 0xF0), (0xFF55, length)]);
+            assert!((0..16).all(|at| memory.read_byte(0x9FF0 + at) == rom_byte(0x100 + usize::from(at))));
+            assert!(memory.save().iter().all(|&byte| byte == 0x11));
+            assert!(memory.log().is_empty());
+        }
+        // A write of the game's own would have been stored.
+        write(&mut memory, &[(0xA000, 0x22)]);
+        assert_eq!((memory.save()[0], memory.log().len()), (0x22, RECORD_LEN));
     }
-    // A write of the game's own would have been stored.
-    write(&mut memory, &[(0xA000, 0x22)]);
-    assert_eq!((memory.save()[0], memory.log().len()), (0x22, RECORD_LEN));
 }
 
 #[test]
 fn a_session_is_taken_up_again() {
-    let mut memory = with_save(true);
+    for (mbc_type, banks) in [(MbcType::Mbc1, 8), (MbcType::Mbc5, 2), (MbcType::Mbc5, 8), (MbcType::Mbc5, 512)] {
+        taken_up_again(&cartridge(mbc_type, banks, 3));
+    }
+}
+
+fn taken_up_again(cartridge: &Cartridge) {
+    let mut memory = Memory::new(cartridge.clone(), true, &vec![0x11; cartridge.save_len()]).unwrap();
+    // ROM bank 6, of 512 banks 262; RAM bank 3.
+    write(&mut memory, &[(0x3000, 0x01), (0x2000, 0x06), (0x6000, 0x01), (0x4000, 0x03), (0x0000, 0x0A)]);
     write(&mut memory, &[(0xA000, 0x22), (0xC000, 0x33), (0xFF4F, 1), (0x8000, 0x44), (0xFF80, 0x55), (0xFF07, 0x05)]);
     Timer::new().update(1000, &mut memory).unwrap();
+    assert_eq!(memory.save()[0x6000], 0x22);
 
-    let mut again = Memory::new(cartridge(MbcType::Mbc1, 2, 2), true, memory.save()).unwrap();
+    let mut again = Memory::new(cartridge.clone(), true, memory.save()).unwrap();
     again.set_image(memory.image()).unwrap();
     again.vram_mut().copy_from_slice(memory.vram());
     again.wram_mut().copy_from_slice(memory.wram());

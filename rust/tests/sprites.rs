@@ -1,5 +1,5 @@
 //! OAM DMA of every page by every way to it, beside what reads of the page gave before: for each mapper, with banks above 2, selected before. Of pages
-//! 00..7F the Rust copies nothing (docs/DIFFERENCES.md): the recorded lists hold some of them to its own reads, with up to 8 banks; here are all, up to 128.
+//! 00..7F the Rust copies nothing (docs/DIFFERENCES.md): the recorded lists hold some of them to its own reads, with up to 8 banks; here are all, up to 512.
 
 mod common;
 
@@ -76,5 +76,16 @@ fn mbc2() {
     for bank in [1, 3, 10, 15] {
         write(&mut memory, &[(0x2100, bank as u8)]);
         all_pages(&mut memory, bank);
+    }
+}
+
+#[test]
+fn mbc5() {
+    for (banks, selected) in [(2, &[0, 1][..]), (8, &[0, 6, 7]), (256, &[0, 44, 255]), (512, &[0, 44, 255, 256, 300, 511])] {
+        let mut memory = filled(MbcType::Mbc5, banks, banks == 8);
+        for &bank in selected {
+            write(&mut memory, &[(0x3000, (bank / 256) as u8), (0x2000, (bank % 256) as u8)]);
+            all_pages(&mut memory, bank);
+        }
     }
 }

@@ -1,8 +1,9 @@
 use pouchrattle::{Cartridge, MbcType, Memory, Written};
 
-/// Tells bank, page and place apart.
+/// Tells bank, page and place apart; those of 256 banks come round, and no page of a bank behind them is as one before.
 pub fn rom_byte(address: usize) -> u8 {
-    (address + address / 16384 * 7 + address / 256 * 3) as u8
+    let bank = address / 16384;
+    ((address + bank * 7 + address / 256 * 3) ^ (bank / 256 * 0x55)) as u8
 }
 
 pub fn cartridge(mbc_type: MbcType, banks: usize, ram_size: u8) -> Cartridge {
@@ -26,12 +27,29 @@ pub fn colour() -> Memory {
     bus(MbcType::RomOnly, 2, 0, true)
 }
 
+/// Fresh buses with two banks and no RAM code, one of each mapper.
+#[allow(dead_code)]
+pub fn each_mapper(is_cgb: bool) -> impl Iterator<Item = Memory> {
+    [MbcType::RomOnly, MbcType::Mbc1, MbcType::Mbc2, MbcType::Mbc5].into_iter().map(move |mbc_type| bus(mbc_type, 2, 0, is_cgb))
+}
+
+fn enabled(mbc_type: MbcType, banks: usize, is_cgb: bool) -> Memory {
+    let mut memory = bus(mbc_type, banks, 2, is_cgb);
+    write(&mut memory, &[(0x0000, 0x0A)]);
+    memory
+}
+
 /// Mbc1 with 8,192 bytes of RAM, enabled.
 #[allow(dead_code)]
 pub fn with_save(is_cgb: bool) -> Memory {
-    let mut memory = bus(MbcType::Mbc1, 2, 2, is_cgb);
-    write(&mut memory, &[(0x0000, 0x0A)]);
-    memory
+    enabled(MbcType::Mbc1, 2, is_cgb)
+}
+
+/// The same of each mapper that can enable RAM of a code, Mbc5 with few and with many banks.
+#[allow(dead_code)]
+pub fn with_saves(is_cgb: bool) -> impl Iterator<Item = Memory> {
+    let cartridges = [(MbcType::Mbc1, 2), (MbcType::Mbc1, 128), (MbcType::Mbc5, 2), (MbcType::Mbc5, 8), (MbcType::Mbc5, 256), (MbcType::Mbc5, 512)];
+    cartridges.into_iter().map(move |(mbc_type, banks)| enabled(mbc_type, banks, is_cgb))
 }
 
 /// Writes that are done, and owe no sound.
