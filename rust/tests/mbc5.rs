@@ -1,5 +1,5 @@
-//! MBC5: the banks that a game sees after lists of writes to its registers, beside a model that keeps the registers apart (common/mbc5.rs). Its save and log are
-//! in mbc5_save.rs, its images in mbc5_images.rs, OAM DMA from its banks in sprites.rs.
+//! MBC5: the banks that a game sees after lists of writes to its registers, beside a model that keeps the registers apart (common/mbc5.rs). Its save and log
+//! are in mbc5_save.rs, its images in mbc5_images.rs, OAM DMA of every page in sprites.rs.
 
 mod common;
 #[path = "common/mbc5.rs"]

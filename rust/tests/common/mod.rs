@@ -1,6 +1,6 @@
 use pouchrattle::{Cartridge, MbcType, Memory, Written};
 
-/// Tells bank, page and place apart; those of 256 banks come round, and no page of a bank behind them is as one before.
+/// Tells bank, page and place apart. After 256 banks it comes round, and so is another then: no page is as that of an earlier bank.
 pub fn rom_byte(address: usize) -> u8 {
     let bank = address / 16384;
     ((address + bank * 7 + address / 256 * 3) ^ (bank / 256 * 0x55)) as u8
