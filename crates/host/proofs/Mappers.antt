@@ -61,6 +61,12 @@ module _ (i : List ℕ) {n : ℕ} (e : n ≡ loadCall i .number) where
     core-is : coreIn i ≡ state .core
     core-is = sym (loaded-core i below taken)
 
+    pub open-mapped : Mapped i
+    open-mapped = load-mapped i below taken
+
+    state-range : inRange (state .core .cartridge) (state .core .mapper) ≡ true
+    state-range = rw (← core-is) (mapped-range i open-mapped)
+
     module _ {r : Registers} {m : Mapper} {c : Cartridge} (a : r ≡ registersIn (fields i)) (b : m ≡ mapperOf r) (d : c ≡ cartridgeOf (fields i)) where
       mapper-is : m ≡ state .core .mapper
       mapper-is = b ∙ ap mapperOf a ∙ ap (λ (k : Core). k .mapper) core-is
@@ -68,14 +74,11 @@ module _ (i : List ℕ) {n : ℕ} (e : n ≡ loadCall i .number) where
       cartridge-is : c ≡ state .core .cartridge
       cartridge-is = d ∙ ap (λ (k : Core). k .cartridge) core-is
 
+      pub read-range : inRange c m ≡ true
+      read-range = rw (cartridge-is, mapper-is) state-range
+
       pub done-read : (rom save : List ℕ) (k : ℕ) {o : ReadByte} → o ≡ readByte c m rom save k → given (o .number) (o .value) ≡ mapperReadEntry i rom save k
       done-read rom save k f = mapper-read i {d = loadCall i} refl taken rom save k (f ∙ rw (cartridge-is, mapper-is))
-
-    pub open-mapped : Mapped i
-    open-mapped = load-mapped i below taken
-
-    state-range : inRange (state .core .cartridge) (state .core .mapper) ≡ true
-    state-range = rw (← core-is) (mapped-range i open-mapped)
 
     module _ (k v : ℕ) where
       abbrev next : Memory

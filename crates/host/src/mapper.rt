@@ -1,10 +1,8 @@
 // Entries for a mapper's own two calls, on the mapper that the image holds. They touch neither save nor log.
 ghost use mathlib.Core.Bool.{true};
 ghost use mathlib.Core.Path.{_≡_};
-ghost use lib.ListN.{length};
-ghost use Rattle.image.specs.Layout.{imageLen};
 ghost use Rattle.image.specs.Load.{cartridgeOf, registersIn};
-ghost use Rattle.image.specs.Patches.{fields};
+ghost use Rattle.image.specs.Patches.{fields, Mapped};
 ghost use Rattle.mbc.specs.Mbc as mbc;
 ghost use Rattle.entry.specs.Entry.{given, mapperReadEntry, answerNumber, mapped, mapperWriteEntry};
 use mbc::Answer;
@@ -45,7 +43,7 @@ fn answer_number(answer: Answer) -> u32
 
 // The record of what the image's mapper answers. Below 8000 nothing is stored.
 fn record_of(image: &[u8], index: u16, byte: u8) -> u32
-    requires { ⌜ (length (now image) ≡ imageLen) × (mbc.mapped index ≡ true) ⌝ }
+    requires { ⌜ Mapped (now image) × (mbc.mapped index ≡ true) ⌝ }
     ensures { λ r. ⌜ r ≡ answerNumber (mbc.answer (cartridgeOf (fields (now (image .entry)))) (mbc.mapperOf (registersIn (fields (now (image .entry))))) index byte) ⌝ }
 {
     if index < memory::VRAM_START {

@@ -6,7 +6,7 @@ ghost use mathlib.Core.Path.{_≡_};
 ghost use mathlib.Core.Bool.{true, _&&_};
 ghost use Prim.Native.Nat.{_<_, _≤_};
 ghost use Rattle.mbc.specs.Registers.{same};
-ghost use Rattle.mbc.specs.Mbc.Mbc5Rules.{held5, enable5, low5, ninth5, ram5, after5, from5, numbers5};
+ghost use Rattle.mbc.specs.Mbc.Mbc5Rules.{held5, chosenRam, enable5, low5, ninth5, ram5, after5, from5, numbers5};
 ghost use Rattle.mbc.specs.Mbc.{inRange};
 ghost use Rattle.mbc.specs.declared.mbc.Mapper.the-variants as mapper;
 
@@ -17,6 +17,16 @@ pub struct Mbc5 {
     pub rom: u16,
     pub ram: u8,
     pub enabled: bool,
+}
+
+// One of the RAM banks; 0 where there is none.
+fn chosen_ram(bank: u8, banks: u8) -> u8
+    ensures { λ r. ⌜ r ≡ chosenRam banks bank ⌝ }
+{
+    if banks == 0 {
+        return 0;
+    }
+    bank % banks
 }
 
 impl Mbc5 {
@@ -132,17 +142,12 @@ impl Mbc5 {
         next
     }
 
-    // 4000..5FFF: the RAM bank, 0 where there is none.
+    // 4000..5FFF: the RAM bank.
     fn select_ram(self, cartridge: Cartridge, value: u8) -> Mbc5
         ensures { λ r. ⌜ r ≡ ram5 cartridge self value ⌝ }
     {
         let mut next = self;
-        let banks = cartridge.ram_banks();
-        if banks == 0 {
-            next.ram = 0;
-            return next;
-        }
-        next.ram = value % 16 % banks;
+        next.ram = chosen_ram(value % 16, cartridge.ram_banks());
         next
     }
 

@@ -39,10 +39,10 @@ fn put_save(image: &mut [u8], save: &mut [u8], log: &mut [u8], at: u16, value: u
         return;
     }
     let cartridge = image::cartridge_at(image);
+    let mapper = image::mapper_at(image);
     let registers = image::registers_at(image);
     let answer = registers.answer(cartridge, at, value);
     let more = mmu::regions::store_answer(answer, used, save, log);
-    let mapper = image::mapper_at(image);
     if mapper.keeps(at) {
         image::put_used(image, more);
         return;

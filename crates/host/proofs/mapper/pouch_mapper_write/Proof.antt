@@ -1,7 +1,6 @@
 -- An image that is refused, an index that is, or both done.
 use mathlib.Core.Path.{sym, _∙_}
 use borrow.Author.Tests.{not-true, not-false}
-use Rattle.image.proofs.OpenLaws.{load-length}
 use Rattle.host.proofs.Mappers.{closed-write, open-mapped, after-slim, outside-write, done-write}
 use borrow.Author.Needs.{needs}
 use Rattle.host.proofs.mapper.pouch_mapper_write.Statement.{statement}
@@ -26,7 +25,7 @@ returns-2 : tie.Need-returns-2
 returns-2 c = outside-write _ (c .before .before .before .number .ensures) (c .before .before .if1 .left) (λ k. c .before .before .before .before .before .slice-known .given k .fits) _ _ (sym (c .before .is-mapped .ensures) ∙ not-true _ (c .if2 .taken))
 
 record-of-requires : tie.Need-record-of-requires
-record-of-requires c κs = (load-length _ (sym (c .before .before .before .before .number .ensures) ∙ c .before .before .before .if1 .left), sym (c .before .before .is-mapped .ensures) ∙ not-false _ (c .before .if2 .left))
+record-of-requires c κs = (open-mapped _ (c .before .before .before .before .number .ensures) (c .before .before .before .if1 .left) (λ k. c .before .before .before .before .before .before .slice-known .given k .fits), sym (c .before .before .is-mapped .ensures) ∙ not-false _ (c .before .if2 .left))
 
 put-mapper-requires : tie.Need-put-mapper-requires
 put-mapper-requires c κs = (open-mapped _ (c .before .before .before .before .before .before .number .ensures) (c .before .before .before .before .before .if1 .left) (λ k. c .before .before .before .before .before .before .before .before .slice-known .given k .fits), after-slim _ (c .before .before .before .before .before .before .number .ensures) (c .before .before .before .before .before .if1 .left) (λ k. c .before .before .before .before .before .before .before .before .slice-known .given k .fits) _ _)

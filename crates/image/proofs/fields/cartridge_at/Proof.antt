@@ -1,30 +1,21 @@
-use mathlib.Core.Path.{_∙_}
+-- The parts of the number are the fields (`cartridge-by`).
 use Rattle.image.proofs.MappingLaws.{cartridge-by}
 use borrow.Author.Needs.{needs}
 use Rattle.image.proofs.fields.cartridge_at.Statement.{statement}
 use Rattle.image.proofs.fields.cartridge_at.Tie as tie
-use Rattle.image.proofs.fields.cartridge_at.Reads as reads
-use Rattle.image.proofs.fields.cartridge_at.Lts as lts
-use Rattle.image.proofs.fields.mapping_at.Reads as mapping-at-reads
-use Rattle.mbc.proofs.cartridge.Cartridge.banks_of.Reads as banks-of-reads
 
--- src/fields.rt:124:9
 mapping-at-requires : tie.Need-mapping-at-requires
 mapping-at-requires c κs = search needs
 
--- src/fields.rt:126:36
 cast-banks-of : tie.Need-cast-banks-of
 cast-banks-of c = search needs
 
--- src/fields.rt:126:16
 banks-of-requires : tie.Need-banks-of-requires
 banks-of-requires c κs = search needs
 
--- src/fields.rt:127:15
 cast-t9 : tie.Need-cast-t9
 cast-t9 c = search needs
 
--- src/fields.rt:120:1
 returns : tie.Need-returns
 returns c = rw (c .banks-of .ensures, c .before .mapping-at .ensures .0) (cartridge-by _ (c .before .before .before .pre))
 

@@ -1,60 +1,45 @@
-use Rattle.image.proofs.MappingLaws.{common}
-use Rattle.mbc.specs.Mbc.{ramBanks}
-use Rattle.mbc.proofs.Enough.{four, one, none}
+-- Where no test fails, `common`: by the RAM code, which has three values.
 use borrow.Author.Tests.{not-false}
-use Rattle.rules.proofs.Tests.{granted}
 use native.Mathlib.Omega.{arith}
 use Prim.Native.Nat.{_/_, _%_}
 use mathlib.Core.Path.{_≡_, refl}
+use Rattle.mbc.specs.Mbc.{ramBanks}
+use Rattle.mbc.proofs.Enough.{four, one, none}
+use Rattle.image.proofs.MappingLaws.{common}
 use borrow.Author.Needs.{needs}
 use Rattle.image.proofs.fields.common_save.Statement.{statement}
 use Rattle.image.proofs.fields.common_save.Tie as tie
-use Rattle.image.proofs.fields.common_save.Reads as reads
-use Rattle.image.proofs.fields.common_save.Lts as lts
-use Rattle.image.proofs.fields.common_kind.Reads as common-kind-reads
-use Rattle.mbc.proofs.cartridge.Cartridge.banks_of.Reads as banks-of-reads
 
--- src/fields.rt:223:9
 returns : tie.Need-returns
 returns c = λ f. absurd (f refl)
 
--- src/fields.rt:225:9
 common-kind-requires : tie.Need-common-kind-requires
 common-kind-requires c κs = search needs
 
--- src/fields.rt:226:9
 returns-2 : tie.Need-returns-2
 returns-2 c = λ f. absurd (f refl)
 
--- src/fields.rt:230:9
 returns-3 : tie.Need-returns-3
 returns-3 c = λ f. absurd (f refl)
 
--- src/fields.rt:232:15
 cast-rom : tie.Need-cast-rom
 cast-rom c = search needs
 
--- src/fields.rt:233:28
 cast-banks-of : tie.Need-cast-banks-of
 cast-banks-of c = search needs
 
--- src/fields.rt:233:8
 banks-of-requires : tie.Need-banks-of-requires
 banks-of-requires c κs = search needs
 
--- src/fields.rt:234:9
 returns-4 : tie.Need-returns-4
 returns-4 c = λ f. absurd (f refl)
 
--- src/fields.rt:238:13
 returns-5 : tie.Need-returns-5
 returns-5 c = λ f. absurd (f refl)
 
--- src/fields.rt:241:13
 returns-6 : tie.Need-returns-6
 returns-6 c = λ f. absurd (f refl)
 
--- src/fields.rt:243:9
 returns-7 : tie.Need-returns-7
 unfolding ramBanks
 returns-7 c =
@@ -66,7 +51,6 @@ returns-7 c =
     λ f. common n kind (c .before .before .before .before .before .before .before .before .if1 .left) (omega (arith, c .before .before .before .before .before .if3 .left)) rom
     (none code (omega (arith, c .if7 .left)) (omega (arith, c .if7 .left)) (omega (arith, c .if7 .left))) 0 (rw code)
 
--- src/fields.rt:246:9
 returns-8 : tie.Need-returns-8
 unfolding ramBanks
 returns-8 c =
@@ -77,11 +61,9 @@ returns-8 c =
     let code : n / 32768 % 4 ≡ 3 = omega (arith, c .before .if5 .left, c .if8 .taken) in
     λ f. common n kind (c .before .before .before .before .before .before .before .if1 .left) (omega (arith, c .before .before .before .before .if3 .left)) rom (four code) 0x8000 (rw code)
 
--- src/fields.rt:249:9
 returns-9 : tie.Need-returns-9
 returns-9 c = λ f. absurd (f refl)
 
--- src/fields.rt:218:1
 returns-10 : tie.Need-returns-10
 unfolding ramBanks
 returns-10 c =

@@ -1,53 +1,37 @@
-use Rattle.image.proofs.MappingLaws.{mapped-by}
+-- Tests that are enough, and then all of them.
 use mathlib.Core.Path.{sym}
+use Rattle.image.proofs.MappingLaws.{mapped-by}
 use borrow.Author.Needs.{needs}
 use Rattle.image.proofs.fields.mapper_fits.Statement.{statement}
 use Rattle.image.proofs.fields.mapper_fits.Tie as tie
-use Rattle.image.proofs.fields.mapper_fits.Reads as reads
-use Rattle.image.proofs.fields.mapper_fits.Lts as lts
-use Rattle.image.proofs.fields.cartridge_at.Reads as cartridge-at-reads
-use Rattle.image.proofs.fields.common_save.Reads as common-save-reads
-use Rattle.image.proofs.fields.mapping_at.Reads as mapping-at-reads
-use Rattle.image.proofs.fields.registers_at.Reads as registers-at-reads
-use Rattle.image.proofs.fields.small_fits.Reads as small-fits-reads
-use Rattle.mbc.proofs.held.Registers.fit.Reads as fit-reads
 
--- src/fields.rt:296:9
 mapping-at-requires : tie.Need-mapping-at-requires
 mapping-at-requires c κs = search needs
 
--- src/fields.rt:297:8
 common-save-requires : tie.Need-common-save-requires
 common-save-requires c κs = search needs
 
--- src/fields.rt:298:9
 returns : tie.Need-returns
 returns c =
     let its = c .before .common-save .result in
     sym (mapped-by _ (c .before .before .before .before .pre) (c .before .before .mapping-at .ensures .0) (c .before .common-save .ensures (c .if1 .taken) .fits) .mapper)
 
--- src/fields.rt:300:8
 small-fits-requires : tie.Need-small-fits-requires
 small-fits-requires c κs = search needs
 
--- src/fields.rt:301:9
 returns-2 : tie.Need-returns-2
 returns-2 c =
     sym (mapped-by _ (c .before .before .before .before .before .before .pre) (c .before .before .before .before .mapping-at .ensures .0) (c .before .small-fits .ensures (c .if2 .taken)) .mapper)
 
--- src/fields.rt:303:9
 registers-at-requires : tie.Need-registers-at-requires
 registers-at-requires c κs = search needs
 
--- src/fields.rt:304:19
 cartridge-at-requires : tie.Need-cartridge-at-requires
 cartridge-at-requires c κs = search needs
 
--- src/fields.rt:304:5
 fit-requires : tie.Need-fit-requires
 fit-requires c κs = search needs
 
--- src/fields.rt:292:1
 returns-3 : tie.Need-returns-3
 returns-3 c = rw (c .fit .ensures, c .before .cartridge-at .ensures, c .before .before .registers-at .ensures)
 

@@ -1,29 +1,22 @@
-use Rattle.image.proofs.MappingLaws.{mapped-by}
-use Rattle.image.specs.Patches.{noSave}
+-- The commonest mappers' tests.
 use borrow.Author.Tests.{eqb-false, not-true}
 use lib.Dec.{eqb}
+use Rattle.image.specs.Patches.{noSave}
 use Rattle.rules.proofs.Tests.{untrue}
+use Rattle.image.proofs.MappingLaws.{mapped-by}
 use borrow.Author.Needs.{needs}
 use Rattle.image.proofs.fields.mapper_surely.Statement.{statement}
 use Rattle.image.proofs.fields.mapper_surely.Tie as tie
-use Rattle.image.proofs.fields.mapper_surely.Reads as reads
-use Rattle.image.proofs.fields.mapper_surely.Lts as lts
-use Rattle.image.proofs.fields.common_save.Reads as common-save-reads
-use Rattle.image.proofs.fields.mapping_at.Reads as mapping-at-reads
 
--- src/fields.rt:363:9
 returns : tie.Need-returns
 returns c = λ z. untrue z
 
--- src/fields.rt:365:17
 mapping-at-requires : tie.Need-mapping-at-requires
 mapping-at-requires c κs = search needs
 
--- src/fields.rt:365:5
 common-save-requires : tie.Need-common-save-requires
 common-save-requires c κs = search needs
 
--- src/fields.rt:359:1
 returns-2 : tie.Need-returns-2
 returns-2 c = λ z.
     let its = c .common-save .result in

@@ -1,54 +1,42 @@
-use Rattle.places.proofs.Laws.{power-le}
-use Rattle.image.proofs.MappingLaws.{common-lent}
-use Rattle.rules.proofs.Tests.{untrue}
-use Rattle.rules.proofs.Bits.{shifted-one}
+-- The commonest mappers' tests, and the two lengths.
 use borrow.Author.Tests.{eqb-true}
 use native.Mathlib.Omega.{arith}
 use Prim.Native.Nat.{_/_, _%_}
 use mathlib.Core.Path.{_∙_}
+use Rattle.places.proofs.Laws.{power-le}
+use Rattle.rules.proofs.Tests.{untrue}
+use Rattle.rules.proofs.Bits.{shifted-one}
+use Rattle.image.proofs.MappingLaws.{common-lent}
 use borrow.Author.Needs.{needs}
 use Rattle.image.proofs.fields.mapper_surely_fits.Statement.{statement}
 use Rattle.image.proofs.fields.mapper_surely_fits.Tie as tie
-use Rattle.image.proofs.fields.mapper_surely_fits.Reads as reads
-use Rattle.image.proofs.fields.mapper_surely_fits.Lts as lts
-use Rattle.image.proofs.fields.common_save.Reads as common-save-reads
-use Rattle.image.proofs.fields.mapping_at.Reads as mapping-at-reads
 
--- src/fields.rt:311:9
 returns : tie.Need-returns
 returns c = λ z. untrue z
 
--- src/fields.rt:313:9
 mapping-at-requires : tie.Need-mapping-at-requires
 mapping-at-requires c κs = search needs
 
--- src/fields.rt:314:9
 common-save-requires : tie.Need-common-save-requires
 common-save-requires c κs = search needs
 
--- src/fields.rt:316:9
 returns-2 : tie.Need-returns-2
 returns-2 c = λ z. untrue z
 
--- src/fields.rt:318:30
 cast-banks : tie.Need-cast-banks
 cast-banks c = search needs
 
--- src/fields.rt:318:24
 shl-banks : tie.Need-shl-banks
 shl-banks c = search needs
 
--- src/fields.rt:319:15
 mul-if3 : tie.Need-mul-if3
 mul-if3 c =
     let k = c .before .before .mapping-at .result / 131072 % 8 in
     rw (shifted-one 64 k (omega arith)) (search (needs, power-le k 7 (omega arith)))
 
--- src/fields.rt:320:9
 returns-3 : tie.Need-returns-3
 returns-3 c = λ z. untrue z
 
--- src/fields.rt:307:1
 returns-4 : tie.Need-returns-4
 returns-4 c = λ z.
     let n = c .before .before .before .mapping-at .result in

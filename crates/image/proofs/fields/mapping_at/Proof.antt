@@ -1,16 +1,12 @@
+-- It is the field that holds them all.
 use Rattle.image.specs.Patches.{mappingNumber}
 use borrow.Author.Needs.{needs}
 use Rattle.image.proofs.fields.mapping_at.Statement.{statement}
 use Rattle.image.proofs.fields.mapping_at.Tie as tie
-use Rattle.image.proofs.fields.mapping_at.Reads as reads
-use Rattle.image.proofs.fields.mapping_at.Lts as lts
-use Rattle.places.proofs.u32_at.Reads as u32-at-reads
 
--- src/fields.rt:117:5
 u32-at-requires : tie.Need-u32-at-requires
 u32-at-requires c κs = search needs
 
--- src/fields.rt:113:1
 returns : tie.Need-returns
 unfolding mappingNumber
 returns c = c .u32-at .ensures

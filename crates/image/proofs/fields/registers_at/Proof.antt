@@ -1,45 +1,34 @@
+-- The parts of the number are the fields (`registers-by`).
 use Prim.Native.Nat.{_/_, _%_}
+use native.Mathlib.Omega.{arith}
+use mathlib.Core.Path.{_≡_}
 use Rattle.mbc.proofs.Bits.{bit-forth}
 use Rattle.image.proofs.MappingLaws.{registers-by}
-use native.Mathlib.Omega.{arith}
-use mathlib.Core.Path.{_≡_, _∙_}
 use borrow.Author.Needs.{needs}
 use Rattle.image.proofs.fields.registers_at.Statement.{statement}
 use Rattle.image.proofs.fields.registers_at.Tie as tie
-use Rattle.image.proofs.fields.registers_at.Reads as reads
-use Rattle.image.proofs.fields.registers_at.Lts as lts
-use Rattle.image.proofs.fields.mapping_at.Reads as mapping-at-reads
-use Rattle.mbc.proofs.bit.Reads as bit-reads
 
--- src/fields.rt:135:9
 mapping-at-requires : tie.Need-mapping-at-requires
 mapping-at-requires c κs = search needs
 
--- src/fields.rt:137:15
 cast-t4 : tie.Need-cast-t4
 cast-t4 c = let h = c .mapping-at .ensures .1 in omega (arith, h)
 
--- src/fields.rt:138:14
 cast-t7 : tie.Need-cast-t7
 cast-t7 c = search needs
 
--- src/fields.rt:139:14
 cast-t10 : tie.Need-cast-t10
 cast-t10 c = search needs
 
--- src/fields.rt:140:15
 cast-t13 : tie.Need-cast-t13
 cast-t13 c = search needs
 
--- src/fields.rt:141:18
 bit-requires : tie.Need-bit-requires
 bit-requires c κs = search needs
 
--- src/fields.rt:142:15
 cast-t19 : tie.Need-cast-t19
 cast-t19 c = search needs
 
--- src/fields.rt:131:1
 returns : tie.Need-returns
 returns c =
     let n = c .before .mapping-at .result in

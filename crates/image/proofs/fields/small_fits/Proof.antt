@@ -1,26 +1,21 @@
+-- Where no test fails, `rom-only-fits` or `mbc2-fits`.
 use lib.Dec.{eqb}
-use borrow.Author.Tests.{ltb-true, ne-eqb, eqb-false, not-true}
+use borrow.Author.Tests.{ltb-true, eqb-false, not-true}
 use Prim.Native.Nat.{_/_, _%_}
 use mathlib.Core.Path.{_≡_}
-use Rattle.image.proofs.MappingLaws.{other-code, rom-only-fits, mbc2-fits}
 use native.Mathlib.Omega.{arith}
 use Rattle.rules.proofs.Tests.{untrue}
+use Rattle.image.proofs.MappingLaws.{other-code, rom-only-fits, mbc2-fits}
 use borrow.Author.Needs.{needs}
 use Rattle.image.proofs.fields.small_fits.Statement.{statement}
 use Rattle.image.proofs.fields.small_fits.Tie as tie
-use Rattle.image.proofs.fields.small_fits.Reads as reads
-use Rattle.image.proofs.fields.small_fits.Lts as lts
-use Rattle.mbc.proofs.cartridge.Cartridge.banks_of.Reads as banks-of-reads
 
--- src/fields.rt:252:13
 returns : tie.Need-returns
 returns c = λ z. untrue z
 
--- src/fields.rt:255:13
 returns-2 : tie.Need-returns-2
 returns-2 c = λ z. untrue z
 
--- src/fields.rt:257:9
 returns-3 : tie.Need-returns-3
 returns-3 c =
     let n = c .before .before .before .args .n in
@@ -28,43 +23,33 @@ returns-3 c =
     λ z. rom-only-fits n (omega (arith, c .before .before .if1 .taken)) (omega (arith, c .before .if2 .left)) (omega (arith, low)) (omega (arith, low)) (omega (arith, low)) (omega (arith, low)) (omega (arith, low))
     (other-code _ (n / 32768 % 4) (omega arith) (eqb-false (n / 32768 % 4) 1 (not-true (eqb (n / 32768 % 4) 1) z)))
 
--- src/fields.rt:260:9
 returns-4 : tie.Need-returns-4
 returns-4 c = λ z. untrue z
 
--- src/fields.rt:263:9
 returns-5 : tie.Need-returns-5
 returns-5 c = λ z. untrue z
 
--- src/fields.rt:266:9
 returns-6 : tie.Need-returns-6
 returns-6 c = λ z. untrue z
 
--- src/fields.rt:269:9
 returns-7 : tie.Need-returns-7
 returns-7 c = λ z. untrue z
 
--- src/fields.rt:272:9
 returns-8 : tie.Need-returns-8
 returns-8 c = λ z. untrue z
 
--- src/fields.rt:276:9
 returns-9 : tie.Need-returns-9
 returns-9 c = λ z. untrue z
 
--- src/fields.rt:278:15
 cast-rom : tie.Need-cast-rom
 cast-rom c = search needs
 
--- src/fields.rt:279:31
 cast-banks-of : tie.Need-cast-banks-of
 cast-banks-of c = search needs
 
--- src/fields.rt:279:11
 banks-of-requires : tie.Need-banks-of-requires
 banks-of-requires c κs = search needs
 
--- src/fields.rt:246:1
 returns-10 : tie.Need-returns-10
 returns-10 c =
     let n = c .before .before .before .before .before .before .before .before .args .n in

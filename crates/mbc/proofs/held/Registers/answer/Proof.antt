@@ -1,24 +1,17 @@
-use Rattle.mbc.specs.Mbc.{ramLen, mapperOf}
-use native.Mathlib.Omega.{arith}
-use Rattle.mbc.proofs.Sources.{ram-within, ram-answer}
+-- What the source keeps: the address lies in the save, so the test of it is decided.
 use mathlib.Core.Path.{_∙_}
+use Rattle.mbc.specs.Mbc.{ramLen, mapperOf}
+use Rattle.mbc.proofs.Sources.{ram-within, ram-answer}
 use borrow.Author.Needs.{needs}
 use Rattle.mbc.proofs.held.Registers.answer.Statement.{statement}
 use Rattle.mbc.proofs.held.Registers.answer.Tie as tie
-use Rattle.mbc.proofs.held.Registers.answer.Reads as reads
-use Rattle.mbc.proofs.held.Registers.answer.Lts as lts
-use Rattle.mbc.proofs.held.Registers.ram_source.Reads as ram-source-reads
-use Rattle.mbc.proofs.mbc.Source.kept.Reads as kept-reads
 
--- src/held.rt:137:13
 ram-source-requires : tie.Need-ram-source-requires
 ram-source-requires c κs = search needs
 
--- src/held.rt:138:9
 kept-requires : tie.Need-kept-requires
 kept-requires c κs = search needs
 
--- src/held.rt:133:5
 returns : tie.Need-returns
 returns c = let p = c .before .before .pre in c .kept .ensures (ramLen (c .before .before .args .cartridge) (mapperOf (c .before .before .args .self))) (rw (c .before .ram-source .ensures) (ram-within _ _ _ (p .0) (p .1 .0) (p .1 .1))) ∙ (rw (c .before .ram-source .ensures) (ram-answer _ _ _ _ (p .1 .0)))
 

@@ -1,46 +1,33 @@
-use Rattle.mbc.proofs.ByKind.{as-rom-only, as-mbc1, as-mbc2, as-mbc5, fit-as}
-use Rattle.mbc.specs.declared.mbc.Mapper.the-variants.{RomOnly, Mbc1, Mbc2, Mbc5}
+-- By the kind: each mapper's own answer (`fit-as`).
 use native.Mathlib.Omega.{arith}
 use mathlib.Core.Path.{_∙_}
+use Rattle.mbc.specs.declared.mbc.Mapper.the-variants.{RomOnly}
+use Rattle.mbc.proofs.ByKind.{as-rom-only, as-mbc1, as-mbc2, as-mbc5, fit-as}
 use borrow.Author.Needs.{needs}
 use Rattle.mbc.proofs.held.Registers.fit.Statement.{statement}
 use Rattle.mbc.proofs.held.Registers.fit.Tie as tie
-use Rattle.mbc.proofs.held.Registers.fit.Reads as reads
-use Rattle.mbc.proofs.held.Registers.fit.Lts as lts
-use Rattle.mbc.proofs.mbc1.Mbc1.fit.Reads as mbc1-Mbc1-fit-reads
-use Rattle.mbc.proofs.mbc2.Mbc2.fit.Reads as mbc2-Mbc2-fit-reads
-use Rattle.mbc.proofs.mbc5.Mbc5.fit.Reads as mbc5-Mbc5-fit-reads
-use Rattle.mbc.proofs.rom_only.fit.Reads as rom-only-fit-reads
 
--- src/held.rt:76:17
 fit-requires : tie.Need-fit-requires
 fit-requires c κs = search needs
 
--- src/held.rt:76:17
 returns : tie.Need-returns
 returns c = c .fit .ensures ∙ fit-as (c .before .before .before .before .before .args .cartridge) (c .before .before .before .before .before .args .self) RomOnly (as-rom-only (c .before .before .before .before .before .args .self) (c .before .if2 .taken))
 
--- src/held.rt:78:13
 fit-requires-2 : tie.Need-fit-requires-2
 fit-requires-2 c κs = search needs
 
--- src/held.rt:78:13
 returns-2 : tie.Need-returns-2
 returns-2 c = c .fit2 .ensures ∙ fit-as (c .before .before .before .before .before .args .cartridge) (c .before .before .before .before .before .args .self) _ (as-mbc1 (c .before .before .before .before .before .args .self) (omega (arith, c .before .before .before .if1 .taken, c .before .if2 .left)))
 
--- src/held.rt:81:13
 fit-requires-3 : tie.Need-fit-requires-3
 fit-requires-3 c κs = search needs
 
--- src/held.rt:81:13
 returns-3 : tie.Need-returns-3
 returns-3 c = c .fit3 .ensures ∙ fit-as (c .before .before .before .before .before .args .cartridge) (c .before .before .before .before .before .args .self) _ (as-mbc2 (c .before .before .before .before .before .args .self) (c .before .if3 .taken))
 
--- src/held.rt:83:9
 fit-requires-4 : tie.Need-fit-requires-4
 fit-requires-4 c κs = search needs
 
--- src/held.rt:71:5
 returns-4 : tie.Need-returns-4
 returns-4 c = c .fit4 .ensures ∙ fit-as (c .before .before .before .before .before .args .cartridge) (c .before .before .before .before .before .args .self) _ (as-mbc5 (c .before .before .before .before .before .args .self) (omega (arith, c .before .before .before .if1 .left, c .before .if3 .left)))
 

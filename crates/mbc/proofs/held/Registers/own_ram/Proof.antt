@@ -1,14 +1,11 @@
+-- By the kind.
 use Rattle.mbc.proofs.ByKind.{as-mbc2, no-own-ram}
 use Rattle.mbc.proofs.held.Registers.own_ram.Statement.{statement}
 use Rattle.mbc.proofs.held.Registers.own_ram.Tie as tie
-use Rattle.mbc.proofs.held.Registers.own_ram.Reads as reads
-use Rattle.mbc.proofs.held.Registers.own_ram.Lts as lts
 
--- src/held.rt:117:13
 returns : tie.Need-returns
 returns c = rw (as-mbc2 (c .before .before .args .self) (c .if1 .taken))
 
--- src/held.rt:113:5
 returns-2 : tie.Need-returns-2
 returns-2 c = no-own-ram (c .before .before .args .self) (c .if1 .left)
 

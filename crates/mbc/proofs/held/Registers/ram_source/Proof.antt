@@ -1,48 +1,34 @@
-use Rattle.mbc.proofs.ByKind.{as-rom-only, as-mbc2, banked-source}
-use Rattle.mbc.specs.Mbc.{ramSource}
+-- By the kind; Mbc1 and Mbc5 show a bank (`banked-source`).
 use mathlib.Core.Path.{_∙_}
+use Rattle.mbc.specs.Mbc.{ramSource}
+use Rattle.mbc.proofs.ByKind.{as-rom-only, as-mbc2, banked-source}
 use borrow.Author.Needs.{needs}
 use Rattle.mbc.proofs.held.Registers.ram_source.Statement.{statement}
 use Rattle.mbc.proofs.held.Registers.ram_source.Tie as tie
-use Rattle.mbc.proofs.held.Registers.ram_source.Reads as reads
-use Rattle.mbc.proofs.held.Registers.ram_source.Lts as lts
-use Rattle.mbc.proofs.held.Registers.ram_bank.Reads as ram-bank-reads
-use Rattle.mbc.proofs.mbc2.Mbc2.from_registers.Reads as from-registers-reads
-use Rattle.mbc.proofs.mbc2.Mbc2.ram_source.Reads as mbc2-Mbc2-ram-source-reads
-use Rattle.mbc.proofs.mbc.Source.of_ram.Reads as of-ram-reads
-use Rattle.mbc.proofs.rom_only.ram_source.Reads as rom-only-ram-source-reads
 
--- src/held.rt:103:17
 from-registers-requires : tie.Need-from-registers-requires
 from-registers-requires c κs = search needs
 
--- src/held.rt:104:13
 ram-source-requires : tie.Need-ram-source-requires
 ram-source-requires c κs = search needs
 
--- src/held.rt:104:13
 returns : tie.Need-returns
 unfolding ramSource
 returns c = rw (as-mbc2 (c .before .before .before .before .args .self) (c .before .before .if1 .taken)) (rw (c .before .from-registers .ensures) at (c .ram-source .ensures))
 
--- src/held.rt:107:13
 ram-source-requires-2 : tie.Need-ram-source-requires-2
 ram-source-requires-2 c κs = search needs
 
--- src/held.rt:107:13
 returns-2 : tie.Need-returns-2
 unfolding ramSource
 returns-2 c = rw (as-rom-only (c .before .before .before .before .before .args .self) (c .before .if2 .taken)) (c .ram-source2 .ensures)
 
--- src/held.rt:109:43
 ram-bank-requires : tie.Need-ram-bank-requires
 ram-bank-requires c κs = search needs
 
--- src/held.rt:109:9
 of-ram-requires : tie.Need-of-ram-requires
 of-ram-requires c κs = search needs
 
--- src/held.rt:98:5
 returns-3 : tie.Need-returns-3
 returns-3 c = (c .of-ram .ensures ∙ rw (c .before .ram-bank .ensures)) ∙ banked-source (c .before .before .before .before .before .before .before .args .cartridge) (c .before .before .before .before .before .before .before .args .self) (c .before .before .before .before .before .before .before .args .index) (c .before .before .before .before .before .if1 .left) (c .before .before .before .if2 .left)
 

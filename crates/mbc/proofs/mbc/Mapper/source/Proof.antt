@@ -1,34 +1,25 @@
-use Rattle.mbc.proofs.RegisterLaws.{mapper-held}
+-- Each branch decides the test of `source`.
 use Rattle.mbc.specs.Mbc.{source}
 use Rattle.rules.proofs.Tests.{cases}
+use Rattle.mbc.proofs.RegisterLaws.{mapper-held}
 use Rattle.mbc.proofs.Places.{in-ram}
 use borrow.Author.Needs.{needs}
 use Rattle.mbc.proofs.mbc.Mapper.source.Statement.{statement}
 use Rattle.mbc.proofs.mbc.Mapper.source.Tie as tie
-use Rattle.mbc.proofs.mbc.Mapper.source.Reads as reads
-use Rattle.mbc.proofs.mbc.Mapper.source.Lts as lts
-use Rattle.mbc.proofs.held.Registers.ram_source.Reads as ram-source-reads
-use Rattle.mbc.proofs.mbc.Mapper.registers.Reads as registers-reads
-use Rattle.mbc.proofs.mbc.rom_place.Reads as rom-place-reads
 
--- src/mbc.rt:231:13
 registers-requires : tie.Need-registers-requires
 registers-requires c κs = search needs
 
--- src/mbc.rt:233:32
 rom-place-requires : tie.Need-rom-place-requires
 rom-place-requires c κs = search needs
 
--- src/mbc.rt:233:13
 returns : tie.Need-returns
 unfolding source
 returns c = rw (c .rom-place .ensures, c .before .before .registers .ensures) (search cases)
 
--- src/mbc.rt:235:9
 ram-source-requires : tie.Need-ram-source-requires
 ram-source-requires c κs = in-ram _ (c .before .before .pre) (c .if1 .left) .0
 
--- src/mbc.rt:227:5
 returns-2 : tie.Need-returns-2
 unfolding source
 returns-2 c = rw (c .ram-source .ensures, mapper-held (c .before .before .before .args .self) (c .before .before .registers .result) (c .before .before .registers .ensures)) (search cases)

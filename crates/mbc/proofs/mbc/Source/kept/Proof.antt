@@ -1,40 +1,31 @@
+-- By the source's case; an address in the save passes the test.
 use native.Mathlib.Omega.{arith}
 use borrow.Author.Tests.{lt-ltb}
 use borrow.Author.Needs.{needs}
 use Rattle.mbc.proofs.mbc.Source.kept.Statement.{statement}
 use Rattle.mbc.proofs.mbc.Source.kept.Tie as tie
-use Rattle.mbc.proofs.mbc.Source.kept.Reads as reads
-use Rattle.mbc.proofs.mbc.Source.kept.Lts as lts
 
--- src/mbc.rt:156:31
 enum-told : tie.Need-enum-told
 enum-told c = search needs
 
--- src/mbc.rt:157:26
 enum-known-self : tie.Need-enum-known-self
 enum-known-self c = search needs
 
--- src/mbc.rt:158:26
 enum-known-self-2 : tie.Need-enum-known-self-2
 enum-known-self-2 c = search needs
 
--- src/mbc.rt:162:33
 enum-told-2 : tie.Need-enum-told-2
 enum-told-2 c = search needs
 
--- src/mbc.rt:152:5
 returns : tie.Need-returns
 returns c = λ len w. absurd (omega (arith, rw (c .enum-told .given .1) at w))
 
--- src/mbc.rt:152:5
 returns-2 : tie.Need-returns-2
 returns-2 c = λ len w. rw (c .before .self .given .1, lt-ltb _ _ (rw (c .before .self .given .1) at w))
 
--- src/mbc.rt:152:5
 returns-3 : tie.Need-returns-3
 returns-3 c = λ len w. rw (c .before .self2 .given .1, lt-ltb _ _ (rw (c .before .self2 .given .1) at w))
 
--- src/mbc.rt:152:5
 returns-4 : tie.Need-returns-4
 returns-4 c = λ len w. rw (c .enum-told2 .given .1)
 

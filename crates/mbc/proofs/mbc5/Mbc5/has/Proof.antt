@@ -1,28 +1,23 @@
-use Rattle.mbc.proofs.Same.{unlike}
-use Rattle.mbc.proofs.Bits.{bit-small, bit-test}
-use Rattle.mbc.specs.declared.held.Registers.{Registers}
-use Rattle.mbc.specs.Registers.{isOn, same}
+-- One field is a bit, and two hold their starting values.
 use borrow.Author.Tests.{eq-eqb, le-leb}
 use native.Mathlib.Omega.{arith}
 use mathlib.Core.Path.{refl, ap}
+use Rattle.mbc.specs.declared.held.Registers.{Registers}
+use Rattle.mbc.specs.Registers.{isOn, same}
+use Rattle.mbc.proofs.Same.{unlike}
+use Rattle.mbc.proofs.Bits.{bit-small, bit-test}
 use Rattle.mbc.proofs.mbc5.Mbc5.has.Statement.{statement}
 use Rattle.mbc.proofs.mbc5.Mbc5.has.Tie as tie
-use Rattle.mbc.proofs.mbc5.Mbc5.has.Reads as reads
-use Rattle.mbc.proofs.mbc5.Mbc5.has.Lts as lts
 
--- src/mbc5.rt:51:13
 returns : tie.Need-returns
 returns c = unlike _ _ (λ e. c .if1 .taken (ap (λ (r : Registers). r .kind) e))
 
--- src/mbc5.rt:54:13
 returns-2 : tie.Need-returns-2
 returns-2 c = unlike _ _ (λ e. c .if2 .taken (ap (λ (r : Registers). r .mode) e))
 
--- src/mbc5.rt:57:13
 returns-3 : tie.Need-returns-3
 returns-3 c = unlike _ _ (λ e. omega (arith, c .if3 .taken, ap (λ (r : Registers). r .enabled) e, bit-small (isOn (c .before .before .before .before .before .before .args .r .enabled))))
 
--- src/mbc5.rt:47:5
 returns-4 : tie.Need-returns-4
 unfolding same
 returns-4 c = let r = c .before .before .before .before .before .before .before .args .r in

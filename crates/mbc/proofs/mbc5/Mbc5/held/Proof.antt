@@ -1,33 +1,26 @@
+-- Each branch decides a test of `held5`.
+use native.Mathlib.Omega.{arith}
+use borrow.Author.Tests.{lt-ltb, le-ltb}
 use Rattle.mbc.proofs.Cases.Mbc5Laws.{below-fits, above-fits-not, start-fits}
 use Rattle.mbc.proofs.Cartridges.{ram-code, no-ram-code}
-use native.Mathlib.Omega.{arith}
-use borrow.Author.Tests.{lt-ltb, le-ltb, ne-eqb}
 use borrow.Author.Needs.{needs}
 use Rattle.mbc.proofs.mbc5.Mbc5.held.Statement.{statement}
 use Rattle.mbc.proofs.mbc5.Mbc5.held.Tie as tie
-use Rattle.mbc.proofs.mbc5.Mbc5.held.Reads as reads
-use Rattle.mbc.proofs.mbc5.Mbc5.held.Lts as lts
-use Rattle.mbc.proofs.cartridge.Cartridge.ram_banks.Reads as ram-banks-reads
 
--- src/mbc5.rt:69:13
 returns : tie.Need-returns
 returns c = rw (le-ltb _ _ (c .if1 .taken))
 
--- src/mbc5.rt:71:13
 ram-banks-requires : tie.Need-ram-banks-requires
 ram-banks-requires c κs = search needs
 
--- src/mbc5.rt:73:13
 returns-2 : tie.Need-returns-2
 returns-2 c = let b = c .before .ram-banks .ensures in
     let some = ram-code (c .before .before .before .before .args .cartridge .code) (omega (arith, c .if2 .taken, b)) in
     rw (lt-ltb _ _ (c .before .before .if1 .left), ← b, below-fits _ _ (c .if2 .taken), some)
 
--- src/mbc5.rt:76:13
 returns-3 : tie.Need-returns-3
 returns-3 c = rw (lt-ltb _ _ (c .before .before .before .if1 .left), ← c .before .before .ram-banks .ensures, above-fits-not _ _ (c .before .if2 .left) (c .if3 .taken))
 
--- src/mbc5.rt:63:5
 returns-4 : tie.Need-returns-4
 returns-4 c = let b = c .before .before .before .ram-banks .ensures in
     let none = no-ram-code (c .before .before .before .before .before .before .args .cartridge .code) (omega (arith, b, c .before .before .if2 .left, c .before .if3 .left)) in
