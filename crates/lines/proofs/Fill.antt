@@ -4,7 +4,7 @@ use mathlib.Core.List.{List}
 use Prim.Native.Nat.{ℕ, _+_, _≤_, _<_}
 use native.Mathlib.Decide.{decLt}
 use native.Mathlib.Omega.{arith}
-use lib.ListN.{length, getD, set, length-set}
+use lib.ListN.{length, getD, set, length-set, replicate, length-replicate}
 use lib.Seq.{getD-set-same, getD-set-other}
 use Rattle.lines.specs.Contents.{Filled}
 
@@ -31,3 +31,7 @@ filling-next rule size bytes n v inside e p =
 pub filling-done : (rule : ℕ → ℕ) (size : ℕ) (bytes : List ℕ) (n : ℕ) → length bytes ≤ n
     → Filling rule size bytes n → Filled rule bytes (length bytes)
 filling-done rule size bytes n h p a l = p .2 a (omega arith)
+
+-- a program's ROM before it is filled: by a law, with its level written, as antt counts them one by one where it has to find that
+pub rom-zeros : length {A = ℕ} (replicate 4194304 0) ≡ 4194304
+rom-zeros = length-replicate {0} {A = ℕ} 4194304 0

@@ -5,7 +5,7 @@ use Prim.Native.Nat.{ℕ, _+_, _*_, _/_, _%_, _<_}
 use lib.ListN.{getD}
 
 abbrev pub romByte : ℕ → ℕ
-romByte a = (a + a / 16384 * 7 + a / 256 * 3) % 256
+romByte a = (a + a / 16384 * 7 + a / 256 * 3 + a / 4194304 * 13) % 256
 
 abbrev pub saveByte : ℕ → ℕ
 saveByte a = (a * 5 + a / 8192 * 11 + 17) % 256

@@ -3,10 +3,13 @@ ghost use mathlib.Core.Path.{_≡_};
 ghost use lib.ListN.{length};
 ghost use Rattle.lines.specs.Contents.{romByte, saveByte, Filled};
 
+// The ROM that a program has, of 256 banks: it stands on the stack, and 512 would take all that a system usually gives.
+pub const ROM_LEN: usize = 0x400000;
+
 pub fn rom_byte(a: usize) -> u8
     ensures { λ r. ⌜ r ≡ romByte a ⌝ }
 {
-    ((a % 256 + a / 16384 % 256 * 7 + a / 256 % 256 * 3) % 256) as u8
+    ((a % 256 + a / 16384 % 256 * 7 + a / 256 % 256 * 3 + a / 4194304 % 256 * 13) % 256) as u8
 }
 
 pub fn save_byte(a: usize) -> u8

@@ -16,12 +16,27 @@ mul-result-2 c = search needs
 add-result-2 : tie.Need-add-result-2
 add-result-2 c = search needs
 
+mul-result-3 : tie.Need-mul-result-3
+mul-result-3 c = search needs
+
+add-result-3 : tie.Need-add-result-3
+add-result-3 c = search needs
+
 cast-result : tie.Need-cast-result
 cast-result c = search needs
 
 returns : tie.Need-returns
-returns c = rom-sum _ _ _
+returns c = rom-sum _ _ _ _
 
 pub rom-byte-spec : {M : Type 1} → statement M
 rom-byte-spec =
-    tie.close (tie.spec mul-result add-result mul-result-2 add-result-2 cast-result returns)
+    tie.close
+    (tie.spec
+    mul-result
+    add-result
+    mul-result-2
+    add-result-2
+    mul-result-3
+    add-result-3
+    cast-result
+    returns)
