@@ -18,7 +18,7 @@ use self::edges::Size;
 use crate::random::Random;
 
 const RECORDED_SEED: u64 = 33;
-const RECORDED_LISTS: usize = 4;
+const RECORDED_LISTS: usize = 6;
 
 /// Corners, all edges and `count` random lists.
 pub fn print(seed: u64, count: usize, out: &mut dyn Write) -> io::Result<()> {

@@ -19,8 +19,12 @@ pub struct Machine {
     mappers: BTreeMap<Shape, Held>,
 }
 
-/// A cartridge's kind (0 RomOnly, 1 Mbc1, 2 Mbc2), log2 of its ROM banks and
-/// its RAM code.
+pub const ROM_ONLY: u8 = 0;
+pub const MBC1: u8 = 1;
+pub const MBC2: u8 = 2;
+pub const MBC5: u8 = 3;
+
+/// A cartridge's kind, log2 of its ROM banks and its RAM code.
 #[derive(Clone, Copy, PartialEq, Eq, PartialOrd, Ord)]
 pub struct Shape {
     pub kind: u8,
@@ -73,7 +77,7 @@ impl Shape {
     /// are put in afterwards, over the header too.
     pub fn cartridge(self) -> Cartridge {
         let mut rom = vec![0; 0x4000 << self.log];
-        rom[0x0147] = [0x00, 0x01, 0x05][usize::from(self.kind)];
+        rom[0x0147] = [0x00, 0x01, 0x05, 0x19][usize::from(self.kind)];
         rom[0x0149] = self.code;
         let contents = (0..rom.len()).map(rom_byte).collect();
         let mut cartridge = Cartridge::from_rom(rom).expect("a cartridge");
@@ -84,9 +88,11 @@ impl Shape {
     }
 }
 
-/// The ROM's byte at an address: tells bank, page and place apart.
+/// The ROM's byte at an address: tells bank, page and place apart, and bank 256 from
+/// bank 0.
 fn rom_byte(address: usize) -> u8 {
-    ((address + address / 16384 * 7 + address / 256 * 3) % 256) as u8
+    let upper = address / 4_194_304;
+    ((address + address / 16384 * 7 + address / 256 * 3 + upper * 13) % 256) as u8
 }
 
 /// The save's byte at an address.

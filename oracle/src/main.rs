@@ -13,6 +13,7 @@ mod hex;
 mod leaves;
 mod machine;
 mod random;
+mod unseen;
 
 use std::io::{self, BufWriter, Write};
 use std::process::ExitCode;

@@ -33,7 +33,7 @@ fn bytes(word: &str) -> Vec<u8> {
 }
 
 fn fresh(input: &[u8]) -> Memory {
-    let mbc_type = [MbcType::RomOnly, MbcType::Mbc1, MbcType::Mbc2][usize::from(input[0])];
+    let mbc_type = [MbcType::RomOnly, MbcType::Mbc1, MbcType::Mbc2, MbcType::Mbc5][usize::from(input[0])];
     let cartridge = cartridge(mbc_type, 1 << input[1], input[2]);
     let save: Vec<u8> = (0..cartridge.save_len()).map(|at| (at * 5 + at / 8192 * 11 + 17) as u8).collect();
     let mut memory = Memory::new(cartridge, input[3] == 1, &save).unwrap();
@@ -120,7 +120,7 @@ fn memories(memory: &Memory) -> Vec<u8> {
 }
 
 /// The widths of the image's fields behind the colours, in document 01's order, up to the log's use.
-const WIDTHS: [usize; 28] = [1, 1, 1, 1, 3, 1, 1, 8, 8, 8, 8, 8, 8, 10, 16, 16, 32, 32, 32, 32, 2, 3, 2, 7, 2, 1, 1, 2];
+const WIDTHS: [usize; 28] = [1, 1, 1, 1, 3, 1, 1, 8, 8, 8, 8, 8, 8, 10, 16, 16, 32, 32, 32, 32, 2, 4, 2, 9, 2, 1, 1, 2];
 const LOG2_N: usize = 21;
 
 fn state(image: &Image) -> Vec<u8> {

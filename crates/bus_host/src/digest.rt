@@ -125,6 +125,7 @@ fn of_mapper(h: u32, memory: Memory) -> u32 {
         high(cartridge.banks),
         low(cartridge.banks),
         cartridge.code,
+        high(held.rom),
         low(held.rom),
         held.ram,
         held.mode,

@@ -48,8 +48,8 @@ impl Letter {
             Letter::Release => 4,
             Letter::Poll => 6,
             Letter::Pad => 2,
-            Letter::Write => 11,
-            Letter::Read => 10,
+            Letter::Write => 12,
+            Letter::Read => 11,
             Letter::Interrupts => 3,
         }
     }
@@ -65,7 +65,7 @@ impl Letter {
             Letter::Release => 3,
             Letter::Poll => 6,
             Letter::Pad => 3,
-            Letter::Write => 9,
+            Letter::Write => 10,
             Letter::Read => 1,
             Letter::Interrupts => 3,
         }

@@ -92,11 +92,16 @@ fn replay(rom: &[u8], save: &[u8]) -> Tally {
     state.tally
 }
 
-fn main() {
-    let mut rom = [0u8; 131072];
-    pattern::fill_rom(&mut rom);
+// With the largest save.
+fn run(rom: &[u8]) {
     let mut save = [0u8; 32768];
     pattern::fill_save(&mut save);
-    let tally = replay(&rom, &save);
+    let tally = replay(rom, &save);
     tally.report(&letter::NAMES);
+}
+
+fn main() {
+    let mut rom = [0u8; pattern::ROM_LEN];
+    pattern::fill_rom(&mut rom);
+    run(&rom);
 }

@@ -1,6 +1,7 @@
 // The letters W and R: a mapper's write, and its read over the contents of lines::pattern.
 use lines::answer::Ours;
 use lines::answer::refused;
+use lines::number::high;
 use lines::number::low;
 use lines::number::word;
 use lines::pattern;
@@ -26,11 +27,11 @@ fn cartridge_of(given: &[u8; 12]) -> Cartridge {
 fn mapper_of(given: &[u8; 12]) -> Made {
     let held = Registers {
         kind: given[0],
-        rom: word(0, given[3]),
-        ram: given[4],
-        mode: given[5],
-        enabled: given[6],
-        high: given[7],
+        rom: word(given[3], given[4]),
+        ram: given[5],
+        mode: given[6],
+        enabled: given[7],
+        high: given[8],
     };
     if held.is_sound() {
         return Made::Some(Mapper::from_registers(held));
@@ -38,7 +39,7 @@ fn mapper_of(given: &[u8; 12]) -> Made {
     Made::None
 }
 
-// What a write asks of the save, behind the mapper's five bytes.
+// What a write asks of the save, behind the mapper's six bytes.
 fn with_answer(number: u8, registers: [u8; 12], answer: Answer) -> Ours {
     let mut bytes = registers;
     let Answer::Stored { at, value } = answer else {
@@ -50,10 +51,10 @@ fn with_answer(number: u8, registers: [u8; 12], answer: Answer) -> Ours {
     if 65535 < at {
         return refused();
     }
-    bytes[5] = 1;
-    bytes[6] = (at / 256) as u8;
-    bytes[7] = (at % 256) as u8;
-    bytes[8] = value;
+    bytes[6] = 1;
+    bytes[7] = (at / 256) as u8;
+    bytes[8] = (at % 256) as u8;
+    bytes[9] = value;
     Ours {
         number: number,
         bytes: bytes,
@@ -65,19 +66,20 @@ pub fn write(given: &[u8; 12]) -> Ours {
     let Made::Some(mapper) = made else {
         return refused();
     };
-    let index = word(given[8], given[9]);
-    let wrote = mapper.write_byte(cartridge_of(given), index, given[10]);
+    let index = word(given[9], given[10]);
+    let wrote = mapper.write_byte(cartridge_of(given), index, given[11]);
     let next = wrote.mapper;
     let after = next.registers();
     if after.kind != given[0] {
         return refused();
     }
     let mut bytes = [0u8; 12];
-    bytes[0] = low(after.rom);
-    bytes[1] = after.ram;
-    bytes[2] = after.mode;
-    bytes[3] = after.enabled;
-    bytes[4] = after.high;
+    bytes[0] = high(after.rom);
+    bytes[1] = low(after.rom);
+    bytes[2] = after.ram;
+    bytes[3] = after.mode;
+    bytes[4] = after.enabled;
+    bytes[5] = after.high;
     let answer = wrote.answer;
     with_answer(wrote.number, bytes, answer)
 }
@@ -122,7 +124,7 @@ pub fn read(given: &[u8; 12], rom: &[u8], save: &[u8]) -> Ours {
         return refused();
     };
     let cartridge = cartridge_of(given);
-    let index = word(given[8], given[9]);
+    let index = word(given[9], given[10]);
     if !mapper.in_range(cartridge) {
         return refused();
     }

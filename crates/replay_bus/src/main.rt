@@ -162,15 +162,19 @@ fn replay(
     state.tally
 }
 
-// The memories: as many bytes as the largest bus of a list has, and the longest log.
-fn main() {
-    let mut rom = [0u8; 131072];
-    pattern::fill_rom(&mut rom);
+// With the other memories: as many bytes as the largest bus of a list has, and the longest log.
+fn run(rom: &[u8]) {
     let mut vram = [0u8; 16384];
     let mut wram = [0u8; 32768];
     let mut save = [0u8; savelog::SAVE_LIMIT];
     let mut log = [0u8; savelog::LOG_LIMIT];
     let mut sound = [0u8; 48];
-    let tally = replay(&rom, &mut vram, &mut wram, &mut save, &mut log, &mut sound);
+    let tally = replay(rom, &mut vram, &mut wram, &mut save, &mut log, &mut sound);
     tally.report(&letter::NAMES);
+}
+
+fn main() {
+    let mut rom = [0u8; pattern::ROM_LEN];
+    pattern::fill_rom(&mut rom);
+    run(&rom);
 }

@@ -1,10 +1,11 @@
 //! Corners on a whole bus, with the answers that we expect, by hand from
-//! document 01 ("Corners that decide" and the rules). If the Rust gives
-//! another, no list is printed. An N here leaves the sound window out.
+//! document 01 ("Corners that decide" and the rules), for Mbc5 from document
+//! 02. If the Rust gives another, no list is printed. An N here leaves the sound
+//! window out.
 //!
-//! Not here: corner 10's N 128 (these lists end at 8 banks) and corner 9 with
-//! RAM enabled (there the Rust is not to be followed). Corner 12 shows in the
-//! digest of the memories alone; `record_bytes` says it by itself.
+//! Not here: corner 9 with RAM enabled (there the Rust is not to be followed).
+//! Corner 12 shows in the digest of the memories alone; `record_bytes` says it
+//! by itself.
 
 use std::io::{self, Error};
 
@@ -13,7 +14,7 @@ use crate::hex;
 use crate::leaves;
 
 /// One list each, lines parted by semicolons.
-const CORNERS: [&str; 48] = [
+const CORNERS: [&str; 51] = [
     // 1. Fresh: FF44 reads 90, FF00 reads C0.
     "N 00010000; R FF44 90; R FF00 C0; O FF00 CF; A - 01; E - 01",
     "N 00010001; R FF44 90; R FF00 C0; O FF00 CF; R FF04 44; R FF02 7C",
@@ -59,9 +60,19 @@ const CORNERS: [&str; 48] = [
      R 9FF0 03; R 9FFF 12; R A000 FF; W 00000A 00; R A000 11; R A001 16; k - 00; R A00F 5C",
     // 10. Mbc1, N 4: 2000 given 10 selects 0; 4000 given 00 then selects 1.
     "N 01020000; R 4000 C7; W 200010 00; R 4000 00; W 400000 00; R 4000 C7; W 200003 00; R 7FFF 11",
+    // N 128: 4000 given 1 then 2000 given 0 selects 33.
+    "N 01070000; W 400001 00; W 200000 00; R 4000 A7",
     // 11. Mbc2 enabled: A000 given AB stores 0B. Its save is read by 4 bits.
     "N 02010000; R A000 FF; R A1FF FF; R A200 00; W 20000A 00; R A000 FF; W 00000A 00; \
      R A001 06; W A000AB 00; R A000 0B; W A200FF 00; R A200 00; W 210002 00; R 4000 00",
+    // Mbc5, N 8: bank 0 is selected by 0 and by 8; the ninth bit does not count,
+    // 6000 is no register, and four RAM banks need no mode.
+    "N 03030300; R 4000 C7; W 200000 00; R 4000 00; W 2FFF07 00; R 4000 71; W 300001 00; R 4000 71; \
+     W 6000FF 00; R 4000 71; W 200008 00; R 4000 00; R A000 FF; W 40000E 00; W 1FFF0A 00; R A000 27; \
+     W A00055 00; R A000 55; W 400003 00; R A000 32; W 5FFF06 00; R A000 55",
+    // N 256, no RAM: nothing enables it.
+    "N 03080000; W 2000FF 00; R 4000 39; W 00000A 00; R A000 FF; W A00012 00; R A000 FF; W 400003 00; \
+     R BFFF FF",
     // 13. FF68 80, then FF69 1F, 7C: colour (31, 0, 31), FF68 reads C2.
     "N 00010001; W FF6880 00; W FF691F 00; W FF697C 00; R FF68 C2; W FF6800 00; O FF69 1F; \
      R FF69 FF; W FF6801 00; O FF69 7C; R FF69 FC",

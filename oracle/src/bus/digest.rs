@@ -62,12 +62,12 @@ fn state(host: &Host) -> Bytes {
     ] {
         bytes.extend(number.to_be_bytes());
     }
-    let banks = &hidden.banks;
+    let banks = host.banks();
     bytes.push(host.shape.kind);
     bytes.extend((1u16 << host.shape.log).to_be_bytes());
+    bytes.push(host.shape.code);
+    bytes.extend((banks.rom as u16).to_be_bytes());
     bytes.extend([
-        host.shape.code,
-        banks.rom as u8,
         banks.ram as u8,
         banks.mode.into(),
         banks.enabled.into(),

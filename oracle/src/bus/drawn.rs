@@ -133,7 +133,7 @@ fn offset(random: &mut Random, length: u16) -> u16 {
 
 /// The mapper's control bytes.
 fn cartridge(list: &mut List, random: &mut Random) {
-    let start = random.pick(&[0x0000, 0x0000, 0x2000, 0x2100, 0x4000, 0x6000]);
+    let start = random.pick(&[0x0000, 0x0000, 0x2000, 0x2100, 0x3000, 0x4000, 0x6000]);
     let place = random.pick(&[0x0000, 0x0001, 0x00FF, 0x0100, 0x1E00]);
     let value = if start == 0x0000 && !random.once_in(4) {
         0x0A

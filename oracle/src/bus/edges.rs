@@ -2,6 +2,7 @@
 //! LCD, palettes, timer, buttons. Always the same.
 
 use super::list::List;
+use crate::machine::MBC5;
 
 /// The recorded sample takes fewer of what differs in a number only.
 #[derive(Clone, Copy, PartialEq)]
@@ -12,8 +13,9 @@ pub enum Size {
 
 const KINDS: [bool; 2] = [false, true];
 
-/// Kind, log2 N, RAM code: all that these lists have.
-pub const SHAPES: [(u8, u8, u8); 15] = [
+/// Kind, log2 N, RAM code: all that these lists have. Our program's memory has room
+/// for 256 banks.
+pub const SHAPES: [(u8, u8, u8); 29] = [
     (0, 1, 0),
     (0, 1, 2),
     (0, 1, 3),
@@ -26,37 +28,54 @@ pub const SHAPES: [(u8, u8, u8); 15] = [
     (1, 3, 0),
     (1, 3, 2),
     (1, 3, 3),
+    (1, 7, 0),
+    (1, 7, 3),
     (2, 1, 0),
     (2, 2, 0),
     (2, 3, 0),
+    (2, 4, 0),
+    (3, 1, 0),
+    (3, 1, 2),
+    (3, 1, 3),
+    (3, 2, 0),
+    (3, 2, 2),
+    (3, 2, 3),
+    (3, 3, 0),
+    (3, 3, 3),
+    (3, 8, 0),
+    (3, 8, 2),
+    (3, 8, 3),
 ];
 
 /// The first and last byte of every region, and of parts that a rule names.
-pub const ENDS: [u16; 40] = [
-    0x0000, 0x00FF, 0x0100, 0x1FFF, 0x2000, 0x2100, 0x3FFF, 0x4000, 0x5FFF, 0x6000, 0x7FFF, 0x8000,
-    0x800F, 0x8FFF, 0x9000, 0x9FF0, 0x9FFF, 0xA000, 0xA1FF, 0xA200, 0xAFFF, 0xBFFF, 0xC000, 0xCFFF,
-    0xD000, 0xDDFF, 0xDE00, 0xDFFF, 0xE000, 0xEFFF, 0xF000, 0xFDFF, 0xFE00, 0xFE9F, 0xFEA0, 0xFEFF,
-    0xFF00, 0xFF7F, 0xFF80, 0xFFFF,
+pub const ENDS: [u16; 42] = [
+    0x0000, 0x00FF, 0x0100, 0x1FFF, 0x2000, 0x2100, 0x2FFF, 0x3000, 0x3FFF, 0x4000, 0x5FFF, 0x6000,
+    0x7FFF, 0x8000, 0x800F, 0x8FFF, 0x9000, 0x9FF0, 0x9FFF, 0xA000, 0xA1FF, 0xA200, 0xAFFF, 0xBFFF,
+    0xC000, 0xCFFF, 0xD000, 0xDDFF, 0xDE00, 0xDFFF, 0xE000, 0xEFFF, 0xF000, 0xFDFF, 0xFE00, 0xFE9F,
+    0xFEA0, 0xFEFF, 0xFF00, 0xFF7F, 0xFF80, 0xFFFF,
 ];
 
 /// Where the second byte of a word falls into another region or rule.
-pub const SEAMS: [u16; 20] = [
-    0xFFFF, 0x1FFF, 0x3FFF, 0x5FFF, 0x7FFF, 0x9FFF, 0xA1FF, 0xBFFF, 0xCFFF, 0xDFFF, 0xEFFF, 0xFDFF,
-    0xFEFF, 0xFF03, 0xFF0E, 0xFF0F, 0xFF3F, 0xFF45, 0xFF54, 0xFF68,
+pub const SEAMS: [u16; 21] = [
+    0xFFFF, 0x1FFF, 0x2FFF, 0x3FFF, 0x5FFF, 0x7FFF, 0x9FFF, 0xA1FF, 0xBFFF, 0xCFFF, 0xDFFF, 0xEFFF,
+    0xFDFF, 0xFEFF, 0xFF03, 0xFF0E, 0xFF0F, 0xFF3F, 0xFF45, 0xFF54, 0xFF68,
 ];
 
 const VALUES: [u8; 4] = [0x00, 0xFF, 0x5A, 0xA5];
 
 /// Those of them whose mapper has a list in the recorded sample.
-const RECORDED_SHAPES: [(u8, u8, u8); 3] = [(1, 1, 0), (1, 3, 3), (2, 2, 0)];
+const RECORDED_SHAPES: [(u8, u8, u8); 5] = [(1, 1, 0), (1, 3, 3), (2, 2, 0), (3, 3, 0), (3, 8, 3)];
 
 pub fn lists(size: Size) -> Vec<String> {
     let whole = size == Size::Whole;
     let mut lists = Vec::new();
     for colour in KINDS {
         registers(colour, size, &mut lists);
-        lists.push(words(colour));
-        for shape in [(0, 1, 2), (1, 2, 3), (2, 1, 0)] {
+        lists.push(words((1, 2, 3), colour));
+        if whole {
+            lists.push(words((3, 8, 3), colour));
+        }
+        for shape in [(0, 1, 2), (1, 2, 3), (2, 1, 0), (3, 2, 2)] {
             if whole || colour == (shape.0 == 1) {
                 lists.push(regions(shape, colour));
             }
@@ -80,7 +99,7 @@ pub fn lists(size: Size) -> Vec<String> {
             lists.push(mapper(shape, at % 2 == 1));
         }
     }
-    for shape in [(0, 1, 0), (1, 3, 2), (2, 3, 0)] {
+    for shape in [(0, 1, 0), (1, 3, 2), (2, 3, 0), (3, 3, 3)] {
         lists.push(sprites(shape, shape.0 == 1));
     }
     lists.push(copies());
@@ -89,6 +108,8 @@ pub fn lists(size: Size) -> Vec<String> {
     if whole {
         lists.push(past_the_end((2, 1, 0)));
         lists.push(past_the_end((0, 1, 0)));
+        lists.push(past_the_end((3, 2, 3)));
+        lists.push(up_to_the_end((3, 2, 3)));
     }
     lists.push(up_to_the_end((0, 1, 2)));
     lists.push(up_to_the_end((1, 1, 3)));
@@ -165,8 +186,8 @@ fn regions(shape: (u8, u8, u8), colour: bool) -> String {
     list.finish()
 }
 
-fn words(colour: bool) -> String {
-    let mut list = new((1, 2, 3), colour);
+fn words(shape: (u8, u8, u8), colour: bool) -> String {
+    let mut list = new(shape, colour);
     for (at, index) in SEAMS.into_iter().enumerate() {
         list.read_word(index);
         list.write_word(index, 0x0A05 + 0x1357 * at as u16);
@@ -233,11 +254,16 @@ fn mapper(shape: (u8, u8, u8), colour: bool) -> String {
         list.both(index, 0xAB);
     }
     list.digest();
+    // Mbc5 has another register from 3000 on.
+    let selecting: &[u16] = match shape.0 {
+        MBC5 => &[0x2000, 0x3000, 0x2FFF, 0x3FFF],
+        _ => &[0x2000, 0x2100, 0x3FFF],
+    };
     for value in [
         0x00, 0x01, 0x02, 0x03, 0x04, 0x07, 0x08, 0x0F, 0x10, 0x1F, 0x20, 0xE0, 0xFF,
     ] {
-        for index in [0x2000, 0x2100, 0x3FFF] {
-            list.write(index, value);
+        for index in selecting {
+            list.write(*index, value);
             list.read(0x4000);
         }
         list.read_all(&[0x0000, 0x3FFF, 0x7FFF]);
@@ -299,7 +325,7 @@ fn dma(colour: bool) -> String {
 }
 
 /// OAM DMA from ROM, by every way to it, with every bank asked for before
-/// (2100: Mbc1 and Mbc2 both select there; RomOnly shows bank 1).
+/// (2100: every mapper selects there; RomOnly shows bank 1).
 fn sprites(shape: (u8, u8, u8), colour: bool) -> String {
     let mut list = new(shape, colour);
     list.write_all(&[(0xFEA0, 0x78), (0xFEFF, 0x79)]);

@@ -17,7 +17,8 @@ use crate::leaves::interrupts::{INTERRUPTS_IN_ORDER, NONE};
 use crate::leaves::joypad::BUTTONS_IN_ORDER;
 use crate::leaves::timer::MOST_CYCLES;
 use crate::leaves::Bytes;
-use crate::machine::{save_byte, NoClock, Shape};
+use crate::machine::{save_byte, NoClock, Shape, MBC1, MBC2, MBC5, ROM_ONLY};
+use crate::unseen;
 
 /// Every letter and the number of its input's bytes.
 const LETTERS: [(char, usize); 33] = [
@@ -105,6 +106,11 @@ impl Host {
         probe::hidden(&self.bus).colour
     }
 
+    /// What is selected, as ours has it.
+    pub fn banks(&self) -> Banks {
+        unseen::due(self.shape, probe::hidden(&self.bus).banks)
+    }
+
     /// The answer to any letter but N: the Rust's, and where it is excepted, the
     /// Rust's with what is due instead.
     pub fn answer(&mut self, letter: char, input: &[u8]) -> Bytes {
@@ -169,7 +175,7 @@ impl Host {
             _ => return 0,
         };
         let starts = hidden.colour && !self.bus.is_hdma_enabled() && *value < 0x80;
-        if !starts || !self.stores(&hidden.banks) {
+        if !starts || !self.stores() {
             return 0;
         }
         let end = usize::from(destination & 0x1FF0) / 16 + usize::from(*value) + 1;
@@ -177,8 +183,8 @@ impl Host {
     }
 
     /// Does a write at A000 store?
-    fn stores(&self, banks: &Banks) -> bool {
-        banks.enabled || (self.shape.kind == 0 && self.shape.code > 0)
+    fn stores(&self) -> bool {
+        self.banks().enabled || (self.shape.kind == ROM_ONLY && self.shape.code > 0)
     }
 
     /// Has the log room for any call?
@@ -231,10 +237,10 @@ fn written(bus: &mut Memory, letter: char, input: &[u8]) -> Bytes {
 /// 0, 8,192 or 32,768 by the code; Mbc2 has 512.
 fn save_length(shape: Shape) -> usize {
     match (shape.kind, shape.code) {
-        (2, 0) => 0x200,
-        (0 | 1, 0) => 0,
-        (0 | 1, 2) => 0x2000,
-        (0 | 1, 3) => 0x8000,
+        (MBC2, 0) => 0x200,
+        (ROM_ONLY | MBC1 | MBC5, 0) => 0,
+        (ROM_ONLY | MBC1 | MBC5, 2) => 0x2000,
+        (ROM_ONLY | MBC1 | MBC5, 3) => 0x8000,
         _ => panic!("no such cartridge"),
     }
 }

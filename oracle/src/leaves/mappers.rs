@@ -1,17 +1,18 @@
-//! W: kind, log2 N, RAM code, ROM bank, RAM bank, mode, enabled, high bits,
-//! index (2 bytes), value. Gives the five in the middle after the write, whether
+//! W: kind, log2 N, RAM code, ROM bank (2 bytes), RAM bank, mode, enabled, high
+//! bits, index (2), value. Gives the five in the middle after the write, whether
 //! a save byte was stored, its address (2) and value (0 and 0 if none was).
 //! R: the same without the value. Gives the byte read, over the contents of
 //! machine.rs.
 //!
-//! States keep to document 01, "State ranges".
+//! States keep to document 01, "State ranges", and for Mbc5 to document 02.
 
 use gameboy_core::mmu::probe::Banks;
 
 use super::{Bytes, Letter};
 use crate::hex;
-use crate::machine::{save_byte, Machine, Shape};
+use crate::machine::{save_byte, Held, Machine, Shape, MBC1, MBC2, MBC5, ROM_ONLY};
 use crate::random::Random;
+use crate::unseen;
 
 pub const WRITE: Letter = Letter {
     name: 'W',
@@ -22,7 +23,7 @@ pub const WRITE: Letter = Letter {
         state.write(index, random_value(random))
     },
     answer: write_answer,
-    recorded: (420, 380),
+    recorded: (520, 460),
 };
 
 pub const READ: Letter = Letter {
@@ -33,17 +34,13 @@ pub const READ: Letter = Letter {
         state.read(random_index(random))
     },
     answer: read_answer,
-    recorded: (360, 140),
+    recorded: (420, 180),
 };
 
-const ROM_ONLY: u8 = 0;
-const MBC1: u8 = 1;
-const MBC2: u8 = 2;
-
 /// The ends of every window, and of the pages that Mbc2 tells apart.
-const INDEX_EDGES: [u16; 20] = [
-    0x0000, 0x00FF, 0x0100, 0x01FF, 0x0200, 0x1FFF, 0x2000, 0x20FF, 0x2100, 0x3FFF, 0x4000, 0x5FFF,
-    0x6000, 0x7FFF, 0xA000, 0xA001, 0xA1FF, 0xA200, 0xBFFE, 0xBFFF,
+const INDEX_EDGES: [u16; 22] = [
+    0x0000, 0x00FF, 0x0100, 0x01FF, 0x0200, 0x1FFF, 0x2000, 0x20FF, 0x2100, 0x2FFF, 0x3000, 0x3FFF,
+    0x4000, 0x5FFF, 0x6000, 0x7FFF, 0xA000, 0xA001, 0xA1FF, 0xA200, 0xBFFE, 0xBFFF,
 ];
 
 const VALUE_EDGES: [u8; 17] = [
@@ -61,27 +58,46 @@ fn shape(input: &[u8]) -> Shape {
 
 fn banks(input: &[u8]) -> Banks {
     Banks {
-        rom: input[3].into(),
-        ram: input[4].into(),
-        mode: input[5] == 1,
-        enabled: input[6] == 1,
-        high: input[7].into(),
+        rom: hex::word(&input[3..5]).into(),
+        ram: input[5].into(),
+        mode: input[6] == 1,
+        enabled: input[7] == 1,
+        high: input[8].into(),
     }
 }
 
-fn write_answer(machine: &mut Machine, input: &[u8]) -> Bytes {
-    let held = machine.mapper(shape(input));
-    held.mapper.set(&banks(input));
-    held.mapper.write_byte(hex::word(&input[8..10]), input[10]);
+/// The answer from the input's state: one, if that stands for several of the Rust's.
+fn answer(machine: &mut Machine, input: &[u8], call: fn(&mut Held, &[u8]) -> Bytes) -> Bytes {
+    let shape = shape(input);
+    let held = machine.mapper(shape);
+    let [first, second] = unseen::states(shape, banks(input)).map(|state| {
+        held.mapper.set(&state);
+        call(held, input)
+    });
+    assert_eq!(first, second, "what is not seen is seen: {input:02X?}");
+    first
+}
 
-    let after = held.mapper.get();
-    let mut output = vec![
-        after.rom as u8,
+fn write_answer(machine: &mut Machine, input: &[u8]) -> Bytes {
+    answer(machine, input, write)
+}
+
+fn read_answer(machine: &mut Machine, input: &[u8]) -> Bytes {
+    answer(machine, input, |held, input| {
+        vec![held.mapper.read_byte(hex::word(&input[9..11]))]
+    })
+}
+
+fn write(held: &mut Held, input: &[u8]) -> Bytes {
+    held.mapper.write_byte(hex::word(&input[9..11]), input[11]);
+    let after = unseen::due(shape(input), held.mapper.get());
+    let mut output: Bytes = (after.rom as u16).to_be_bytes().into();
+    output.extend([
         after.ram as u8,
         after.mode.into(),
         after.enabled.into(),
         after.high as u8,
-    ];
+    ]);
     let stored = held.stored.take();
     match stored[..] {
         [] => output.extend([0; 4]),
@@ -98,19 +114,13 @@ fn write_answer(machine: &mut Machine, input: &[u8]) -> Bytes {
     output
 }
 
-fn read_answer(machine: &mut Machine, input: &[u8]) -> Bytes {
-    let held = machine.mapper(shape(input));
-    held.mapper.set(&banks(input));
-    vec![held.mapper.read_byte(hex::word(&input[8..10]))]
-}
-
 /// A mapper's part of the input.
 #[derive(Clone, Copy)]
 struct State {
     kind: u8,
     log: u8,
     code: u8,
-    rom: u8,
+    rom: u16,
     ram: u8,
     mode: u8,
     enabled: u8,
@@ -132,16 +142,9 @@ impl State {
     }
 
     fn read(self, index: u16) -> Bytes {
-        let mut bytes = vec![
-            self.kind,
-            self.log,
-            self.code,
-            self.rom,
-            self.ram,
-            self.mode,
-            self.enabled,
-            self.high,
-        ];
+        let mut bytes = vec![self.kind, self.log, self.code];
+        bytes.extend(self.rom.to_be_bytes());
+        bytes.extend([self.ram, self.mode, self.enabled, self.high]);
         bytes.extend(index.to_be_bytes());
         bytes
     }
@@ -153,8 +156,14 @@ impl State {
     }
 
     fn random(random: &mut Random) -> State {
-        let kind = random.pick(&[ROM_ONLY, MBC1, MBC1, MBC1, MBC1, MBC2, MBC2, MBC2]);
-        let log = 1 + random.below(most_log(kind).into()) as u8;
+        let kind = random.pick(&[
+            ROM_ONLY, MBC1, MBC1, MBC1, MBC1, MBC2, MBC2, MBC2, MBC5, MBC5, MBC5, MBC5,
+        ]);
+        let mut log = 1 + random.below(most_log(kind).into()) as u8;
+        // With the most banks Mbc5's ninth bit counts.
+        if kind == MBC5 && random.once_in(3) {
+            log = most_log(kind);
+        }
         let code = match kind {
             MBC2 => 0,
             _ => random.pick(&[0, 2, 3, 3, 3]),
@@ -163,7 +172,7 @@ impl State {
         if kind == ROM_ONLY {
             return state;
         }
-        state.rom = random.below(1 << log) as u8;
+        state.rom = random.below(1 << log) as u16;
         if kind == MBC2 || code > 0 {
             state.enabled = u8::from(!random.once_in(3));
         }
@@ -171,16 +180,16 @@ impl State {
             state.high = random.below(4) as u8;
         }
         if code == 3 {
-            state.mode = random.flag();
+            state.mode = if kind == MBC1 { random.flag() } else { 0 };
             state.ram = random.below(4) as u8;
         }
         state
     }
 }
 
-/// N at most: 2, 128, 16.
+/// N at most: 2, 128, 16, 512.
 fn most_log(kind: u8) -> u8 {
-    [1, 7, 4][usize::from(kind)]
+    [1, 7, 4, 9][usize::from(kind)]
 }
 
 /// All states, but of the ROM banks only first, second, middle and last.
@@ -204,7 +213,7 @@ fn states() -> Vec<State> {
     for log in 1..=most_log(MBC1) {
         for rom in bank_edges(log) {
             for high in 0..4 {
-                for (code, ram, mode, enabled) in mbc1_rams() {
+                for (code, ram, mode, enabled) in rams() {
                     let start = State::start(MBC1, log, code);
                     list.push(State {
                         rom,
@@ -218,18 +227,33 @@ fn states() -> Vec<State> {
             }
         }
     }
+    for log in 1..=most_log(MBC5) {
+        for rom in bank_edges(log) {
+            for (code, ram, mode, enabled) in rams() {
+                let start = State::start(MBC5, log, code);
+                if mode == 0 {
+                    list.push(State {
+                        rom,
+                        ram,
+                        enabled,
+                        ..start
+                    });
+                }
+            }
+        }
+    }
     list
 }
 
-fn bank_edges(log: u8) -> Vec<u8> {
-    let count = 1u8 << log;
+fn bank_edges(log: u8) -> Vec<u16> {
+    let count = 1u16 << log;
     let mut list = vec![0, 1, count / 2, count - 1];
     list.dedup();
     list
 }
 
 /// RAM code, RAM bank, mode, enabled.
-fn mbc1_rams() -> Vec<(u8, u8, u8, u8)> {
+fn rams() -> Vec<(u8, u8, u8, u8)> {
     let mut list = vec![(0, 0, 0, 0), (2, 0, 0, 0), (2, 0, 0, 1)];
     for ram in 0..4 {
         for flags in 0..4 {
@@ -292,6 +316,24 @@ fn write_edges() -> Vec<Bytes> {
                 }
             }
         }
+        // Some of the low eight bits count, all of them, and the ninth.
+        for log in [1, 3, 8, 9] {
+            for rom in bank_edges(log) {
+                for (code, enabled) in [(0, 0), (2, 1), (3, 1)] {
+                    let start = State::start(MBC5, log, code);
+                    let state = State {
+                        rom,
+                        enabled,
+                        ..start
+                    };
+                    for index in [
+                        0x0000, 0x2000, 0x2FFF, 0x3000, 0x3FFF, 0x4000, 0x6000, 0xA000,
+                    ] {
+                        list.push(state.write(index, value));
+                    }
+                }
+            }
+        }
     }
     list
 }
@@ -304,7 +346,7 @@ fn read_edges() -> Vec<Bytes> {
             list.push(state.read(index));
         }
     }
-    for kind in [MBC1, MBC2] {
+    for kind in [MBC1, MBC2, MBC5] {
         for log in 1..=most_log(kind) {
             for rom in 0..1 << log {
                 let start = State::start(kind, log, 0);

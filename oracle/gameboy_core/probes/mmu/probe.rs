@@ -1,4 +1,4 @@
-//! The bus's hidden fields, and the three mappers by themselves.
+//! The bus's hidden fields, and the four mappers by themselves.
 
 use super::*;
 
@@ -41,11 +41,13 @@ fn banks(memory: &Memory) -> Banks {
         MbcType::RomOnly => Banks::START,
         MbcType::Mbc1 => mbc1::probe::get(unsafe { &*mapper.cast::<Mbc1>() }),
         MbcType::Mbc2 => mbc2::probe::get(unsafe { &*mapper.cast::<Mbc2>() }),
-        MbcType::Mbc3 | MbcType::Mbc5 => panic!("a mapper that is not compared"),
+        MbcType::Mbc5 => mbc5::probe::get(unsafe { &*mapper.cast::<Mbc5>() }),
+        MbcType::Mbc3 => panic!("a mapper that is not compared"),
     }
 }
 
 /// What a mapper has selected.
+#[derive(Clone)]
 pub struct Banks {
     pub rom: usize,
     pub ram: usize,
@@ -69,6 +71,7 @@ pub enum Mapper {
     RomOnly(RomOnly),
     Mbc1(Mbc1),
     Mbc2(Mbc2),
+    Mbc5(Mbc5),
 }
 
 impl Mapper {
@@ -77,7 +80,8 @@ impl Mapper {
             MbcType::RomOnly => Mapper::RomOnly(RomOnly::new(cartridge)),
             MbcType::Mbc1 => Mapper::Mbc1(Mbc1::new(cartridge)),
             MbcType::Mbc2 => Mapper::Mbc2(Mbc2::new(cartridge)),
-            MbcType::Mbc3 | MbcType::Mbc5 => panic!("a mapper that is not compared"),
+            MbcType::Mbc5 => Mapper::Mbc5(Mbc5::new(cartridge)),
+            MbcType::Mbc3 => panic!("a mapper that is not compared"),
         }
     }
 
@@ -86,6 +90,7 @@ impl Mapper {
             Mapper::RomOnly(_) => Banks::START,
             Mapper::Mbc1(mbc1) => mbc1::probe::get(mbc1),
             Mapper::Mbc2(mbc2) => mbc2::probe::get(mbc2),
+            Mapper::Mbc5(mbc5) => mbc5::probe::get(mbc5),
         }
     }
 
@@ -94,6 +99,7 @@ impl Mapper {
             Mapper::RomOnly(_) => (),
             Mapper::Mbc1(mbc1) => mbc1::probe::set(mbc1, banks),
             Mapper::Mbc2(mbc2) => mbc2::probe::set(mbc2, banks),
+            Mapper::Mbc5(mbc5) => mbc5::probe::set(mbc5, banks),
         }
     }
 
@@ -118,6 +124,7 @@ impl Mapper {
             Mapper::RomOnly(rom_only) => rom_only,
             Mapper::Mbc1(mbc1) => mbc1,
             Mapper::Mbc2(mbc2) => mbc2,
+            Mapper::Mbc5(mbc5) => mbc5,
         }
     }
 
@@ -126,6 +133,7 @@ impl Mapper {
             Mapper::RomOnly(rom_only) => rom_only,
             Mapper::Mbc1(mbc1) => mbc1,
             Mapper::Mbc2(mbc2) => mbc2,
+            Mapper::Mbc5(mbc5) => mbc5,
         }
     }
 }
