@@ -65,14 +65,11 @@ cartridge-at-requires c κs = load-length _ (c .before .before .before .before .
 registers-at-requires : tie.Need-registers-at-requires
 registers-at-requires c κs = load-length _ (c .before .before .before .before .before .before .pre .0 .number)
 
-from-registers-requires : tie.Need-from-registers-requires
-from-registers-requires c κs = search needs
-
 read-ram-requires : tie.Need-read-ram-requires
-read-ram-requires c κs = let q = save-left (c .before .before .before .before .region-of .ensures) (c .before .before .before .before .before .before .before .before .pre .1) (c .before .before .before .match .keys3) in
+read-ram-requires c κs = let q = save-left (c .before .before .before .region-of .ensures) (c .before .before .before .before .before .before .before .pre .1) (c .before .before .match .keys3) in
     let r = within _ q in
-    let z = c .before .before .before .before .before .before .before .before .pre .0 .number in
-    rw (c .from-registers .ensures, c .before .registers-at .ensures, c .before .before .cartridge-at .ensures) (mapper-range _ z (λ k. c .before .before .before .before .before .before .before .shared-slice-known .given k .fits), (r, save-length _ z (λ k. c .before .before .before .before .before .before .before .shared-slice-known .given k .fits) _ (c .before .before .before .before .before .before .before .before .pre .0 .save)))
+    let z = c .before .before .before .before .before .before .before .pre .0 .number in
+    rw (c .registers-at .ensures, c .before .cartridge-at .ensures) (mapper-range _ z (λ k. c .before .before .before .before .before .before .shared-slice-known .given k .fits), (r, save-length _ z (λ k. c .before .before .before .before .before .before .shared-slice-known .given k .fits) _ (c .before .before .before .before .before .before .before .pre .0 .save)))
 
 returns-2 : tie.Need-returns-2
 returns-2 c = λ rom v w. byte-oam _ (c .before .before .before .before .before .before .before .pre .0 .number) (λ k. c .before .before .before .before .before .before .shared-slice-known .given k .fits) _ _ _ _ _ (sym (c .before .before .before .region-of .ensures) ∙ c .before .enum-told .given .1)
@@ -84,9 +81,9 @@ returns-3 c = λ rom v w.
 
 returns-4 : tie.Need-returns-4
 returns-4 c = λ rom v w.
-    let q = save-left (c .before .before .before .before .before .region-of .ensures) (c .before .before .before .before .before .before .before .before .before .pre .1) (c .before .before .before .before .match .keys3) in
-    (c .read-ram .ensures ∙ rw (c .before .from-registers .ensures, c .before .before .registers-at .ensures, c .before .before .before .cartridge-at .ensures))
-    ∙ byte-save _ (c .before .before .before .before .before .before .before .before .before .pre .0 .number) (λ k. c .before .before .before .before .before .before .before .before .shared-slice-known .given k .fits) _ _ _ _ _ q
+    let q = save-left (c .before .before .before .before .region-of .ensures) (c .before .before .before .before .before .before .before .before .pre .1) (c .before .before .before .match .keys3) in
+    (c .read-ram .ensures ∙ rw (c .before .registers-at .ensures, c .before .before .cartridge-at .ensures))
+    ∙ byte-save _ (c .before .before .before .before .before .before .before .before .pre .0 .number) (λ k. c .before .before .before .before .before .before .before .shared-slice-known .given k .fits) _ _ _ _ _ q
 
 pub other-at-spec : {M : Type 1} → statement M
-other-at-spec = tie.close (tie.spec region-of-requires enum-told sub-i cast-i shared-slice-read-result enum-told-2 sub-i-2 cast-i-2 shared-slice-read-byte returns banks-at-requires lcd-at-requires read-line-requires joypad-at-requires sub-shown cast-shown shown-requires cartridge-at-requires registers-at-requires from-registers-requires read-ram-requires returns-2 returns-3 returns-4)
+other-at-spec = tie.close (tie.spec region-of-requires enum-told sub-i cast-i shared-slice-read-result enum-told-2 sub-i-2 cast-i-2 shared-slice-read-byte returns banks-at-requires lcd-at-requires read-line-requires joypad-at-requires sub-shown cast-shown shown-requires cartridge-at-requires registers-at-requires read-ram-requires returns-2 returns-3 returns-4)
