@@ -1,5 +1,6 @@
 -- The corners are those of proofs/Rows.antt; the laws are those of proofs/Zero.antt, proofs/Sprites.antt and of the crates below.
 use Rattle.joypad.proofs.Corners.{second-press, directions-selected, actions-selected, neither-selected, both-selected}
+use Rattle.mbc.proofs.Cases.Mbc5Exact.{one-field}
 use Rattle.memory.proofs.Laws.{fresh-in-range}
 use Rattle.corners.proofs.Rows.{corners}
 use Rattle.corners.proofs.Sprites.{sprites}
@@ -20,6 +21,7 @@ returns c = (
     both = both-selected;
   },
   sprites,
+  one-field,
 )
 
 pub corners-hold-spec : {M : Type 1} → statement M
