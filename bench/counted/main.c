@@ -3,9 +3,9 @@
 #include <stdio.h>
 #include <string.h>
 
-static uint8_t image[POUCH_IMAGE_LEN], first[POUCH_IMAGE_LEN], rom[2 * POUCH_ROM_BANK_LEN], vram[POUCH_VRAM_LEN_COLOUR], wram[POUCH_WRAM_LEN_COLOUR];
+static uint8_t image[POUCH_IMAGE_LEN], first[POUCH_IMAGE_LEN], rom[512 * POUCH_ROM_BANK_LEN], vram[POUCH_VRAM_LEN_COLOUR], wram[POUCH_WRAM_LEN_COLOUR];
 static uint8_t save[POUCH_SAVE_LEN_CODE_2], log_[POUCH_LOG_LEN_MAX], sound[POUCH_SOUND_LEN], colors[POUCH_COLORS_LEN], oam[POUCH_OAM_LEN], block[1024];
-static size_t vram_len, wram_len, save_len;
+static size_t rom_len, vram_len, wram_len, save_len;
 
 /* what calls set */
 static uint8_t byte, disabled, line, signal, mode;
@@ -15,7 +15,7 @@ static uint64_t number_64;
 static int32_t delay, counter, aux, window;
 
 #define IMAGE image, sizeof image
-#define ROM rom, sizeof rom
+#define ROM rom, rom_len
 #define VRAM vram, vram_len
 #define WRAM wram, wram_len
 #define SAVE save, save_len
@@ -58,29 +58,30 @@ static void records(unsigned count)
     }
 }
 
-static uint8_t fresh_with(uint8_t kind, uint8_t code, bool colour, size_t its_save_len)
+static uint8_t fresh_with(uint8_t kind, uint16_t banks, uint8_t code, bool colour, size_t its_save_len)
 {
+    rom_len = banks * (size_t)POUCH_ROM_BANK_LEN;
     vram_len = colour ? POUCH_VRAM_LEN_COLOUR : POUCH_VRAM_LEN_MONOCHROME;
     wram_len = colour ? POUCH_WRAM_LEN_COLOUR : POUCH_WRAM_LEN_MONOCHROME;
     save_len = its_save_len;
-    return pouch_fresh(IMAGE, kind, 2, code, colour, ROM, VRAM, WRAM, SAVE, LOG, SOUND);
+    return pouch_fresh(IMAGE, kind, banks, code, colour, ROM, VRAM, WRAM, SAVE, LOG, SOUND);
 }
 
 static void mbc2(void)
 {
-    fresh_with(POUCH_MBC2, 0, false, POUCH_SAVE_LEN_MBC2);
+    fresh_with(POUCH_MBC2, 2, 0, false, POUCH_SAVE_LEN_MBC2);
     WRITE(0x0000, 0x0A);
 }
 
-static void mbc5(void)
+static void mbc5(uint16_t banks)
 {
-    fresh_with(POUCH_MBC5, 2, true, POUCH_SAVE_LEN_CODE_2);
+    fresh_with(POUCH_MBC5, banks, 2, true, POUCH_SAVE_LEN_CODE_2);
     WRITE(0x0000, 0x0A);
 }
 
 static void rom_only(void)
 {
-    fresh_with(POUCH_ROM_ONLY, 0, false, POUCH_SAVE_LEN_CODE_0);
+    fresh_with(POUCH_ROM_ONLY, 2, 0, false, POUCH_SAVE_LEN_CODE_0);
 }
 
 #define CASE(name, number, ready, call) \
@@ -129,7 +130,7 @@ __attribute__((noinline)) void count_to(void)
 int main(void)
 {
     setvbuf(stdout, NULL, _IOLBF, BUFSIZ);
-    uint8_t number = fresh_with(POUCH_MBC1, 2, true, POUCH_SAVE_LEN_CODE_2);
+    uint8_t number = fresh_with(POUCH_MBC1, 2, 2, true, POUCH_SAVE_LEN_CODE_2);
     number |= WRITE(0x0000, 0x0A);
     number |= WRITE(0xFF07, 0x05);
     if (number != POUCH_DONE)
@@ -138,6 +139,7 @@ int main(void)
 
     for (size_t at = 0; at < sizeof cases / sizeof *cases; at++) {
         memcpy(image, first, sizeof image);
+        rom_len = 2 * POUCH_ROM_BANK_LEN;
         vram_len = sizeof vram;
         wram_len = sizeof wram;
         save_len = sizeof save;
