@@ -1,5 +1,6 @@
 // The fields behind the colours, group by group, read and put where src/layout.rt says; a caller who needs one group takes that alone.
 // specs/Layout.antt has each group's fields, as they are read and as they are put.
+use crate::enough;
 use crate::layout;
 use hdma::Hdma;
 use joypad::Controller;
@@ -22,10 +23,7 @@ ghost use Rattle.mbc.specs.Mbc.{mapperOf, registersOf};
 ghost use Rattle.mbc.specs.declared.mbc.Mapper.{Mapper};
 ghost use Rattle.image.specs.Layout.{imageLen, fieldWidths, fieldValues, usedField};
 ghost use Rattle.image.specs.Load.{banksOf, lcdOf, hdmaOf, joypadOf, clockOf, cartridgeOf, registersIn, coreFrom, at};
-ghost use Rattle.image.specs.Patches.{fields, headFits, mapperFits, tailFits, restFits, Mapped, mappingBits, mappingNumber, mapperBy, CommonKind, Common, noSave, MapperFits, MachineFits, SameRange, RestFits, put, Fits, banksFields, linesFields, lcdFields, hdmaFields, joypadFields, clockFields, cartridgeFields, numbersFields, registersFields, Slim, usedPut, mappingPut, clockPut, groupsFields, coreFields};
-
-// No save is so long.
-const NO_SAVE: usize = 1;
+ghost use Rattle.image.specs.Patches.{fields, headFits, mapperFits, tailFits, restFits, Mapped, mappingBits, mappingNumber, MapperFits, MachineFits, SameRange, RestFits, put, Fits, banksFields, linesFields, lcdFields, hdmaFields, joypadFields, clockFields, cartridgeFields, numbersFields, registersFields, Slim, usedPut, mappingPut, clockPut, groupsFields, coreFields};
 
 pub fn banks_at(image: &[u8]) -> Banks
     requires { ⌜ length (now image) ≡ imageLen ⌝ }
@@ -194,115 +192,24 @@ pub fn head_fits(image: &[u8]) -> bool
     memory::hdma_in_range(hdma, banks.colour)
 }
 
-// Tests that are enough for a load, and for the lengths of what is lent beside the image: small, so that the compiler puts them in place where they are
-// called, and on the number that has all of a mapper, where each is a mask. Who fails one is no worse off than before it.
-
-// Mbc1, or Mbc5 without what it lacks.
-fn common_kind(n: u32) -> bool
-    requires { ⌜ n < 2 ^ mappingBits ⌝ }
-    ensures { λ r. ⌜ (r ≡ true → CommonKind n) ⌝ }
-{
-    if n / layout::KIND_UNIT % 2 != 1 {
-        return false;
-    }
-    if n / layout::KIND_UNIT / 2 == 1 {
-        if n / layout::BANKING_UNIT % 2 != 0 {
-            return false;
-        }
-        return n % layout::HIGH_SIZE == 0;
-    }
-    true
-}
-
-// The commonest mappers, Mbc1 and Mbc5 of at most 128 banks, in range: the length of the save beside it. A number that no save's length is where a test fails.
-fn common_save(n: u32) -> usize
-    requires { ⌜ n < 2 ^ mappingBits ⌝ }
-    ensures { λ r. ⌜ ((r ≡ noSave → ⊥) → Common n r) ⌝ }
-{
-    if n / layout::LOG_UNIT % layout::LOG_SIZE > 7 {
-        return NO_SAVE;
-    }
-    if !common_kind(n) {
-        return NO_SAVE;
-    }
-    let log = n / layout::LOG_UNIT % 8;
-    if log == 0 {
-        return NO_SAVE;
-    }
-    let rom = (n / layout::ROM_UNIT % layout::ROM_SIZE) as u16;
-    if Cartridge::banks_of(log as u8) <= rom {
-        return NO_SAVE;
-    }
-    if n / layout::CODE_UNIT / 2 % 2 == 0 {
-        if n / layout::CODE_UNIT % 2 == 1 {
-            return NO_SAVE;
-        }
-        if n / layout::ENABLED_UNIT % 16 != 0 {
-            return NO_SAVE;
-        }
-        return 0;
-    }
-    if n / layout::CODE_UNIT % 2 == 1 {
-        return 0x8000;
-    }
-    if n / layout::BANKING_UNIT % 8 != 0 {
-        return NO_SAVE;
-    }
-    0x2000
-}
-
-// RomOnly and Mbc2, in range.
-fn small_fits(n: u32) -> bool
-    requires { ⌜ n < 2 ^ mappingBits ⌝ }
-    ensures { λ r. ⌜ (r ≡ true → mapperBy n ≡ true) ⌝ }
-{
-    if n / layout::KIND_UNIT == 0 {
-        if n / layout::LOG_UNIT != 1 {
-            return false;
-        }
-        if n % layout::CODE_UNIT != layout::ROM_UNIT {
-            return false;
-        }
-        return n / layout::CODE_UNIT % layout::CODE_SIZE != 1;
-    }
-    if n / layout::KIND_UNIT != 2 {
-        return false;
-    }
-    if n / layout::CODE_UNIT % layout::CODE_SIZE != 0 {
-        return false;
-    }
-    if n / layout::BANKING_UNIT % 8 != 0 {
-        return false;
-    }
-    if n % layout::HIGH_SIZE != 0 {
-        return false;
-    }
-    if n / layout::LOG_UNIT % layout::LOG_SIZE > 4 {
-        return false;
-    }
-    let log = n / layout::LOG_UNIT % 8;
-    if log == 0 {
-        return false;
-    }
-    let rom = (n / layout::ROM_UNIT % layout::ROM_SIZE) as u16;
-    rom < Cartridge::banks_of(log as u8)
-}
-
 // Whether a mapper has the registers, and is in range.
 fn mapper_fits(image: &[u8]) -> bool
     requires { ⌜ length (now image) ≡ imageLen ⌝ }
     ensures { λ r. ⌜ r ≡ mapperFits (fields (now (image .entry))) ⌝ }
 {
     let n = mapping_at(image);
-    if common_save(n) != NO_SAVE {
+    if enough::common_save(n) != enough::NO_SAVE {
         return true;
     }
-    if small_fits(n) {
+    if enough::small_fits(n) {
         return true;
     }
     let registers = registers_at(image);
     registers.fit(cartridge_at(image))
 }
+
+// Tests that are enough for a load, and for the lengths of what is lent beside the image: small, so that the compiler puts them in place where they are
+// called. Who fails one is no worse off than before it.
 
 pub fn mapper_surely_fits(image: &[u8], rom: usize, save: usize) -> bool
     ensures { λ r. ⌜ (r ≡ true → MapperFits (now (image .entry)) rom save) ⌝ }
@@ -311,8 +218,8 @@ pub fn mapper_surely_fits(image: &[u8], rom: usize, save: usize) -> bool
         return false;
     }
     let n = mapping_at(image);
-    let its = common_save(n);
-    if its == NO_SAVE {
+    let its = enough::common_save(n);
+    if its == enough::NO_SAVE {
         return false;
     }
     let banks: usize = 1 << (n / layout::LOG_UNIT % 8);
@@ -372,7 +279,7 @@ pub fn mapper_surely(image: &[u8]) -> bool
     if image.len() != layout::LENGTH {
         return false;
     }
-    common_save(mapping_at(image)) != NO_SAVE
+    enough::common_save(mapping_at(image)) != enough::NO_SAVE
 }
 
 // By the kind of machine, as `machine_surely_fits` goes: in place that costs less than `head_fits`.

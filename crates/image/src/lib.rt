@@ -12,6 +12,7 @@ ghost use Rattle.image.specs.Patches.{arraysOf, Mapped};
 ghost use Rattle.memory.specs.Start.{zeroed};
 
 mod colors;
+mod enough;
 mod fields;
 mod layout;
 

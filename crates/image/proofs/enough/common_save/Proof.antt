@@ -7,8 +7,8 @@ use Rattle.mbc.specs.Mbc.{ramBanks}
 use Rattle.mbc.proofs.Enough.{four, one, none}
 use Rattle.image.proofs.MappingLaws.{common}
 use borrow.Author.Needs.{needs}
-use Rattle.image.proofs.fields.common_save.Statement.{statement}
-use Rattle.image.proofs.fields.common_save.Tie as tie
+use Rattle.image.proofs.enough.common_save.Statement.{statement}
+use Rattle.image.proofs.enough.common_save.Tie as tie
 
 returns : tie.Need-returns
 returns c = λ f. absurd (f refl)

@@ -7,8 +7,8 @@ use native.Mathlib.Omega.{arith}
 use Rattle.rules.proofs.Tests.{untrue}
 use Rattle.image.proofs.MappingLaws.{other-code, rom-only-fits, mbc2-fits}
 use borrow.Author.Needs.{needs}
-use Rattle.image.proofs.fields.small_fits.Statement.{statement}
-use Rattle.image.proofs.fields.small_fits.Tie as tie
+use Rattle.image.proofs.enough.small_fits.Statement.{statement}
+use Rattle.image.proofs.enough.small_fits.Tie as tie
 
 returns : tie.Need-returns
 returns c = λ z. untrue z

@@ -4,8 +4,8 @@ use borrow.Author.Tests.{eqb-true}
 use native.Mathlib.Omega.{arith}
 use mathlib.Core.Logic.{inl, inr}
 use Rattle.rules.proofs.Tests.{untrue}
-use Rattle.image.proofs.fields.common_kind.Statement.{statement}
-use Rattle.image.proofs.fields.common_kind.Tie as tie
+use Rattle.image.proofs.enough.common_kind.Statement.{statement}
+use Rattle.image.proofs.enough.common_kind.Tie as tie
 
 returns : tie.Need-returns
 returns c = λ z. untrue z

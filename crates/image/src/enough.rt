@@ -1,0 +1,103 @@
+// Tests of a mapper that are enough, on the number that has all of it (src/layout.rt has what each part counts there): each is a mask.
+use crate::layout;
+use mbc::Cartridge;
+ghost use mathlib.Core.Bool.{true};
+ghost use mathlib.Core.Path.{_≡_};
+ghost use Prim.Native.Nat.{_^_, _<_};
+ghost use Rattle.image.specs.Patches.{mappingBits, mapperBy, CommonKind, Common, noSave};
+
+// No save is so long.
+pub const NO_SAVE: usize = 1;
+
+// Mbc1, or Mbc5 without what it lacks.
+fn common_kind(n: u32) -> bool
+    requires { ⌜ n < 2 ^ mappingBits ⌝ }
+    ensures { λ r. ⌜ (r ≡ true → CommonKind n) ⌝ }
+{
+    if n / layout::KIND_UNIT % 2 != 1 {
+        return false;
+    }
+    if n / layout::KIND_UNIT / 2 == 1 {
+        if n / layout::BANKING_UNIT % 2 != 0 {
+            return false;
+        }
+        return n % layout::HIGH_SIZE == 0;
+    }
+    true
+}
+
+// The commonest mappers, Mbc1 and Mbc5 of at most 128 banks, in range: the length of the save beside it. Where a test fails, a length that no save has.
+pub fn common_save(n: u32) -> usize
+    requires { ⌜ n < 2 ^ mappingBits ⌝ }
+    ensures { λ r. ⌜ ((r ≡ noSave → ⊥) → Common n r) ⌝ }
+{
+    if n / layout::LOG_UNIT % layout::LOG_SIZE > 7 {
+        return NO_SAVE;
+    }
+    if !common_kind(n) {
+        return NO_SAVE;
+    }
+    let log = n / layout::LOG_UNIT % 8;
+    if log == 0 {
+        return NO_SAVE;
+    }
+    let rom = (n / layout::ROM_UNIT % layout::ROM_SIZE) as u16;
+    if Cartridge::banks_of(log as u8) <= rom {
+        return NO_SAVE;
+    }
+    // By the code's two bits: without RAM the RAM bank, the mode and enabled, four bits side by side, are 0; with one bank the first two are.
+    if n / layout::CODE_UNIT / 2 % 2 == 0 {
+        if n / layout::CODE_UNIT % 2 == 1 {
+            return NO_SAVE;
+        }
+        if n / layout::ENABLED_UNIT % 16 != 0 {
+            return NO_SAVE;
+        }
+        return 0;
+    }
+    if n / layout::CODE_UNIT % 2 == 1 {
+        return 0x8000;
+    }
+    if n / layout::BANKING_UNIT % 8 != 0 {
+        return NO_SAVE;
+    }
+    0x2000
+}
+
+// RomOnly and Mbc2, in range.
+pub fn small_fits(n: u32) -> bool
+    requires { ⌜ n < 2 ^ mappingBits ⌝ }
+    ensures { λ r. ⌜ (r ≡ true → mapperBy n ≡ true) ⌝ }
+{
+    // RomOnly: two banks; the ROM bank is 1, and all behind it 0.
+    if n / layout::KIND_UNIT == 0 {
+        if n / layout::LOG_UNIT != 1 {
+            return false;
+        }
+        if n % layout::CODE_UNIT != layout::ROM_UNIT {
+            return false;
+        }
+        return n / layout::CODE_UNIT % layout::CODE_SIZE != 1;
+    }
+    if n / layout::KIND_UNIT != 2 {
+        return false;
+    }
+    if n / layout::CODE_UNIT % layout::CODE_SIZE != 0 {
+        return false;
+    }
+    if n / layout::BANKING_UNIT % 8 != 0 {
+        return false;
+    }
+    if n % layout::HIGH_SIZE != 0 {
+        return false;
+    }
+    if n / layout::LOG_UNIT % layout::LOG_SIZE > 4 {
+        return false;
+    }
+    let log = n / layout::LOG_UNIT % 8;
+    if log == 0 {
+        return false;
+    }
+    let rom = (n / layout::ROM_UNIT % layout::ROM_SIZE) as u16;
+    rom < Cartridge::banks_of(log as u8)
+}
