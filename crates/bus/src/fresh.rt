@@ -33,7 +33,7 @@ fn fresh_refused(
     refusals::or_else(description, lent)
 }
 
-// `kind` 0 RomOnly, 1 Mbc1, 2 Mbc2; `banks` is N; `code` the RAM code. A refusal gives the all-zero state, which every call refuses by 3.
+// `kind` 0 RomOnly, 1 Mbc1, 2 Mbc2, 3 Mbc5; `banks` is N; `code` the RAM code. A refusal gives the all-zero state, which every call refuses by 3.
 pub fn fresh(
     kind: u8,
     banks: u16,

@@ -31,7 +31,7 @@ bytes f at (suc n) = let rest = bytes f (suc at) n in f at ∷ rest
 abbrev pub logLen : ℕ
 logLen = 4095
 
--- The cartridge: mapper (0 RomOnly, 1 Mbc1, 2 Mbc2), N, RAM code; and the lengths that go with it
+-- The cartridge: mapper (0 RomOnly, 1 Mbc1, 2 Mbc2, 3 Mbc5), N, RAM code; and the lengths that go with it
 pub record Description : Type 0 where
   pub kind : ℕ
   pub banks : ℕ

@@ -18,7 +18,7 @@ colour = true ∷ []
 abbrev either : List Bool
 either = false ∷ true ∷ []
 
--- Cartridges: kind (0 RomOnly, 1 Mbc1, 2 Mbc2), N, RAM code
+-- Cartridges: kind (0 RomOnly, 1 Mbc1, 2 Mbc2, 3 Mbc5), N, RAM code
 
 abbrev described : ℕ → ℕ → ℕ → Description
 described kind banks code = record { kind = kind; banks = banks; code = code }

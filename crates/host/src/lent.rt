@@ -150,7 +150,7 @@ pub extern "C" fn pouch_do_hdma(
     done.number
 }
 
-// `kind` 0 RomOnly, 1 Mbc1, 2 Mbc2; `banks` is N; `code` the RAM code.
+// `kind` 0 RomOnly, 1 Mbc1, 2 Mbc2, 3 Mbc5; `banks` is N; `code` the RAM code.
 #[no_mangle]
 pub extern "C" fn pouch_fresh(
     image: &mut [u8],
