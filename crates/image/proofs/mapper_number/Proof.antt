@@ -1,4 +1,4 @@
--- The tests of Mbc1, or the number of a load.
+-- The tests of the commonest mappers, or the number of a load.
 use mathlib.Core.Path.{refl, sym, _∙_}
 use Rattle.image.proofs.MappedLaws.{load-mapped}
 use borrow.Author.Needs.{needs}
