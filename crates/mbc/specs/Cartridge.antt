@@ -1,4 +1,4 @@
--- A cartridge's description (document 01, "Cartridge and buffers"): N ROM banks of 16,384 bytes; RAM codes 0, 2, 3 for 0, 8,192, 32,768 bytes.
+-- A cartridge's description (document 01, "Cartridge and buffers"; document 02, wish 2, N to 512): N ROM banks of 16,384 bytes; RAM codes 0, 2, 3 for 0, 8,192, 32,768 bytes.
 use mathlib.Core.Bool.{Bool, false, cond, not, _&&_, _||_}
 use mathlib.Core.List.{List, [], _∷_}
 use Prim.Native.Nat.{ℕ, _*_, _^_}

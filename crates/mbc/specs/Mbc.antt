@@ -1,5 +1,5 @@
--- The mappers as document 01 has them (sections are named in quotes). A further mapper is a file like specs/Mbc/RomOnlyRules.antt, one case of `behaviour`,
--- one of `mapperOf` and the last kind in `known`; all else is common. Pan Docs' pieces are in specs/PanDocs.antt.
+-- The mappers as documents 01 (sections are named in quotes) and 02 have them. A further mapper is a file like specs/Mbc/RomOnlyRules.antt, one case of `behaviour`,
+-- one of `mapperOf` and the last kind in `known`; all else is common, but for MBC5's `OneField`. Pan Docs' pieces are in specs/PanDocs.antt.
 use mathlib.Core.Path.{_≡_}
 use mathlib.Core.Bool.{Bool, true, cond, not, _&&_, _||_}
 use mathlib.Core.List.{List, [], _∷_}

@@ -1,4 +1,4 @@
--- What Pan Docs say of the mappers, in small pieces. specs/Mbc.antt puts them together, and says where the Rust departs from them.
+-- What Pan Docs say of the mappers, in small pieces. The files of specs/Mbc put them together, and say where the Rust departs from them.
 use mathlib.Core.Bool.{Bool, cond}
 use Prim.Native.Nat.{ℕ, _+_, _*_, _-_, _%_, _/_}
 use lib.Dec.{eqb, ltb}
@@ -43,7 +43,7 @@ mbc5Bank eight ninth = eight % 256 + ninth % 2 * 256
 abbrev pub fourBits : ℕ → ℕ
 fourBits value = value % 16
 
--- MBC1: bank bits beyond the cartridge's size are masked; the size is a power of two, so the remainder is left
+-- MBC1: bank bits beyond the cartridge's size are masked; the size is a power of two, so the remainder is left. Documents 01 and 02 have it of MBC2 and MBC5 too
 abbrev pub masked : ℕ → ℕ → ℕ
 masked banks bank = bank % banks
 
@@ -59,6 +59,6 @@ romPlace bank index = cond (ltb index 0x4000) index (romAddress bank index)
 abbrev pub ramAddress : ℕ → ℕ → ℕ
 ramAddress bank index = index - 0xA000 + bank * 0x2000
 
--- MBC1: RAM that is off reads FF
+-- MBC1, and by documents 01 and 02 the others: RAM that is off reads FF
 abbrev pub offByte : ℕ
 offByte = 0xFF

@@ -1,4 +1,4 @@
-// MBC5, as the Rust's mbc5.rs: a ROM bank of nine bits, any of them, and RAM banks.
+// MBC5, from Pan Docs, beside the Rust's mbc5.rs: a ROM bank of nine bits, 0 too, and RAM banks.
 use crate::cartridge::Cartridge;
 use crate::held::Registers;
 use crate::held::bit;

@@ -66,7 +66,7 @@ pub record Kept (l : Lent) (ts : List Turn) : Type 0 where
 abbrev pub Promise : Type 0
 Promise = (l : Lent) (ts : List Turn) → start l .number ≡ done → Kept l ts
 
--- and there are such: a description and lengths as document 01 has them are not refused
+-- and there are such: a description and lengths as documents 01 and 02 have them are not refused
 abbrev pub Begins : Type 0
 Begins = (l : Lent) → Fitting l → start l .number ≡ done
 

@@ -13,7 +13,7 @@ use Rattle.savelog.specs.declared.Rec.{Rec}
 use Rattle.promise.specs.Bus.{Outcome, step, Call, refused, Kind, Reading, Clearing, Other, kindOf, Lent, begin}
 use Rattle.promise.specs.Admitted.{admittedBy}
 
--- a description and lengths as document 01 has them ("Cartridge and buffers"): such a fresh bus is not refused
+-- a description and lengths as documents 01 and 02 have them ("Cartridge and buffers"; MBC5): such a fresh bus is not refused
 pub record Fitting (l : Lent) : Type 0 where
   pub kind : known (l .kind) ≡ true
   pub described : described (cartridgeOf (l .banks) (l .code)) (mapperOf (l .kind)) ≡ true

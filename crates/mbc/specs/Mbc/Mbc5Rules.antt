@@ -1,4 +1,5 @@
--- MBC5, from Pan Docs, whose pieces are in specs/PanDocs.antt (document 02, wish 2: what is ours is said here).
+-- MBC5, from Pan Docs, whose pieces are in specs/PanDocs.antt (document 02, wish 2). What the wish has beside them: N, the RAM codes and enabling as
+-- with Mbc1, banks taken modulo those present.
 use mathlib.Core.Bool.{Bool, cond, _&&_}
 use mathlib.Core.List.{[], _∷_}
 use Prim.Native.Nat.{ℕ, _/_, _%_}
@@ -16,7 +17,7 @@ use Rattle.mbc.specs.declared.mbc.Source.{Source}
 abbrev pub kindMbc5 : ℕ
 kindMbc5 = 3
 
--- ours: a chosen RAM bank is taken modulo the banks present; with none it is 0
+-- a chosen RAM bank is taken modulo the banks present; with none it is 0
 unfoldable pub chosenRam : ℕ → ℕ → ℕ
 chosenRam banks bank = cond (eqb banks 0) 0 (bank % banks)
 
