@@ -10,10 +10,10 @@ returns : tie.Need-returns
 returns c = rom-answer _ _ _ _ (c .if1 .taken)
 
 registers-at-requires : tie.Need-registers-at-requires
-registers-at-requires c κs = c .before .before .before .pre .0 .size
+registers-at-requires c κs = c .before .before .pre .0 .size
 
 cartridge-at-requires : tie.Need-cartridge-at-requires
-cartridge-at-requires c κs = c .before .before .before .before .pre .0 .size
+cartridge-at-requires c κs = c .before .before .before .pre .0 .size
 
 answer-requires : tie.Need-answer-requires
 answer-requires c κs = (rw (c .cartridge-at .ensures, c .before .registers-at .ensures) (mapped-range _ (c .before .before .before .before .pre .0)), in-ram _ (c .before .before .before .before .pre .1) (c .before .before .if1 .left))
