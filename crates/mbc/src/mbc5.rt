@@ -5,6 +5,7 @@ use crate::held::bit;
 ghost use mathlib.Core.Path.{_≡_};
 ghost use mathlib.Core.Bool.{true, _&&_};
 ghost use Prim.Native.Nat.{_<_, _≤_};
+ghost use Rattle.mbc.specs.PanDocs.{mbc5Bank};
 ghost use Rattle.mbc.specs.Registers.{same};
 ghost use Rattle.mbc.specs.Mbc.Mbc5Rules.{held5, chosenRam, enable5, low5, ninth5, ram5, after5, from5, numbers5};
 ghost use Rattle.mbc.specs.Mbc.{inRange};
@@ -17,6 +18,13 @@ pub struct Mbc5 {
     pub rom: u16,
     pub ram: u8,
     pub enabled: bool,
+}
+
+// Eight bits, and the ninth above them.
+fn nine_bits(eight: u16, ninth: u16) -> u16
+    ensures { λ r. ⌜ r ≡ mbc5Bank eight ninth ⌝ }
+{
+    eight % 256 + ninth % 2 * 256
 }
 
 // One of the RAM banks; 0 where there is none.
@@ -122,11 +130,11 @@ impl Mbc5 {
 
     // 2000..2FFF: the low eight bits; the ninth stays.
     fn select_low(self, cartridge: Cartridge, value: u8) -> Mbc5
-        requires { ⌜ (0 < cartridge .banks) × (cartridge .banks ≤ 512) ⌝ }
+        requires { ⌜ 0 < cartridge .banks ⌝ }
         ensures { λ r. ⌜ r ≡ low5 cartridge self value ⌝ }
     {
         let mut next = self;
-        let bank = value as u16 + self.rom / 256 % 2 * 256;
+        let bank = nine_bits(value as u16, self.rom / 256);
         next.rom = cartridge.masked(bank);
         next
     }
@@ -137,8 +145,7 @@ impl Mbc5 {
         ensures { λ r. ⌜ r ≡ ninth5 cartridge self value ⌝ }
     {
         let mut next = self;
-        let bank = self.rom % 256 + value as u16 % 2 * 256;
-        next.rom = cartridge.masked(bank);
+        next.rom = cartridge.masked(nine_bits(self.rom, value as u16));
         next
     }
 

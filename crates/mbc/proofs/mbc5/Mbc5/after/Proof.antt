@@ -3,7 +3,7 @@ use native.Mathlib.Omega.{arith}
 use Rattle.mbc.specs.Mbc.{after5}
 use Rattle.rules.proofs.Tests.{tests}
 use Rattle.mbc.proofs.Cases.Mbc5Laws.{mbc5-facts}
-use Rattle.mbc.proofs.Cartridges.{banks-least, banks-most}
+use Rattle.mbc.proofs.Cartridges.{banks-least}
 use borrow.Author.Needs.{needs}
 use Rattle.mbc.proofs.mbc5.Mbc5.after.Statement.{statement}
 use Rattle.mbc.proofs.mbc5.Mbc5.after.Tie as tie
@@ -12,7 +12,7 @@ enable-requires : tie.Need-enable-requires
 enable-requires c κs = search needs
 
 select-low-requires : tie.Need-select-low-requires
-select-low-requires c κs = let f = mbc5-facts _ _ (c .before .before .pre) in (omega (arith, banks-least 512 _ (f .banks)), banks-most 512 _ (f .banks))
+select-low-requires c κs = let f = mbc5-facts _ _ (c .before .before .pre) in omega (arith, banks-least 512 _ (f .banks))
 
 select-high-requires : tie.Need-select-high-requires
 select-high-requires c κs = let f = mbc5-facts _ _ (c .before .before .before .pre) in omega (arith, banks-least 512 _ (f .banks))
