@@ -1,5 +1,5 @@
 //! OAM DMA of every page by every way to it, beside what reads of the page gave before: for each mapper, with banks above 2, selected before. Of pages
-//! 00..7F the Rust copies nothing (docs/DIFFERENCES.md): the recorded lists hold some of them to its own reads, with up to 8 banks; here are all, up to 512.
+//! 00..7F the Rust copies nothing (docs/DIFFERENCES.md): the recorded lists hold some of them to its own reads, with up to 256 banks; here are all, up to 512.
 
 mod common;
 

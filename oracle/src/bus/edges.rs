@@ -325,7 +325,7 @@ fn dma(colour: bool) -> String {
 }
 
 /// OAM DMA from ROM, by every way to it, with every bank asked for before
-/// (2100: every mapper selects there; RomOnly shows bank 1).
+/// (2100: Mbc1, Mbc2 and Mbc5 select there; RomOnly shows bank 1).
 fn sprites(shape: (u8, u8, u8), colour: bool) -> String {
     let mut list = new(shape, colour);
     list.write_all(&[(0xFEA0, 0x78), (0xFEFF, 0x79)]);

@@ -76,7 +76,7 @@ pub struct Host {
 
 impl Host {
     /// A fresh bus over the contents of machine.rs; the save is as long as
-    /// document 01 says, so that the Rust can reach no byte beyond.
+    /// documents 01 and 02 say, so that the Rust can reach no byte beyond.
     pub fn new(shape: Shape, colour: bool) -> Host {
         let mut bus = Memory::from_cartridge(shape.cartridge(), Box::new(NoClock), colour);
         let save = (0..save_length(shape)).map(save_byte).collect();
@@ -192,7 +192,7 @@ impl Host {
         self.log.borrow().len() + 2 * RECORD_LENGTH <= LOG_LENGTH
     }
 
-    /// May a list hold this call? Within document 01's ranges, and off its one
+    /// May a list hold this call? Within the ranges of documents 01 and 02, and off document 01's one
     /// change; an N starts another list.
     pub fn allows(&self, letter: char, input: &[u8]) -> bool {
         let length = LETTERS.iter().find(|known| known.0 == letter);
