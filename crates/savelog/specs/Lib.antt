@@ -1,2 +1,3 @@
 pub mod Log
+pub mod Convert
 pub mod Laws
