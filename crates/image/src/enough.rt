@@ -47,7 +47,7 @@ pub fn common_save(n: u32) -> usize
     }
     // By the code's three bits. With four banks of RAM the RAM bank has two bits; with one it and the mode, five bits side by side, are 0; without RAM
     // enabled behind them is too.
-    if n / layout::CODE_UNIT % 2 == 1 {
+    if n / layout::CODE_UNIT % 2 != 0 {
         if n / layout::CODE_UNIT / 2 % 4 != 1 {
             return NO_SAVE;
         }
@@ -56,8 +56,8 @@ pub fn common_save(n: u32) -> usize
         }
         return 0x8000;
     }
-    if n / layout::CODE_UNIT / 2 % 2 == 1 {
-        if n / layout::CODE_UNIT / 4 % 2 == 1 {
+    if n / layout::CODE_UNIT / 2 % 2 != 0 {
+        if n / layout::CODE_UNIT / 2 / 2 % 2 != 0 {
             return NO_SAVE;
         }
         if n / layout::BANKING_UNIT % 32 != 0 {
@@ -65,7 +65,7 @@ pub fn common_save(n: u32) -> usize
         }
         return 0x2000;
     }
-    if n / layout::CODE_UNIT / 4 % 2 == 1 {
+    if n / layout::CODE_UNIT / 2 / 2 % 2 != 0 {
         if n / layout::KIND_UNIT != 3 {
             return NO_SAVE;
         }
@@ -90,10 +90,10 @@ pub fn small_fits(n: u32) -> bool
         if n % layout::CODE_UNIT != layout::ROM_UNIT {
             return false;
         }
-        if n / layout::CODE_UNIT / 4 % 2 != 0 {
+        if n / layout::CODE_UNIT % layout::CODE_SIZE > 3 {
             return false;
         }
-        return n / layout::CODE_UNIT % 4 != 1;
+        return n / layout::CODE_UNIT % layout::CODE_SIZE != 1;
     }
     if n / layout::KIND_UNIT != 2 {
         return false;
