@@ -7,7 +7,9 @@ use Prim.Native.Nat.{ℕ, suc, _+_, _-_, _*_, _/_, _%_, _≤_, _<_}
 use lib.Dec.{ltb, eqb}
 use lib.ListN.{length, getD, take}
 use Rattle.numbers.specs.Numbers.{done, wrongLength, damaged}
-use Rattle.savelog.specs.Log.{Form, Four, widthOf, recordsBy, soundRecord, allSound, applyAll, lengthsFit, Outcome, outcome, recovery}
+use Rattle.savelog.specs.Log.{widthOf, recordsBy, soundRecord, allSound, applyAll, lengthsFit, Outcome, outcome, recovery}
+use Rattle.savelog.specs.declared.Form.{Form}
+use Rattle.savelog.specs.declared.Form.the-variants.{Four}
 use Rattle.savelog.specs.Convert.{lengthBy}
 use Rattle.savelog.specs.declared.Rec.{Rec}
 use Rattle.recover_messages.specs.declared.journal.Scan.{Scan}

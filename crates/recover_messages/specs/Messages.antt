@@ -4,7 +4,8 @@ use mathlib.Core.List.{List, [], _∷_, _++_}
 use Prim.Native.Nat.{ℕ, _+_, _-_, _*_, _/_, _%_}
 use lib.Dec.{ltb, eqb}
 use lib.ListN.{length, take, drop}
-use Rattle.savelog.specs.Log.{Form, widthOf, recordsBy, saveLengths}
+use Rattle.savelog.specs.Log.{widthOf, recordsBy, saveLengths}
+use Rattle.savelog.specs.declared.Form.{Form}
 use Rattle.recover_text.specs.Text.{decimal, counted, hexes}
 use Rattle.recover_messages.specs.Journal.{keptOf, soundFirst}
 use Rattle.recover_messages.specs.declared.journal.Scan.{Scan}
