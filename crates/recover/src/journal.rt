@@ -3,9 +3,11 @@ ghost use mathlib.Core.Bool.{true};
 ghost use mathlib.Core.Path.{_≡_};
 ghost use Prim.Native.Nat.{_-_, _≤_, _<_, min};
 ghost use lib.ListN.{length, take};
+ghost use Rattle.io.specs.Counts.{Counts};
 ghost use Rattle.savelog.specs.Log.{saveLengths, oneOf, outcome};
 ghost use Rattle.recover_messages.specs.Journal.{Bounded, journalLimit, keptOf, recoveryBy, partLimit, Played, PlayedPart};
 use crate::files;
+use crate::files::Got;
 use crate::say;
 use recover_messages::journal;
 use recover_messages::journal::PART;
@@ -79,9 +81,10 @@ fn play(save: &mut [u8], part: &[u8], log: Log, s: Scan) -> u8
     requires { ⌜ (s .len ≤ journalLimit) × (oneOf (length (now save)) saveLengths ≡ true) × (length (now part) ≤ partLimit (log .form)) ⌝ }
     ensures { λ r. ⌜ outcome r (now (save .exit)) ≡ recoveryBy (log .form) (now (save .entry)) (now (part .entry)) ⌝ }
 {
-    let number = journal::recover(log.form, save, part);
+    let form = log.form;
+    let number = journal::recover(form, save, part);
     if number != numbers::DONE {
-        say::damage(log.name, log.form, log.len, s, part, save.len());
+        say::damage(log.name, form, log.len, s, part, save.len());
     }
     number
 }
@@ -95,22 +98,31 @@ fn play_kept(save: &mut [u8], part: &[u8], log: Log, s: Scan, kept: usize) -> u8
     play(save, &part[..n], log, s)
 }
 
+// Reads the next part: as many records as one has.
+fn next_part(fd: i32, form: Form, part: &mut [u8]) -> Got
+    requires { ⌜ partLimit form ≤ length (now part) ⌝ }
+    ensures { λ r. ⌜ Counts (r .len) (now (part .exit)) × (r .len ≤ partLimit form) ⌝ }
+{
+    let most = journal::bytes_of(form, journal::PART_RECORDS);
+    files::part(fd, &mut part[..most])
+}
+
 // The next part scanned and played; the scan as it was, where it is told why not. A part begins where a record does.
 fn play_next(log: Log, save: &mut [u8], s: Scan, kept: usize) -> Scan
     requires { ⌜ Bounded s × (oneOf (length (now save)) saveLengths ≡ true) ⌝ }
     ensures { λ r. ⌜ Bounded r × (s .len < r .len → PlayedPart (log .form) kept s (now (save .entry)) (now (save .exit)) r) ⌝ }
 {
+    let form = log.form;
     let at = s.len;
     if at > journal::LIMIT {
         return s;
     }
-    if journal::rest_of(log.form, at) != 0 {
+    if journal::rest_of(form, at) != 0 {
         say::failed(Why::Changed, log.name, log.len);
         return s;
     }
     let mut part = [0u8; PART];
-    let most = journal::bytes_of(log.form, journal::PART_RECORDS);
-    let got = files::part(log.fd, &mut part[..most]);
+    let got = next_part(log.fd, form, &mut part);
     let n = got.len;
     if !got.good {
         say::failed_call(Why::Unread, log.name, log.len);
@@ -131,7 +143,8 @@ pub fn play_all(log: Log, save: &mut [u8], first: Scan) -> bool
     requires { ⌜ (oneOf (length (now save)) saveLengths ≡ true) × Bounded first × (first .len ≤ journalLimit) ⌝ }
     ensures { λ r. ⌜ (r ≡ true → Played (log .form) (keptOf (log .form) first) first (now (save .entry)) (now (save .exit))) ⌝ }
 {
-    let kept = journal::journal_len(log.form, first);
+    let form = log.form;
+    let kept = journal::journal_len(form, first);
     let len = first.len;
     let mut s = journal::unread();
     while s.len < len {

@@ -48,13 +48,14 @@ fn taken(asked: Asked, new: Told, len: usize) -> bool {
 fn conclude(asked: Asked, kept: Kept, path: &[u8], len: usize, log: Log, scan: Scan)
     requires { ⌜ Bounded scan × (scan .len ≤ journalLimit) ⌝ }
 {
+    let form = log.form;
     match kept {
         Kept::Done => {
-            say::written(log.form, scan, asked.new, len);
+            say::written(form, scan, asked.new, len);
         }
         Kept::Unflushed => {
             say::note(Why::Unflushed, asked.new, len);
-            say::written(log.form, scan, asked.new, len);
+            say::written(form, scan, asked.new, len);
         }
         Kept::Taken => {
             taken(asked, told::of(path), len);
@@ -122,7 +123,8 @@ fn finish(
     requires { ⌜ Bounded scan × (scan .len ≤ journalLimit) ⌝ }
 {
     if path.len() == 0 {
-        say::shown(log.form, scan);
+        let form = log.form;
+        say::shown(form, scan);
         return;
     }
     let mut name = io::buffer();
@@ -141,7 +143,8 @@ fn say_end(log: Log, scan: Scan) -> bool
     if log.torn {
         return say::torn_mark(log.name, log.len);
     }
-    say::end(log.name, log.form, log.before as usize, scan)
+    let form = log.form;
+    say::end(log.name, form, log.before as usize, scan)
 }
 
 // Plays the log over the save and prints what came of it, then goes on to NEW.

@@ -1,4 +1,6 @@
 // What is printed: the lines of crate recover_messages, each written whole. But for `usage`, every function tells whether it could be written.
+ghost use mathlib.Core.Bool.{false};
+ghost use mathlib.Core.Path.{_≡_};
 ghost use Prim.Native.Nat.{_≤_};
 ghost use lib.ListN.{length};
 ghost use Rattle.io.specs.Counts.{Counts};
@@ -75,7 +77,9 @@ pub fn failed(why: Why, i: usize, len: usize) -> bool {
 }
 
 // The same, for a caller that then says no.
-pub fn failed_so(why: Why, i: usize, len: usize) -> bool {
+pub fn failed_so(why: Why, i: usize, len: usize) -> bool
+    ensures { λ r. ⌜ r ≡ false ⌝ }
+{
     failed(why, i, len);
     false
 }

@@ -1,7 +1,7 @@
 -- Each branch is a case of `kept`.
-use Rattle.recover_messages.proofs.Scans.{width-within, whole-less, keeps-less, keeps-all}
 use native.Mathlib.Omega.{arith}
 use borrow.Author.Needs.{needs}
+use Rattle.recover_messages.proofs.Scans.{width-within, whole-less, keeps-less, keeps-all}
 use Rattle.recover_messages.proofs.journal.journal_len.Statement.{statement}
 use Rattle.recover_messages.proofs.journal.journal_len.Tie as tie
 

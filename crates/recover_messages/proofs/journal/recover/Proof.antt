@@ -1,9 +1,9 @@
 -- Each form is a case.
+use mathlib.Core.Path.{sym, ap, _∙_}
+use native.Mathlib.Omega.{arith}
+use borrow.Author.Needs.{needs}
 use Rattle.recover_messages.proofs.Plays.{present}
 use Rattle.recover_messages.specs.Journal.{recoveryBy, partLimit}
-use native.Mathlib.Omega.{arith}
-use mathlib.Core.Path.{sym, ap, _∙_}
-use borrow.Author.Needs.{needs}
 use Rattle.recover_messages.proofs.journal.recover.Statement.{statement}
 use Rattle.recover_messages.proofs.journal.recover.Tie as tie
 

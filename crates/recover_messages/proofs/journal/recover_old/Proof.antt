@@ -1,9 +1,9 @@
 -- A refusal of the converter is one of recovery; else the new log has the old one's records.
-use Rattle.recover_messages.proofs.Plays.{not-converted, new-len, as-converted}
-use lib.Seq.{length-take-le}
-use native.Mathlib.Omega.{arith}
 use mathlib.Core.Path.{sym, _∙_}
+use native.Mathlib.Omega.{arith}
+use lib.Seq.{length-take-le}
 use borrow.Author.Needs.{needs}
+use Rattle.recover_messages.proofs.Plays.{not-converted, new-len, as-converted}
 use Rattle.recover_messages.proofs.journal.recover_old.Statement.{statement}
 use Rattle.recover_messages.proofs.journal.recover_old.Tie as tie
 

@@ -1,13 +1,13 @@
 -- The records before i are sound; each turn passes one more, or stops.
-use Rattle.recover_messages.proofs.Scans.{width-within, first-within, first-stops, first-goes, first-ends}
-use Rattle.recover_messages.specs.Journal.{soundFirst}
+use mathlib.Core.Path.{_≡_, refl, sym, ap, _∙_}
+use Prim.Native.Nat.{_+_, _-_, _≤_}
+use native.Mathlib.Omega.{arith}
+use lib.ListN.{length, drop}
+use borrow.Author.Needs.{needs}
 use Rattle.rules.proofs.Tests.{denied, granted}
 use Rattle.savelog.specs.Log.{widthOf, soundRecord, recordsBy}
-use borrow.Author.Needs.{needs}
-use lib.ListN.{length, drop}
-use native.Mathlib.Omega.{arith}
-use Prim.Native.Nat.{_+_, _-_, _≤_}
-use mathlib.Core.Path.{_≡_, refl, sym, ap, _∙_}
+use Rattle.recover_messages.proofs.Scans.{width-within, first-within, first-stops, first-goes, first-ends}
+use Rattle.recover_messages.specs.Journal.{soundFirst}
 use Rattle.recover_messages.proofs.journal.sound_records.Statement.{statement}
 use Rattle.recover_messages.proofs.journal.sound_records.Tie as tie
 

@@ -1,7 +1,7 @@
 -- Each branch is a test of the definition.
-use Rattle.recover_messages.specs.Mark.{markOf}
-use Rattle.recover_text.proofs.Same.{told-same, told-other}
 use borrow.Author.Needs.{needs}
+use Rattle.recover_text.proofs.Same.{told-same, told-other}
+use Rattle.recover_messages.specs.Mark.{markOf}
 use Rattle.recover_messages.proofs.mark.mark_of.Statement.{statement}
 use Rattle.recover_messages.proofs.mark.mark_of.Tie as tie
 

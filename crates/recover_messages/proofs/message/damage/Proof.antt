@@ -1,14 +1,14 @@
 -- The record behind the sound ones is damaged, where there is one.
-use Rattle.recover_messages.proofs.Choice.{no-damage, first-damage, record-length}
-use Rattle.recover_messages.proofs.Scans.{width-within, inside}
-use Rattle.recover_text.proofs.Pieces.{put-none, named}
+use mathlib.Core.Path.{refl}
+use Prim.Native.Nat.{_/_, _<_}
+use native.Mathlib.Omega.{arith}
+use lib.ListN.{length}
+use borrow.Author.Needs.{needs}
 use Rattle.savelog.proofs.Prefix.{length-records}
 use Rattle.savelog.specs.Log.{widthOf}
-use lib.ListN.{length}
-use native.Mathlib.Omega.{arith}
-use Prim.Native.Nat.{_/_, _<_}
-use mathlib.Core.Path.{refl}
-use borrow.Author.Needs.{needs}
+use Rattle.recover_text.proofs.Pieces.{put-none, named}
+use Rattle.recover_messages.proofs.Choice.{no-damage, first-damage, record-length}
+use Rattle.recover_messages.proofs.Scans.{width-within, inside}
 use Rattle.recover_messages.proofs.message.damage.Statement.{statement}
 use Rattle.recover_messages.proofs.message.damage.Tie as tie
 

@@ -1,8 +1,8 @@
 -- Each branch is a case of `endLine`.
-use Rattle.recover_messages.proofs.Choice.{ends-in-zeros, ends-whole, ends-torn}
-use Rattle.recover_text.proofs.Pieces.{named, put-none}
 use native.Mathlib.Omega.{arith}
 use borrow.Author.Needs.{needs}
+use Rattle.recover_text.proofs.Pieces.{named, put-none}
+use Rattle.recover_messages.proofs.Choice.{ends-in-zeros, ends-whole, ends-torn}
 use Rattle.recover_messages.proofs.message.end.Statement.{statement}
 use Rattle.recover_messages.proofs.message.end.Tie as tie
 

@@ -1,14 +1,14 @@
 -- The pieces of the text, one behind the other; the number is of what is kept.
-use Rattle.recover_messages.specs.Words as words
+use mathlib.Core.List.{_++_}
+use mathlib.Core.Path.{ap, _∙_}
+use Prim.Native.Nat.{_/_}
+use native.Mathlib.Omega.{arith}
+use borrow.Author.Needs.{needs}
+use Rattle.savelog.specs.Log.{widthOf}
+use Rattle.recover_text.specs.Text.{counted}
 use Rattle.recover_text.proofs.Digits.{counted-length}
 use Rattle.recover_text.proofs.Pieces.{named, and-then}
-use Rattle.recover_text.specs.Text.{counted}
-use Rattle.savelog.specs.Log.{widthOf}
-use native.Mathlib.Omega.{arith}
-use Prim.Native.Nat.{_/_}
-use mathlib.Core.Path.{ap, _∙_}
-use mathlib.Core.List.{_++_}
-use borrow.Author.Needs.{needs}
+use Rattle.recover_messages.specs.Words as words
 use Rattle.recover_messages.proofs.message.recovered.Statement.{statement}
 use Rattle.recover_messages.proofs.message.recovered.Tie as tie
 

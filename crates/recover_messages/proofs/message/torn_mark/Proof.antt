@@ -1,8 +1,8 @@
 -- Each branch is a case of `tornMarkLine`.
-use Rattle.recover_messages.proofs.Choice.{empty-file, mark-torn}
-use Rattle.recover_text.proofs.Pieces.{named, put-none}
 use native.Mathlib.Omega.{arith}
 use borrow.Author.Needs.{needs}
+use Rattle.recover_text.proofs.Pieces.{named, put-none}
+use Rattle.recover_messages.proofs.Choice.{empty-file, mark-torn}
 use Rattle.recover_messages.proofs.message.torn_mark.Statement.{statement}
 use Rattle.recover_messages.proofs.message.torn_mark.Tie as tie
 

@@ -1,8 +1,8 @@
 -- Four digits, or the fifth before them.
-use Rattle.recover_text.proofs.Pieces.{named, and-then}
-use Rattle.recover_text.proofs.Lines.{four-digits, five-digits, address-length}
 use native.Mathlib.Omega.{arith}
 use borrow.Author.Needs.{needs}
+use Rattle.recover_text.proofs.Pieces.{named, and-then}
+use Rattle.recover_text.proofs.Lines.{four-digits, five-digits, address-length}
 use Rattle.recover_text.proofs.put.address.Statement.{statement}
 use Rattle.recover_text.proofs.put.address.Tie as tie
 

@@ -1,7 +1,7 @@
 -- The pieces of the head, one behind the other.
-use Rattle.recover_text.proofs.Pieces.{and-then, kept-length}
 use native.Mathlib.Omega.{arith}
 use borrow.Author.Needs.{needs}
+use Rattle.recover_text.proofs.Pieces.{and-then, kept-length}
 use Rattle.recover_text.proofs.rows.head.Statement.{statement}
 use Rattle.recover_text.proofs.rows.head.Tie as tie
 

@@ -1,10 +1,10 @@
 -- The pieces of a line, one behind the other.
+use mathlib.Core.List.{[], _∷_}
+use native.Mathlib.Omega.{arith}
+use borrow.Author.Needs.{needs}
 use Rattle.recover_text.proofs.Pieces.{and-then, texts-length}
 use Rattle.recover_text.proofs.Digits.{spaced-length, shown-length}
 use Rattle.recover_text.specs.Text.{spaced, shown}
-use native.Mathlib.Omega.{arith}
-use mathlib.Core.List.{[], _∷_}
-use borrow.Author.Needs.{needs}
 use Rattle.recover_text.proofs.rows.line.Statement.{statement}
 use Rattle.recover_text.proofs.rows.line.Tie as tie
 

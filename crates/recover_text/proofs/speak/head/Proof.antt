@@ -1,7 +1,7 @@
 -- The address, and the colon behind it.
-use Rattle.recover_text.proofs.Pieces.{and-then}
 use native.Mathlib.Omega.{arith}
 use borrow.Author.Needs.{needs}
+use Rattle.recover_text.proofs.Pieces.{and-then}
 use Rattle.recover_text.proofs.speak.head.Statement.{statement}
 use Rattle.recover_text.proofs.speak.head.Tie as tie
 
