@@ -1,8 +1,8 @@
 -- The scan held.
-use Rattle.rules.proofs.Tests.{granted}
-use native.Mathlib.Omega.{arith}
 use mathlib.Core.Path.{refl}
+use native.Mathlib.Omega.{arith}
 use borrow.Author.Needs.{needs}
+use Rattle.rules.proofs.Tests.{granted}
 use Rattle.recover.proofs.with_scan.Statement.{statement}
 use Rattle.recover.proofs.with_scan.Tie as tie
 

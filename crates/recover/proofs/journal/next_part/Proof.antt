@@ -1,10 +1,10 @@
 -- What is read is within what was lent.
-use Rattle.io.proofs.Counting.{counts}
+use mathlib.Core.Path.{sym}
+use native.Mathlib.Omega.{arith}
 use lib.Seq.{length-take-le}
 use lib.ListN.{length-append}
-use native.Mathlib.Omega.{arith}
-use mathlib.Core.Path.{sym}
 use borrow.Author.Needs.{needs}
+use Rattle.io.proofs.Counting.{counts}
 use Rattle.recover.proofs.journal.next_part.Statement.{statement}
 use Rattle.recover.proofs.journal.next_part.Tie as tie
 

@@ -1,7 +1,7 @@
 -- Where it stops, the scan is as it was; else the part was read from where a record begins, and recovery took it.
-use Rattle.recover.proofs.Saves.{a-part, part-fits}
 use native.Mathlib.Omega.{arith}
 use borrow.Author.Needs.{needs}
+use Rattle.recover.proofs.Saves.{a-part, part-fits}
 use Rattle.recover.proofs.journal.play_next.Statement.{statement}
 use Rattle.recover.proofs.journal.play_next.Tie as tie
 

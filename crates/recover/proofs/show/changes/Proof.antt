@@ -1,7 +1,7 @@
 -- The copy is the save at entry.
-use Rattle.recover.proofs.Saves.{save-rows}
 use native.Mathlib.Omega.{arith}
 use borrow.Author.Needs.{needs}
+use Rattle.recover.proofs.Saves.{save-rows}
 use Rattle.recover.proofs.show.changes.Statement.{statement}
 use Rattle.recover.proofs.show.changes.Tie as tie
 
