@@ -1,4 +1,5 @@
 // What the log begins with, and so how it is read: a journal of version 3 has a mark; by the words there is none.
+ghost use Prim.Native.Nat.{_≤_};
 use crate::files;
 use crate::journal::Log;
 use crate::say;
@@ -9,7 +10,9 @@ use recover_messages::message::Why;
 use savelog::Form;
 
 // A log of `len` bytes with records of this form alone.
-fn bare(fd: i32, asked: Asked, len: usize, form: Form) -> Log {
+fn bare(fd: i32, asked: Asked, len: usize, form: Form) -> Log
+    ensures { λ r. ⌜ r .before ≤ r .len ⌝ }
+{
     Log {
         fd: fd,
         name: asked.log,
@@ -21,7 +24,10 @@ fn bare(fd: i32, asked: Asked, len: usize, form: Form) -> Log {
 }
 
 // A journal of version 3, of which n bytes are the mark.
-fn marked(fd: i32, asked: Asked, len: usize, n: u16, torn: bool) -> Log {
+fn marked(fd: i32, asked: Asked, len: usize, n: u16, torn: bool) -> Log
+    requires { ⌜ n ≤ len ⌝ }
+    ensures { λ r. ⌜ r .before ≤ r .len ⌝ }
+{
     Log {
         fd: fd,
         name: asked.log,
@@ -33,13 +39,17 @@ fn marked(fd: i32, asked: Asked, len: usize, n: u16, torn: bool) -> Log {
 }
 
 // One that is refused has no descriptor.
-fn refused(why: Why, asked: Asked, len: usize) -> Log {
+fn refused(why: Why, asked: Asked, len: usize) -> Log
+    ensures { λ r. ⌜ r .before ≤ r .len ⌝ }
+{
     say::failed(why, asked.log, len);
     bare(-1, asked, len, Form::Four)
 }
 
 // By the words.
-fn by_words(fd: i32, asked: Asked, len: usize, mark: Mark) -> Log {
+fn by_words(fd: i32, asked: Asked, len: usize, mark: Mark) -> Log
+    ensures { λ r. ⌜ r .before ≤ r .len ⌝ }
+{
     match mark {
         Mark::Whole => refused(Why::Marked, asked, len),
         Mark::Torn | Mark::Missing => {
@@ -52,7 +62,10 @@ fn by_words(fd: i32, asked: Asked, len: usize, mark: Mark) -> Log {
 }
 
 // By the mark, of which n bytes were read.
-fn by_mark(fd: i32, asked: Asked, len: usize, mark: Mark, n: u16) -> Log {
+fn by_mark(fd: i32, asked: Asked, len: usize, mark: Mark, n: u16) -> Log
+    requires { ⌜ n ≤ len ⌝ }
+    ensures { λ r. ⌜ r .before ≤ r .len ⌝ }
+{
     match mark {
         Mark::Whole => marked(fd, asked, len, n, false),
         Mark::Torn => marked(fd, asked, len, n, true),
@@ -61,12 +74,18 @@ fn by_mark(fd: i32, asked: Asked, len: usize, mark: Mark, n: u16) -> Log {
 }
 
 // How the open log of `len` bytes is read; with no descriptor, where it is told why not.
-pub fn begin(fd: i32, asked: Asked, len: usize) -> Log {
+pub fn begin(fd: i32, asked: Asked, len: usize) -> Log
+    ensures { λ r. ⌜ r .before ≤ r .len ⌝ }
+{
     let mut first = [0u8; mark::MARK_LEN];
     let got = files::part(fd, &mut first);
     if !got.good {
         say::failed_call(Why::Unread, asked.log, len);
         return bare(-1, asked, len, Form::Four);
+    }
+    let n = got.len;
+    if len < n {
+        return refused(Why::Changed, asked, len);
     }
     let mark = mark::mark_of(&first);
     if asked.old {
@@ -75,5 +94,5 @@ pub fn begin(fd: i32, asked: Asked, len: usize) -> Log {
     if asked.bare {
         return by_words(fd, asked, len, mark);
     }
-    by_mark(fd, asked, len, mark, got.len as u16)
+    by_mark(fd, asked, len, mark, n as u16)
 }

@@ -206,17 +206,12 @@ fn at_records(log: Log) -> bool {
 
 // Scans the log, all of it or none.
 fn with_scan(asked: Asked, sources: Sources, save: &mut [u8], log: Log, path: &[u8], place: Place)
-    requires { ⌜ oneOf (length (now save)) saveLengths ≡ true ⌝ }
+    requires { ⌜ (oneOf (length (now save)) saveLengths ≡ true) × (log .before ≤ log .len) ⌝ }
 {
-    let before = log.before as usize;
-    if log.len < before {
-        say::failed(Why::Changed, log.name, log.len);
-        return;
-    }
     if !at_records(log) {
         return;
     }
-    let len = log.len - before;
+    let len = log.len - log.before as usize;
     let scan = journal::scan(log, len);
     if !scan_holds(log, scan, len) {
         return;
