@@ -1,4 +1,5 @@
-// The log's records, read twice from one descriptor and in parts of whole records: first their length and where their zeros begin, then themselves over the save.
+// The log's records, read twice from one descriptor and in parts of whole records: first how many bytes they are and where their zeros begin, then
+// themselves over the save.
 ghost use mathlib.Core.Bool.{true};
 ghost use mathlib.Core.Path.{_≡_};
 ghost use Prim.Native.Nat.{_-_, _≤_, _<_, min};
@@ -15,7 +16,7 @@ use recover_messages::journal::Scan;
 use recover_messages::message::Why;
 use savelog::Form;
 
-// A log that is open: the argument that names it, the form of its records, how many bytes are before them, how many it has, and whether its mark is torn.
+// A log that is open: the argument that names it, the form of its records, the bytes before them, the bytes of the file, whether its mark is torn.
 pub struct Log {
     pub fd: i32,
     pub name: usize,

@@ -1,4 +1,4 @@
-// The log played over the save; and then all that this changes, printed in parts, as the report of the longest save is longer than a buffer should be.
+// The log played over the save; then all that this changes, printed in parts, as the report on the longest save is longer than a buffer should be.
 ghost use mathlib.Core.Bool.{true};
 ghost use mathlib.Core.Path.{_≡_};
 ghost use Prim.Native.Nat.{_≤_};

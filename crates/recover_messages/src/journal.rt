@@ -1,4 +1,5 @@
-// The records of a journal, read in parts: how much of them was written, the first damaged one, and recovery by them. Those of versions before 3.0 have three bytes.
+// The records of a journal, read in parts: how much of them was written, the first damaged one, and recovery by them. Journals of versions before 3.0
+// have records of three bytes.
 ghost use mathlib.Core.Bool.{true};
 ghost use mathlib.Core.Path.{_≡_};
 ghost use Prim.Native.Nat.{_+_, _*_, _/_, _%_, _≤_, _<_};

@@ -5,8 +5,8 @@ ghost use lib.ListN.{length};
 ghost use Rattle.savelog.specs.Log.{widthOf};
 ghost use Rattle.recover_text.specs.Text.{Put};
 ghost use Rattle.recover_messages.specs.Journal.{Bounded, journalLimit};
-ghost use Rattle.recover_messages.specs.Messages.{room, sized, whyText, recoveredText, writtenLine, shownLine, leftOutLine, endLine, tornMarkLine};
-ghost use Rattle.recover_messages.specs.Messages.{wrongLengthLine, damagedLine, damageLine, noteLine, failedLine};
+ghost use Rattle.recover_messages.specs.Messages.{room, sized, whyText, recoveredText, writtenLine, shownLine, leftOutLine};
+ghost use Rattle.recover_messages.specs.Messages.{endLine, tornMarkLine, wrongLengthLine, damagedLine, damageLine, noteLine, failedLine};
 use crate::journal::Scan;
 use crate::journal::bytes_of;
 use crate::journal::journal_len;
@@ -164,7 +164,7 @@ fn damaged(out: &mut [u8], name: &[u8], len: u64, number: u64, ram: u64, bytes: 
     put::text(out, f, b"; nothing is written\n")
 }
 
-// The first damaged record of a part, where the scan before it is s and the file has `len` bytes, for a save of `ram` bytes; no text, where none is damaged.
+// The first damaged record of a part, where the scan before it is s and the file has `len` bytes, for a save of `ram` bytes; no text, where none is.
 pub fn damage(
     out: &mut [u8],
     name: &[u8],

@@ -3,7 +3,8 @@ ghost use mathlib.Core.Path.{_≡_};
 ghost use Prim.Native.Nat.{_+_, _*_, _≤_, _<_};
 ghost use lib.ListN.{length};
 ghost use Rattle.recover_text.specs.Text.{Put};
-ghost use Rattle.recover_text.specs.Rows.{head, rowLine, changedLines, rowLines, Rows, Shows, rowBytes, rowRoom, addressLimit, PartsLaw, RowsLaw};
+ghost use Rattle.recover_text.specs.Rows.{head, rowLine, changedLines, rowLines, Rows, Shows, rowBytes, rowRoom, addressLimit};
+ghost use Rattle.recover_text.specs.Rows.{PartsLaw, RowsLaw};
 use crate::put;
 
 // The bytes of a row.
