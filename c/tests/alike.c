@@ -65,8 +65,8 @@ static uint64_t truth(uint64_t x)
 
 static void cartridge(void)
 {
-    const uint8_t kind = (uint8_t)(any() % 4), codes[] = {0, 2, 3}, sizes[] = {1, 7, 4, 9};
-    const uint8_t code = kind == POUCH_MBC2 ? 0 : codes[any() % 3];
+    const uint8_t kind = (uint8_t)(any() % 4), codes[] = {0, 2, 3, 4}, sizes[] = {1, 7, 4, 9};
+    const uint8_t code = kind == POUCH_MBC2 ? 0 : codes[any() % (kind == POUCH_MBC5 ? 4 : 3)];
     const uint16_t banks = (uint16_t)(2u << any() % sizes[kind]);
     const bool colour = any() % 2 != 0;
     const size_t log_len = any() % 8 == 0 ? any() % 7 : any() % (POUCH_LOG_LEN_MAX + 1);
