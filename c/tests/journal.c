@@ -67,6 +67,7 @@ static void allow(rlim_t len)
 
 static void lend(struct pouch_bus *bus, size_t log_len)
 {
+    memset(bus, 1, sizeof *bus); /* whatever it held */
     pouch_bus_lend(
         bus, rom, (size_t)here->banks * POUCH_ROM_BANK_LEN, vram, sizeof vram, wram, sizeof wram, save, here->save_len, save_log, log_len, sound);
     memset(save, 0, sizeof save);
@@ -320,15 +321,19 @@ static void check_mark(const char *path)
             require(ftruncate(file, 0) == 0 && write_number(&bus, 2) == POUCH_DONE && pouch_bus_keep(&bus, file), "a journal that was emptied");
             memcpy(wanted + MARK, records + 2 * RECORD, RECORD);
             require(holds(file, wanted, MARK + RECORD), "begins with the mark again");
-            /* one that goes on with another file */
             close(file);
-            file = file_with(path, "\x92\x34\x56", OLD);
-            require(pouch_bus_keep(&bus, file), "nothing is new, nothing is done");
-            require(write_number(&bus, 0) == POUCH_DONE && !pouch_bus_keep(&bus, file) && errno == EPROTO, "an old journal in the place of a new one");
-            start(&bus);
-            require(!pouch_bus_keep(&bus, file) && errno == EPROTO, "a fresh start looks again");
-            require(holds(file, "\x92\x34\x56", OLD), "the old journal stays");
-            close(file);
+            /* one that goes on with another file, where something is new, and after a fresh start */
+            for (int again = 0; again < 2; again++) {
+                file = file_with(path, "", 0);
+                require(pouch_bus_keep(&bus, file), "an empty journal");
+                close(file);
+                file = file_with(path, "\x92\x34\x56", OLD);
+                require(pouch_bus_keep(&bus, file), "nothing is new, nothing is done");
+                again ? start(&bus) : (void)write_number(&bus, 0);
+                require(!pouch_bus_keep(&bus, file) && errno == EPROTO, "an old journal in the place of a new one");
+                require(holds(file, "\x92\x34\x56", OLD), "stays as it is");
+                close(file);
+            }
         }
     /* zeros behind a beginning of the mark: recovery takes it, keep does not, as records would stand behind it */
     const char *const spoiled[] = {"P\0\0\0", "PL4\0", "\0\0\0\0", "PL3\n"};
