@@ -120,7 +120,7 @@ fn memories(memory: &Memory) -> Vec<u8> {
 }
 
 /// The widths of the image's fields behind the colours, in document 01's order, up to the log's use.
-const WIDTHS: [usize; 28] = [1, 1, 1, 1, 3, 1, 1, 8, 8, 8, 8, 8, 8, 10, 16, 16, 32, 32, 32, 32, 2, 4, 2, 9, 2, 1, 1, 2];
+const WIDTHS: [usize; 28] = [1, 1, 1, 1, 3, 1, 1, 8, 8, 8, 8, 8, 8, 10, 16, 16, 32, 32, 32, 32, 2, 4, 3, 9, 4, 1, 1, 2];
 const LOG2_N: usize = 21;
 
 fn state(image: &Image) -> Vec<u8> {
