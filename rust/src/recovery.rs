@@ -30,18 +30,20 @@ fn written(journal: &[u8], record: usize) -> &[u8] {
     }
 }
 
-/// Whether a journal begins with the mark, or with as much of it as arrived: the rest of its four bytes is not there, or zeros.
-fn begins_with_mark(journal: &[u8]) -> bool {
+/// Whether a journal begins with the mark, or with as much of it as arrived: the rest of its four bytes is not there, or zeros. pouch_journal_marked of C is the
+/// same rule.
+fn is_marked(journal: &[u8]) -> bool {
     let first = &journal[..journal.len().min(JOURNAL_MARK.len())];
     let arrived = first.iter().zip(JOURNAL_MARK).take_while(|(byte, mark)| *byte == mark).count();
-    arrived > 0 && first[arrived..].iter().all(|byte| *byte == 0)
+    first[arrived..].iter().all(|byte| *byte == 0)
 }
 
 /// Brings a save up to date from a journal of any length, by what `journal_len` says was written, and gives how many records that is; up to 3 last bytes
 /// are part of a record, and ignored. Played again over the same save, it gives the same save.
 ///
-/// Refused by `WrongLength` for a save that no cartridge has; by `Unmarked` where bytes were written, and do not begin with `JOURNAL_MARK` or with as much of
-/// it as arrived; and by `Damaged`, with the first damaged record, counted from 0 behind the mark. The save is then as it was.
+/// Refused by `WrongLength` for a save that no cartridge has; by `Unmarked` where its first four bytes are not `JOURNAL_MARK`, nor a beginning of it and then
+/// zeros or the end, as a session or a machine that failed there leaves it; and by `Damaged`, with the first damaged record, counted from 0 behind the mark. The
+/// save is then as it was.
 ///
 /// A journal that a version before 3.0 wrote is refused by `Unmarked`, and `recover_old_journal` takes it. A host whose players have such journals says, once,
 /// before it replaces the save's file and starts with an empty journal:
@@ -62,7 +64,7 @@ pub fn recover_journal(save: &mut [u8], journal: &[u8]) -> Result<usize, Refusal
     let mut copy = save.to_vec();
     recover(&mut copy, &[])?;
     let written = written(journal, RECORD_LEN);
-    if !written.is_empty() && !begins_with_mark(written) {
+    if !is_marked(written) {
         return Err(Refusal::Unmarked);
     }
     let records = written.get(JOURNAL_MARK.len()..).unwrap_or(&[]);
@@ -76,15 +78,16 @@ pub fn recover_journal(save: &mut [u8], journal: &[u8]) -> Result<usize, Refusal
 /// The same for a journal of a version before 3.0: it has no mark, its records have three bytes, 1 or 2 last bytes are part of one, and zeros at its end are
 /// told by that length. Nothing can be appended to it: replace the save's file as a whole, and start with an empty journal.
 ///
-/// Refused by `WrongLength` for a save that no cartridge has; by `Marked` for a journal that begins with `JOURNAL_MARK`, or is as much of it as arrived; and by
-/// `Damaged`, with the first damaged record. The save is then as it was.
+/// Refused by `WrongLength` for a save that no cartridge has; by `Marked` for a journal that begins with `JOURNAL_MARK`, or with as much of it as makes an old
+/// record; and by `Damaged`, with the first damaged record. The save is then as it was.
 pub fn recover_old_journal(save: &mut [u8], journal: &[u8]) -> Result<usize, Refusal> {
     let mut copy = save.to_vec();
     recover(&mut copy, &[])?;
-    if begins_with_mark(journal) {
+    let records = written(journal, OLD_RECORD_LEN);
+    // As an old record it would be told as damaged. Less of it is part of a record, as before.
+    if records.len() >= OLD_RECORD_LEN && records[0] == JOURNAL_MARK[0] && is_marked(records) {
         return Err(Refusal::Marked);
     }
-    let records = written(journal, OLD_RECORD_LEN);
     for (part, old) in records.chunks(RECORDS * OLD_RECORD_LEN).enumerate() {
         let played = log_to_new(old).and_then(|log| recover(&mut copy, &log));
         played.map_err(|_| first_damaged_old(&mut copy, old).behind(part * RECORDS))?;

@@ -400,9 +400,8 @@ fn torn_marks() {
         assert_eq!(begins(&journal), Err(Refusal::Unmarked));
     }
     assert_eq!(begins(&[MARK, record(0, 0x22)].concat()), Ok(1));
-    // Records, and no mark: as those of a log, or zeros before them.
+    // Records, and no mark, as those of a log.
     assert_eq!(begins(&record(0, 0x22)), Err(Refusal::Unmarked));
-    assert_eq!(begins(&[[0; 4], record(0, 0x22)].concat()), Err(Refusal::Unmarked));
     // A second mark is a damaged record.
     let damaged = Damaged { record: 0, bytes: RecordBytes::New(MARK) };
     assert_eq!(begins(&[MARK, MARK, record(0, 0x22)].concat()), Err(Refusal::Damaged(damaged)));
@@ -427,14 +426,62 @@ fn c_rule(journal: &[u8]) -> usize {
     }
 }
 
+/// c/pouch_bus.h has these words.
+fn in_header(words: &str) {
+    let header = fs::read_to_string(concat!(env!("CARGO_MANIFEST_DIR"), "/../c/pouch_bus.h")).unwrap();
+    let header = header.split_whitespace().collect::<Vec<_>>().join(" ");
+    assert!(header.contains(words), "c/pouch_bus.h has another rule now: {words}");
+}
+
+/// pouch_journal_marked of c/pouch_bus.h, word by word, and what pouch_bus_recover does with it: how many records, or `None` for 6.
+fn c_marked(journal: &[u8]) -> Option<usize> {
+    let len = c_rule(journal);
+    let (mut at, end) = (0, if len < 4 { len } else { 4 });
+    while at < end && journal[at] == b"PL4\n"[at] {
+        at += 1;
+    }
+    while at < end && journal[at] == 0 {
+        at += 1;
+    }
+    (at == end).then_some(if len > 4 { (len - 4) / 4 } else { 0 })
+}
+
+#[test]
+fn the_mark_is_cs() {
+    in_header("#define POUCH_JOURNAL_MARK \"PL4\\n\" #define POUCH_JOURNAL_MARK_LEN 4");
+    in_header(
+        "size_t at = 0, end = len < POUCH_JOURNAL_MARK_LEN ? len : POUCH_JOURNAL_MARK_LEN; \
+        while (at < end && journal[at] == POUCH_JOURNAL_MARK[at]) at++; while (at < end && journal[at] == 0) at++; return at == end;",
+    );
+    in_header(
+        "journal_len = pouch_journal_len(journal, journal_len); if (number == POUCH_DONE && !pouch_journal_marked(journal, journal_len)) \
+        number = POUCH_DAMAGED; for (size_t at = POUCH_JOURNAL_MARK_LEN, part; number == POUCH_DONE && at < journal_len; at += part) {",
+    );
+    // Every journal of up to 6 bytes of these, and a record behind each.
+    let bytes = [0x00, 0x50, 0x4C, 0x34, 0x0A, 0x80];
+    for len in 0..=6 {
+        for list in 0..bytes.len().pow(len) {
+            let mut journal: Vec<u8> = (0..len).map(|place| bytes[list / bytes.len().pow(place) % bytes.len()]).collect();
+            for _ in 0..2 {
+                let answer = recover_journal(&mut [0; 512], &journal);
+                match c_marked(&journal) {
+                    Some(records) => assert!(answer == Ok(records) || matches!(answer, Err(Refusal::Damaged(_))), "{journal:02X?}"),
+                    None => assert_eq!(answer, Err(Refusal::Unmarked), "{journal:02X?}"),
+                }
+                journal.extend(record(0, 0x01));
+            }
+        }
+    }
+}
+
 #[test]
 fn the_zero_tail_is_cs() {
-    let header = fs::read_to_string(concat!(env!("CARGO_MANIFEST_DIR"), "/../c/pouch_bus.h")).unwrap();
-    let body = "size_t end = len; while (end > 0 && journal[end - 1] == 0) end--; \
-        size_t next = (end + POUCH_RECORD_LEN - 1) / POUCH_RECORD_LEN * POUCH_RECORD_LEN; \
-        return next < len ? end / POUCH_RECORD_LEN * POUCH_RECORD_LEN : len;";
-    let header = header.split_whitespace().collect::<Vec<_>>().join(" ");
-    assert!(header.contains(body), "the rule of c/pouch_bus.h is another now");
+    in_header(
+        "size_t end = len; while (end > 0 && journal[end - 1] == 0) end--; \
+        size_t next = (end + record_len - 1) / record_len * record_len; \
+        return next < len ? end / record_len * record_len : len;",
+    );
+    in_header("return pouch_journal_len_by(journal, len, POUCH_RECORD_LEN);");
 
     // Every journal of up to 11 bytes, of which each is 0 or not.
     for len in 0..=11 {

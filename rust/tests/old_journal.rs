@@ -56,12 +56,18 @@ fn each_refuses_the_others() {
         assert_eq!(recover_journal(&mut save, &journal), Ok(writes));
         assert!(save == after);
     }
-    // However much of it arrived.
+    // Of which only a part arrived: as much as an old record, or less, which is no record of either.
     for arrived in 1..=4 {
         for zeros in [0, 1, 2, 3, 20] {
             let journal = [&JOURNAL_MARK[..arrived], &vec![0; zeros]].concat();
-            assert_eq!(recover_old_journal(&mut [0; 512], &journal), Err(Refusal::Marked), "{arrived} {zeros}");
+            // Zeros that begin within the last record count.
+            let expected = if arrived > 2 || arrived + zeros == 3 { Err(Refusal::Marked) } else { Ok(0) };
+            assert_eq!(recover_old_journal(&mut [0; 512], &journal), expected, "{arrived} {zeros}");
         }
+    }
+    // Other bytes at its place are a damaged record.
+    for journal in [[0x50, 0x4C, 0x35], [0x50, 0x00, 0x34], [0x7F, 0x00, 0x01], [0x00, 0x4C, 0x34]] {
+        assert_eq!(recover_old_journal(&mut [0; 512], &journal), Err(damaged(0, journal)));
     }
     // Both take one without a byte, or of zeros: nothing was saved.
     for zeros in 0..=20 {

@@ -36,8 +36,9 @@ fn fresh(input: &[u8]) -> Memory {
     let mbc_type = [MbcType::RomOnly, MbcType::Mbc1, MbcType::Mbc2, MbcType::Mbc5][usize::from(input[0])];
     let cartridge = cartridge(mbc_type, 1 << input[1], input[2]);
     let save: Vec<u8> = (0..cartridge.save_len()).map(|at| (at * 5 + at / 8192 * 11 + 17) as u8).collect();
-    let mut memory = Memory::new(cartridge, input[3] == 1, &save).unwrap();
-    memory.sound_mut().copy_from_slice(&input[4..]);
+    let log = u16::from_be_bytes([input[4], input[5]]);
+    let mut memory = Memory::with_log(cartridge, input[3] == 1, &save, log.into()).unwrap();
+    memory.sound_mut().copy_from_slice(&input[6..]);
     memory
 }
 
@@ -96,7 +97,7 @@ fn answer(memory: &mut Memory, letter: &str, input: &[u8]) -> Vec<u8> {
 }
 
 fn written(outcome: Result<Written, Refusal>) -> Vec<u8> {
-    vec![outcome.unwrap().owes_sound.into()]
+    vec![outcome.map_or_else(|refusal| refusal.number(), |written| written.owes_sound.into())]
 }
 
 fn button(number: u8) -> Button {
