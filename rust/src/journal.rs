@@ -38,18 +38,21 @@ pub struct Journal<W> {
     to: W,
     /// The mark's bytes that it has taken.
     marked: usize,
+    /// Whether it has been emptied since, where that can be told.
+    is_emptied: fn(&W) -> IoResult<bool>,
 }
 
 impl Journal<File> {
     /// A journal in a file, which is made if it is not there. It must be empty: refused by `ErrorKind::AlreadyExists` if it holds a byte. A
-    /// session that ended without warning may have left part of a record, behind which no other could be read. Bring the save up to
-    /// date by `recover_journal`, replace its file as a whole, and only then empty the journal or remove it.
+    /// session that ended without warning may have left part of a record, behind which no other could be read; and behind records of a version before 3.0 none of
+    /// this one could. Bring the save up to date by `recover_journal`, or `recover_old_journal`, replace its file as a whole, and only then empty the journal or
+    /// remove it.
     pub fn open(path: impl AsRef<Path>) -> IoResult<Journal<File>> {
         let file = OpenOptions::new().append(true).create(true).open(path)?;
         if file.metadata()?.len() > 0 {
             return Err(Error::new(ErrorKind::AlreadyExists, "the journal holds records of another session: recover from it first"));
         }
-        Ok(Journal::new(file))
+        Ok(Journal { is_emptied, ..Journal::new(file) })
     }
 
     /// Makes what is kept outlive the machine; `keep` makes it outlive this process. Refused as the file system refuses it.
@@ -57,17 +60,23 @@ impl Journal<File> {
         self.to.sync_data()
     }
 
-    /// Empties the file, once the save's file was replaced as a whole by what `drain` and all before it have kept. The next record begins it anew, behind
-    /// its mark. Refused as the file system refuses it.
+    /// Empties the file: after `drain`, and once the save's file was replaced as a whole. The next record begins it anew, behind its mark. Refused as the file
+    /// system refuses it.
     pub fn clear(&mut self) -> IoResult<()> {
         self.clear_by(|file| file.set_len(0))
     }
 }
 
+/// A host may cut a file that it is lent by `get_ref` alone, or by its path.
+fn is_emptied(file: &File) -> IoResult<bool> {
+    let metadata = file.metadata()?;
+    Ok(metadata.is_file() && metadata.len() == 0)
+}
+
 impl<W: Write> Journal<W> {
     /// A journal in what takes bytes, and has none yet: an empty file opened to append, say.
     pub fn new(to: W) -> Journal<W> {
-        Journal { to, marked: 0 }
+        Journal { to, marked: 0, is_emptied: |_| Ok(false) }
     }
 
     /// Appends the log's new bytes, and clears the log once over half of it is used and all of that is written. After `NoRoom` of a write:
@@ -75,12 +84,8 @@ impl<W: Write> Journal<W> {
     ///
     /// Refused by an error of what takes the bytes, nothing is lost: the next call goes on with the first byte that was not taken, of the mark or of a record.
     pub fn keep(&mut self, memory: &mut Memory) -> IoResult<()> {
-        if self.marked < JOURNAL_MARK.len() && !memory.unkept().is_empty() {
-            // Of this record another journal may have taken a part, or this one before it was emptied: behind the mark it stands whole.
-            memory.unkeep_part();
-            while self.marked < JOURNAL_MARK.len() {
-                self.marked += self.give(&JOURNAL_MARK[self.marked..])?;
-            }
+        if !memory.unkept().is_empty() {
+            self.begin(memory)?;
         }
         while !memory.unkept().is_empty() {
             memory.has_kept(self.give(memory.unkept())?);
@@ -88,6 +93,21 @@ impl<W: Write> Journal<W> {
         self.to.flush()?;
         if memory.log().len() > memory.log_len() / 2 {
             memory.clear_log();
+        }
+        Ok(())
+    }
+
+    /// Writes what is missing of the mark.
+    fn begin(&mut self, memory: &mut Memory) -> IoResult<()> {
+        if self.marked > 0 && (self.is_emptied)(&self.to)? {
+            self.marked = 0;
+        }
+        if self.marked < JOURNAL_MARK.len() {
+            // Of this record another journal may have taken a part, or this one before it was emptied: behind the mark it stands whole.
+            memory.unkeep_part();
+        }
+        while self.marked < JOURNAL_MARK.len() {
+            self.marked += self.give(&JOURNAL_MARK[self.marked..])?;
         }
         Ok(())
     }
@@ -112,7 +132,7 @@ impl<W: Write> Journal<W> {
         Ok(())
     }
 
-    /// What takes the bytes. Nothing else may write to it or cut it: `clear_by` does.
+    /// What takes the bytes. Nothing else may write to it, and `clear_by` empties it.
     pub fn get_ref(&self) -> &W {
         &self.to
     }
@@ -121,7 +141,10 @@ impl<W: Write> Journal<W> {
     ///
     /// ```
     /// # let mut journal = pouchrattle::Journal::new(Vec::new());
-    /// journal.clear_by(|bytes| Ok(bytes.clear()))?;
+    /// journal.clear_by(|bytes| {
+    ///     bytes.clear();
+    ///     Ok(())
+    /// })?;
     /// # Ok::<(), std::io::Error>(())
     /// ```
     pub fn clear_by(&mut self, empty: impl FnOnce(&mut W) -> IoResult<()>) -> IoResult<()> {

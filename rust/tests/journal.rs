@@ -158,7 +158,12 @@ fn an_emptied_journal_begins_with_its_mark() {
 
     let mut save = memory.save().to_vec();
     for emptied in 1..=2 {
-        journal.clear_by(|bytes| Ok(bytes.clear())).unwrap();
+        journal
+            .clear_by(|bytes| {
+                bytes.clear();
+                Ok(())
+            })
+            .unwrap();
         journal.keep(&mut memory).unwrap();
         assert!(journal.get_ref().is_empty());
         play(&mut memory, &mut journal, 4 + emptied);
@@ -282,7 +287,12 @@ fn another_journal_after_a_failure() {
 
             let mut save = other.save().to_vec();
             first.get_ref().limit.set(usize::MAX);
-            first.clear_by(|bad| Ok(bad.taken.clear())).unwrap();
+            first
+                .clear_by(|bad| {
+                    bad.taken.clear();
+                    Ok(())
+                })
+                .unwrap();
             first.keep(&mut other).unwrap();
             assert!(first.get_ref().taken == *second.get_ref());
             recover_journal(&mut save, &first.get_ref().taken).unwrap();
@@ -561,6 +571,15 @@ fn in_a_file() {
     play(&mut memory, &mut journal, 101);
     journal.keep(&mut memory).unwrap();
     assert!(fs::read(&path).unwrap() == [&MARK[..], &records(102).0[len_of(101)..]].concat());
+    // And so where the host has cut it behind the journal's back.
+    for i in 102..104 {
+        journal.get_ref().set_len(0).unwrap();
+        journal.keep(&mut memory).unwrap();
+        assert_eq!(fs::metadata(&path).unwrap().len(), 0);
+        play(&mut memory, &mut journal, i);
+        journal.keep(&mut memory).unwrap();
+        assert!(fs::read(&path).unwrap() == [&MARK[..], &records(i + 1).0[len_of(i)..]].concat());
+    }
     fs::remove_file(&path).unwrap();
     assert_eq!(Journal::open(path.join("none")).unwrap_err().kind(), ErrorKind::NotFound);
 
