@@ -30,8 +30,7 @@ const LONGEST_SAVE: usize = 131_072;
 /// # Ok::<(), pouchrattle::Refusal>(())
 /// ```
 pub fn log_to_new(old: &[u8]) -> Result<Vec<u8>, Refusal> {
-    // A longer one is refused, and need not be made for that.
-    let mut log = vec![0; (old.len() / OLD_RECORD_LEN * RECORD_LEN).min(LONGEST_LOG)];
+    let mut log = target(old.len() / OLD_RECORD_LEN * RECORD_LEN);
     let mut len = 0;
     match pouch_log_to_new(old, &mut log, &mut len) {
         0 => Ok(first(log, len)),
@@ -46,7 +45,7 @@ pub fn log_to_new(old: &[u8]) -> Result<Vec<u8>, Refusal> {
 /// Refused by `WrongLength` over `LONGEST_LOG` bytes; by `Damaged`, with the first record whose first bit is 0 or whose last six bits are not all 0; and, where
 /// none is damaged, by `BeyondOld`, with the first record whose address is 32,768 or more: three bytes do not hold it.
 pub fn log_to_old(log: &[u8]) -> Result<Vec<u8>, Refusal> {
-    let mut old = vec![0; (log.len() / RECORD_LEN * OLD_RECORD_LEN).min(LONGEST_LOG)];
+    let mut old = target(log.len() / RECORD_LEN * OLD_RECORD_LEN);
     let mut len = 0;
     match pouch_log_to_old(log, &mut old, &mut len) {
         0 => Ok(first(old, len)),
@@ -54,6 +53,11 @@ pub fn log_to_old(log: &[u8]) -> Result<Vec<u8>, Refusal> {
         6 => Err(not_old(log)),
         number => never(number),
     }
+}
+
+/// Room for all records of any log, so that only the library tells how many it takes. What is longer is refused, and need not be made for that.
+fn target(len: usize) -> Vec<u8> {
+    vec![0; len.min(2 * LONGEST_LOG)]
 }
 
 /// What was written of a target.

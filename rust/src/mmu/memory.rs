@@ -197,7 +197,7 @@ impl Memory {
 
     /// A journal has so many more bytes, of those that it was given.
     pub(crate) fn has_kept(&mut self, bytes: usize) {
-        self.kept += bytes.min(self.unkept().len());
+        self.kept += bytes;
     }
 
     /// A journal begins: of the record that another has in part, it gets all.
