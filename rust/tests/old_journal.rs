@@ -5,8 +5,8 @@ mod common;
 
 use common::record;
 use pouchrattle::{
-    recover_journal, recover_old_journal, Damaged, Expected, Journal, MbcType, Memory, RecordBytes, Refusal, Which, WrongLength, JOURNAL_MARK, LONGEST_LOG,
-    OLD_RECORD_LEN, RECORD_LEN,
+    log_to_new, recover_journal, recover_old_journal, Damaged, Expected, Journal, MbcType, Memory, RecordBytes, Refusal, Which, WrongLength, JOURNAL_MARK,
+    LONGEST_LOG, OLD_RECORD_LEN, RECORD_LEN,
 };
 
 const SAVE_LEN: usize = 8192;
@@ -138,6 +138,19 @@ fn a_damaged_record_of_any_part() {
     let mut journal = good;
     journal[21846 * 3..][..3].copy_from_slice(&[0x00, 0x01, 0xFF]);
     assert_eq!(recover_old_journal(&mut save, &journal).unwrap_err().to_string(), "record 21,846 is damaged: 00 01 FF");
+}
+
+/// Kept instead of played: the mark, and the records converted in parts, are a journal of this version.
+#[test]
+fn converted_to_a_journal() {
+    for writes in [1, 100, 16383, 16384, 40_000] {
+        let (old, after) = old_journal(writes);
+        let mut journal = JOURNAL_MARK.to_vec();
+        old.chunks(16383 * OLD_RECORD_LEN).for_each(|part| journal.extend(log_to_new(part).unwrap()));
+        let mut save = vec![0; SAVE_LEN];
+        assert_eq!(recover_journal(&mut save, &journal), Ok(writes));
+        assert!(save == after);
+    }
 }
 
 /// Every save, up to its last byte, and one behind it. A save of 131,072 bytes is taken too, though no older version had one.
