@@ -339,6 +339,18 @@ static void check_mark(const char *path)
             require(ftruncate(file, 0) == 0 && write_number(&bus, 2) == POUCH_DONE && pouch_bus_keep(&bus, file), "a journal that was emptied");
             memcpy(wanted + MARK, records + 2 * RECORD, RECORD);
             require(holds(file, wanted, MARK + RECORD), "begins with the mark again");
+            /* and in the middle of a record, of which the file took one, two or three bytes, or none */
+            for (size_t part = 0; part < RECORD; part++) {
+                const size_t len = (size_t)lseek(file, 0, SEEK_END);
+                require(write_number(&bus, 1) == POUCH_DONE, "a write");
+                allow((rlim_t)(len + part));
+                require(!pouch_bus_keep(&bus, file) && errno == EFBIG, "keep on a full file");
+                require(lseek(file, 0, SEEK_END) == (off_t)(len + part), "part of a record");
+                allow(RLIM_INFINITY);
+                require(ftruncate(file, 0) == 0 && write_number(&bus, 2) == POUCH_DONE && pouch_bus_keep(&bus, file), "a journal that was emptied");
+                memcpy(wanted + MARK, records + RECORD, 2 * RECORD);
+                require(holds(file, wanted, MARK + 2 * RECORD), "has whole records behind its mark");
+            }
             close(file);
             /* one that goes on with another file, where something is new, and after a fresh start */
             for (int again = 0; again < 2; again++) {
