@@ -162,7 +162,7 @@ static inline bool pouch_bus_begin(struct pouch_bus *bus, int journal)
     if (at < POUCH_JOURNAL_MARK_LEN)
         bus->kept -= bus->kept % POUCH_RECORD_LEN; /* of a record that was cut the part before went with what was emptied: behind the mark it stands whole */
     while (at < POUCH_JOURNAL_MARK_LEN) {
-        n = write(journal, POUCH_JOURNAL_MARK + at, POUCH_JOURNAL_MARK_LEN - at);
+        n = write(journal, &POUCH_JOURNAL_MARK[at], POUCH_JOURNAL_MARK_LEN - at);
         if (n <= 0)
             return false;
         at += POUCH_SIZE(n);
