@@ -1,9 +1,5 @@
-/* Which images are taken. The mapper's part of the image, for all four mappers: taken where the state's ranges hold, else refused by 3, in each way in which a
- * call tests an image. And what stands behind it: the log's use, and three bits of 0.
- *
- * The mapper's part has 26 bits, and all 67 million numbers would take minutes. So it is gone through twice: with every value of each field but the ROM bank,
- * and of that those beside a power of two, where a bank comes to lie within N or beyond it; then with every ROM bank, and of the RAM bank, mode and high bits
- * the values 0. Left out: the other ROM banks together with another RAM bank, mode or high bits than 0. */
+/* Which images are taken. The mapper's part of the image in every number that it can hold, 67 million for its 26 bits: taken where the state's ranges hold, else
+ * refused by 3, in each way in which a call tests an image. And what stands behind it: the log's use, and three bits of 0. */
 #include "lent.h"
 
 /* Mapper, log2 N, RAM code, ROM bank, RAM bank, mode, enabled, high bits: these widths, side by side. */
@@ -18,10 +14,19 @@ static struct tail tail_of(uint32_t n)
     return (struct tail){n >> 24, n >> 20 & 15, n >> 17 & 7, n >> 8 & 511, n >> 4 & 15, n >> 3 & 1, n >> 2 & 1, n & 3};
 }
 
-/* 0, 1, 2, 3, 4, 7, 8, 15, 16, .. 255, 256, 511: a power of two, or one less. */
-static bool is_beside_power(unsigned bank)
+/* The four bytes of the image that they stand in, among other bits: put_field would do, but it is done so often. */
+enum { TAIL_AT = MAPPER / 8, BEHIND = 32 - MAPPER % 8 - TAIL_WIDTH };
+
+static uint32_t four_bytes(void)
 {
-    return (bank & (bank - 1)) == 0 || (bank & (bank + 1)) == 0;
+    const uint8_t *at = image.at + TAIL_AT;
+    return (uint32_t)at[0] << 24 | (uint32_t)at[1] << 16 | (uint32_t)at[2] << 8 | at[3];
+}
+
+static void put_four_bytes(uint32_t to)
+{
+    for (unsigned i = 0; i < 4; i++)
+        image.at[TAIL_AT + i] = (uint8_t)(to >> (24 - 8 * i));
 }
 
 /* The state's ranges. */
@@ -59,50 +64,36 @@ static bool all_give(uint8_t number)
            pouch_write_word(WRITES, 0xC000, 0) == number;
 }
 
-static unsigned wrong, other_bank, changed, taken[4];
-
-static void check_tail(uint32_t n)
-{
-    const struct tail t = tail_of(n);
-    uint16_t shown = 0;
-    put_field(image.at, MAPPER, TAIL_WIDTH, n);
-    lend_for(t);
-    if (!holds(t)) {
-        uint8_t was[POUCH_IMAGE_LEN];
-        memcpy(was, image.at, sizeof was);
-        wrong += !all_give(POUCH_OUT_OF_RANGE);
-        changed += memcmp(was, image.at, sizeof was) != 0;
-        return;
-    }
-    taken[t.kind]++;
-    wrong += !all_give(POUCH_DONE) || pouch_read_word(READS, 0x4000, &shown) != POUCH_DONE;
-    other_bank += shown != t.rom_bank;
-}
-
 static void check_tails(void)
 {
+    uint8_t was[POUCH_IMAGE_LEN];
+    unsigned wrong = 0, other_bank = 0, changed = 0, taken[4] = {0};
     start(POUCH_MBC5, 512, 4, true, 300);
-    for (uint32_t n = 0; n < 1u << TAIL_WIDTH; n++)
-        if (is_beside_power(tail_of(n).rom_bank))
-            check_tail(n);
-    /* of ROM banks 2, 4, .. are within N = 2, 4, 8, ..; then by code */
-    IS(taken[POUCH_ROM_ONLY], 3);
-    IS(taken[POUCH_MBC1], (2 + 4 + 6 + 8 + 10 + 12 + 14) * 4 * (1 + 2 + 4 * 2 * 2));
-    IS(taken[POUCH_MBC2], (2 + 4 + 6 + 8) * 2);
-    IS(taken[POUCH_MBC5], (2 + 4 + 6 + 8 + 10 + 12 + 14 + 16 + 18) * (1 + 2 + 4 * 2 + 16 * 2));
-    memset(taken, 0, sizeof taken);
+    memcpy(was, image.at, sizeof was);
+    const uint32_t others = four_bytes() & ~(((1u << TAIL_WIDTH) - 1) << BEHIND);
     for (uint32_t n = 0; n < 1u << TAIL_WIDTH; n++) {
         const struct tail t = tail_of(n);
-        if (t.ram_bank == 0 && t.mode == 0 && t.high == 0)
-            check_tail(n);
+        uint16_t shown = 0;
+        put_four_bytes(others | n << BEHIND);
+        lend_for(t);
+        if (!holds(t)) {
+            wrong += !all_give(POUCH_OUT_OF_RANGE);
+            changed += four_bytes() != (others | n << BEHIND);
+            continue;
+        }
+        taken[t.kind]++;
+        wrong += !all_give(POUCH_DONE) || pouch_read_word(READS, 0x4000, &shown) != POUCH_DONE;
+        other_bank += shown != t.rom_bank;
     }
-    IS(taken[POUCH_ROM_ONLY], 3);
-    IS(taken[POUCH_MBC1], 254 * (1 + 2 + 2)); /* 2 + 4 + .. + 128 ROM banks */
-    IS(taken[POUCH_MBC2], 30 * 2);
-    IS(taken[POUCH_MBC5], 1022 * (1 + 2 + 2 + 2));
+    memcpy(was + TAIL_AT, image.at + TAIL_AT, 4);
+    changed += memcmp(was, image.at, sizeof was) != 0; /* what one call changes beside them no other puts back */
     IS(wrong, 0);
     IS(other_bank, 0);
     IS(changed, 0);
+    IS(taken[POUCH_ROM_ONLY], 3);                         /* RAM codes */
+    IS(taken[POUCH_MBC1], 254 * 4 * (1 + 2 + 4 * 2 * 2)); /* 2 + 4 + .. + 128 ROM banks, four of the high bits; by code */
+    IS(taken[POUCH_MBC2], 30 * 2);
+    IS(taken[POUCH_MBC5], 1022 * (1 + 2 + 4 * 2 + 16 * 2));
 }
 
 static void check_end(void)
