@@ -63,11 +63,11 @@ fn is_marked(journal: &[u8]) -> bool {
 pub fn recover_journal(save: &mut [u8], journal: &[u8]) -> Result<usize, Refusal> {
     let mut copy = save.to_vec();
     recover(&mut copy, &[])?;
-    let written = written(journal, RECORD_LEN);
-    if !is_marked(written) {
+    // Before zeros are cut off by the length of a record: of an old journal's first one that could leave nothing.
+    if !is_marked(journal) {
         return Err(Refusal::Unmarked);
     }
-    let records = written.get(JOURNAL_MARK.len()..).unwrap_or(&[]);
+    let records = written(journal, RECORD_LEN).get(JOURNAL_MARK.len()..).unwrap_or(&[]);
     for (part, log) in records.chunks(RECORDS * RECORD_LEN).enumerate() {
         recover(&mut copy, log).map_err(|refusal| refusal.behind(part * RECORDS))?;
     }

@@ -436,23 +436,27 @@ fn c_rule(journal: &[u8]) -> usize {
     }
 }
 
-/// c/pouch_bus.h has these words.
-fn in_header(words: &str) {
+/// c/pouch_bus.h, with single blanks.
+fn header() -> String {
     let header = fs::read_to_string(concat!(env!("CARGO_MANIFEST_DIR"), "/../c/pouch_bus.h")).unwrap();
-    let header = header.split_whitespace().collect::<Vec<_>>().join(" ");
-    assert!(header.contains(words), "c/pouch_bus.h has another rule now: {words}");
+    header.split_whitespace().collect::<Vec<_>>().join(" ")
+}
+
+/// It has these words.
+fn in_header(words: &str) {
+    assert!(header().contains(words), "c/pouch_bus.h has another rule now: {words}");
 }
 
 /// pouch_journal_marked of c/pouch_bus.h, word by word, and what pouch_bus_recover does with it: how many records, or `None` for 6.
 fn c_marked(journal: &[u8]) -> Option<usize> {
-    let len = c_rule(journal);
-    let (mut at, end) = (0, if len < 4 { len } else { 4 });
+    let (mut at, end) = (0, if journal.len() < 4 { journal.len() } else { 4 });
     while at < end && journal[at] == b"PL4\n"[at] {
         at += 1;
     }
     while at < end && journal[at] == 0 {
         at += 1;
     }
+    let len = c_rule(journal);
     (at == end).then_some(if len > 4 { (len - 4) / 4 } else { 0 })
 }
 
@@ -463,10 +467,11 @@ fn the_mark_is_cs() {
         "size_t at = 0, end = len < POUCH_JOURNAL_MARK_LEN ? len : POUCH_JOURNAL_MARK_LEN; \
         while (at < end && journal[at] == POUCH_JOURNAL_MARK[at]) at++; while (at < end && journal[at] == 0) at++; return at == end;",
     );
-    in_header(
-        "journal_len = pouch_journal_len(journal, journal_len); if (number == POUCH_DONE && !pouch_journal_marked(journal, journal_len)) \
-        number = POUCH_DAMAGED; for (size_t at = POUCH_JOURNAL_MARK_LEN, part; number == POUCH_DONE && at < journal_len; at += part) {",
-    );
+    // It looks for the mark before it cuts zeros off.
+    let header = header();
+    let recover = header.split_once("pouch_bus_recover(uint8_t").unwrap().1;
+    let place = |words: &str| recover.find(words).expect(words);
+    assert!(place("pouch_journal_marked(journal, journal_len)") < place("= pouch_journal_len(journal, journal_len);"));
     // Every journal of up to 6 bytes of these, and a record behind each.
     let bytes = [0x00, 0x50, 0x4C, 0x34, 0x0A, 0x80];
     for len in 0..=6 {

@@ -90,6 +90,22 @@ fn every_first_record() {
     }
 }
 
+/// An old journal that a failing machine left with zeros at its end is still an old one, however short: cut off by four bytes, they would leave nothing of
+/// its first record.
+#[test]
+fn zeros_behind_a_few_old_records() {
+    for (records, zeros) in (1..=6).flat_map(|records| (0..=20).map(move |zeros| (records, zeros))) {
+        let list: Vec<(usize, u8)> = (0..records).map(|i| (i, 0x11 * (i + 1) as u8)).collect();
+        let mut journal: Vec<u8> = list.iter().flat_map(|&(at, value)| old_record(at, value)).collect();
+        journal.resize(journal.len() + zeros, 0);
+        let mut save = [0; 512];
+        assert_eq!(recover_journal(&mut save, &journal), Err(Refusal::Unmarked), "{records} {zeros}");
+        assert!(save == [0; 512]);
+        assert_eq!(recover_old_journal(&mut save, &journal), Ok(records));
+        assert!(list.iter().all(|&(at, value)| save[at] == value));
+    }
+}
+
 /// As torn_at_every_byte of journal.rs, by records of three bytes.
 #[test]
 fn torn_at_every_byte() {
