@@ -238,9 +238,9 @@ static inline uint8_t pouch_bus_recover(uint8_t *save, size_t save_len, const ui
 {
     const size_t most = POUCH_LOG_LEN_MAX / POUCH_RECORD_LEN * POUCH_RECORD_LEN;
     uint8_t number = pouch_recover(save, save_len, journal, 0); /* the save's length, before all else */
-    journal_len = pouch_journal_len(journal, journal_len);
-    if (number == POUCH_DONE && !pouch_journal_marked(journal, journal_len))
+    if (number == POUCH_DONE && !pouch_journal_marked(journal, journal_len)) /* before zeros go: one old record and zeros would be nothing */
         number = POUCH_DAMAGED;
+    journal_len = pouch_journal_len(journal, journal_len);
     for (size_t at = POUCH_JOURNAL_MARK_LEN, part; number == POUCH_DONE && at < journal_len; at += part) {
         part = journal_len - at < most ? journal_len - at : most;
         number = pouch_recover(save, save_len, journal + at, part);
