@@ -22,7 +22,7 @@ use Rattle.memory.specs.World.{World, world, Fixed, withMapper}
 use Rattle.memory.specs.declared.Memory.{Memory}
 use Rattle.numbers.specs.Numbers.{done, wrongLength}
 pub use Rattle.put_bytes.specs.Left.{Left, left, leftIn}
-use Rattle.savelog.specs.Log.{addressEnd, recordNumber}
+use Rattle.savelog.specs.Log.{Four, addressEnd, recordNumber}
 
 -- An entry that changes the state alone: the number, and the image as it is then
 
@@ -107,7 +107,7 @@ mapperReadEntry i rom save k =
 
 -- a mapper's answer as the record that the bus would log; 0 for "not stored"
 abbrev pub answerNumber : Answer → ℕ
-answerNumber (Stored at v) = recordNumber (at % addressEnd) v
+answerNumber (Stored at v) = recordNumber Four (at % addressEnd) v
 answerNumber NotStored = 0
 
 pub record Mapped : Type 0 where

@@ -117,7 +117,7 @@ useEntry i u =
 -- bits 31..8; a record's in bits 7..0
 
 abbrev pub version : ℕ
-version = 2 * 65536 + 0 * 256 + 0
+version = 3 * 65536 + 0 * 256 + 0
 
 abbrev pub versionNumber : ℕ
 versionNumber = version * 0x100000000 + imageLen * 256 + width

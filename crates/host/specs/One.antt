@@ -4,6 +4,7 @@ use mathlib.Core.List.{List}
 use mathlib.Core.Path.{_≡_}
 use Prim.Native.Nat.{ℕ}
 use lib.IntN.{ℤ}
+use Rattle.savelog.specs.Convert.{Conversion, converted}
 use Rattle.image.specs.Load.{Stored, stored}
 use Rattle.entry.specs.Entry.{Changed, changed, Given, given, Left, left, Fresh, fresh, Mapped, mapped}
 use Rattle.entry.specs.Host.{Shown, shown}
@@ -36,9 +37,14 @@ OneShown =
 abbrev pub OneStored : Type 0
 OneStored = (o : Stored) (m n : ℕ) (i j : List ℕ) → stored m i ≡ o → stored n j ≡ o → (m ≡ n) × (i ≡ j)
 
+-- the converters of logs
+abbrev pub OneConverted : Type 0
+OneConverted =
+    (o : Conversion) (m n v w : ℕ) (t u : List ℕ) → converted m v t ≡ o → converted n w u ≡ o → (m ≡ n) × (v ≡ w) × (t ≡ u)
+
 -- the version
 abbrev pub OneNumber : Type 0
 OneNumber = (o m n : ℕ) → m ≡ o → n ≡ o → m ≡ n
 
 abbrev pub OneEntry : Type 0
-OneEntry = OneChanged × OneGiven × OneLeft × OneFresh × OneMapped × OneShown × OneStored × OneNumber
+OneEntry = OneChanged × OneGiven × OneLeft × OneFresh × OneMapped × OneShown × OneStored × OneConverted × OneNumber

@@ -2,6 +2,7 @@
 // quick_writes, quick_state and quick_screen do it on the image itself. None has a `requires`. A slice is a pointer and its length, in the order of the parameters.
 ghost use Rattle.host.specs.One.{OneEntry};
 
+pub mod convert;
 pub mod lent;
 pub mod mapper;
 pub mod screen;

@@ -2,7 +2,7 @@
 ghost use mathlib.Core.Path.{_≡_};
 ghost use Rattle.entry.specs.Host.{versionNumber};
 
-const MAJOR: u64 = 2;
+const MAJOR: u64 = 3;
 
 const MINOR: u64 = 0;
 

@@ -1,5 +1,5 @@
 -- The laws that the functions' proofs cite: bytes and the number that they make, and the records of what is left of a log, one step further and at its end.
--- They lean on `width` being a numeral, and on nothing else of the layout but `number-below` and `fields-number`.
+-- Of the layout they know that a form's width is a numeral (`wholes-more`, `wholes-none`), `number-below` and `fields-number`: a case for each form, and no more.
 use mathlib.Core.Bool.{Bool, true, false, _&&_}
 use mathlib.Core.Logic.{_⊎_, inl, inr}
 use mathlib.Core.Path.{_≡_, refl, ap, sym, _∙_}
@@ -12,7 +12,7 @@ use lib.ListN.{length, getD, take, drop, set, length-append, length-drop, length
 use lib.Seq.{drop-cons, drop-drop, take-set-le, drop-set-lt, getD-set-same}
 use borrow.Author.Tests.{lt-ltb, ltb-true, ne-eqb}
 use Rattle.rules.proofs.Tests.{both-true}
-use Rattle.savelog.specs.Log.{Rec, width, addressEnd, bytesOf, numberFrom, recordNumber, recordBytes, fieldsOf, recordOf, stored, firstRecords, records, soundRecord, allSound, applyAll, oneOf, saveLengths, saveLimit}
+use Rattle.savelog.specs.Log.{Form, Three, Four, Rec, addressEnd, spareEnd, widthOf, endOf, bytesOf, numberFrom, recordNumber, recordBytes, fieldsOf, recordOf, stored, firstRecords, recordsBy, soundRecord, allSound, applyAll, oneOf, saveLengths, saveLimit}
 
 -- k bytes make the numbers below `bytesEnd k`
 abbrev pub bytesEnd : ℕ → ℕ
@@ -89,114 +89,143 @@ number-bytes (suc k) n h =
     ∙ ap (λ (m : ℕ). m * 256 + n % 256) (number-bytes k (n / 256) (omega arith))
     ∙ omega arith
 
--- the layout: a record's number takes `width` bytes, and has the fields that it was made of
-number-below : (a v : ℕ) → v < 256 → a < addressEnd → recordNumber a v < bytesEnd width
+-- the layout: a record's number takes the form's bytes, and has the fields that it was made of
+number-below : (f : Form) (a v : ℕ) → v < 256 → a < endOf f → recordNumber f a v < bytesEnd (widthOf f)
 unfolding recordNumber
-number-below a v h k = omega arith
+number-below Three a v h k = omega arith
+number-below Four a v h k = omega arith
 
-fields-number : (a v : ℕ) → v < 256 → a < addressEnd → fieldsOf (recordNumber a v) ≡ stored a v
+fields-number : (f : Form) (a v : ℕ) → v < 256 → a < endOf f → fieldsOf f (recordNumber f a v) ≡ stored a v
 unfolding recordNumber fieldsOf
-fields-number a v h k =
-    let q : ((1 * addressEnd + a) * 256 + v) / 256 ≡ addressEnd + a = omega arith in
-    let z : ((1 * addressEnd + a) * 256 + v) % 256 ≡ v = omega arith in
+fields-number Three a v h k =
+    let b = (1 * endOf Three + a) * 256 + v in
+    let s : b * 1 / 1 ≡ b = omega arith in
+    let o : b * 1 % 1 ≡ 0 = omega arith in
+    let q : b / 256 ≡ endOf Three + a = omega arith in
+    let z : b % 256 ≡ v = omega arith in
+    let m : (endOf Three + a) / endOf Three ≡ 1 = omega arith in
+    let d : (endOf Three + a) % endOf Three ≡ a = omega arith in
+    rw (s, o, q, z, m, d)
+fields-number Four a v h k =
+    let b = (1 * addressEnd + a) * 256 + v in
+    let s : b * spareEnd / spareEnd ≡ b = omega arith in
+    let o : b * spareEnd % spareEnd ≡ 0 = omega arith in
+    let q : b / 256 ≡ addressEnd + a = omega arith in
+    let z : b % 256 ≡ v = omega arith in
     let m : (addressEnd + a) / addressEnd ≡ 1 = omega arith in
     let d : (addressEnd + a) % addressEnd ≡ a = omega arith in
-    rw (q, z, m, d)
+    rw (s, o, q, z, m, d)
 
-pub record-length : (a v : ℕ) → length (recordBytes a v) ≡ width
+pub record-length : (f : Form) (a v : ℕ) → length (recordBytes f a v) ≡ widthOf f
 unfolding recordBytes
-record-length a v = length-bytes width (recordNumber a v)
+record-length f a v = length-bytes (widthOf f) (recordNumber f a v)
 
 -- what is written is read back
-pub round : (a v : ℕ) → v < 256 → a < addressEnd → recordOf (recordBytes a v) ≡ stored a v
+pub round : (f : Form) (a v : ℕ) → v < 256 → a < endOf f → recordOf f (recordBytes f a v) ≡ stored a v
 unfolding recordBytes
-round a v h k = ap fieldsOf (number-bytes width (recordNumber a v) (number-below a v h k)) ∙ fields-number a v h k
+round f a v h k = ap (fieldsOf f) (number-bytes (widthOf f) (recordNumber f a v) (number-below f a v h k)) ∙ fields-number f a v h k
 
 -- and is sound where its address is in the save
 pub stored-sound : (ram a v : ℕ) → a < ram → soundRecord ram (stored a v) ≡ true
 stored-sound ram a v h = lt-ltb a ram h
 
+pub some-width : (f : Form) → 0 < widthOf f
+some-width Three = omega arith
+some-width Four = omega arith
+
+-- how many whole records there are: one more with one more, none in less than one
+pub wholes-more : (f : Form) (n : ℕ) → widthOf f ≤ n → n / widthOf f ≡ suc ((n - widthOf f) / widthOf f)
+wholes-more Three n h = omega arith
+wholes-more Four n h = omega arith
+
+pub wholes-none : (f : Form) (n : ℕ) → n < widthOf f → n / widthOf f ≡ 0
+wholes-none Three n h = omega arith
+wholes-none Four n h = omega arith
+
 -- a log of at least one record has its first record first
-pub records-cons : (l : List ℕ) → width ≤ length l → records l ≡ recordOf (take width l) ∷ records (drop width l)
-unfolding records firstRecords
-records-cons l h =
-    let e : length l / width ≡ suc (length (drop width l) / width) = rw length-drop (omega arith) in
+pub records-cons : (f : Form) (l : List ℕ) → widthOf f ≤ length l → recordsBy f l ≡ recordOf f (take (widthOf f) l) ∷ recordsBy f (drop (widthOf f) l)
+unfolding recordsBy firstRecords
+records-cons f l h =
+    let e : length l / widthOf f ≡ suc (length (drop (widthOf f) l) / widthOf f) = rw length-drop (wholes-more f (length l) h) in
     rw e
 
 -- a log of less than a record has none
-pub records-none : (l : List ℕ) → length l < width → records l ≡ []
-unfolding records firstRecords
-records-none l h =
-    let e : length l / width ≡ 0 = omega arith in
-    rw e
+pub records-none : (f : Form) (l : List ℕ) → length l < widthOf f → recordsBy f l ≡ []
+unfolding recordsBy firstRecords
+records-none f l h = rw (wholes-none f (length l) h)
 
-pub records-step : (l : List ℕ) (i : ℕ) → i + width ≤ length l → records (drop i l) ≡ recordOf (take width (drop i l)) ∷ records (drop (i + width) l)
-records-step l i h =
-    let k : width ≤ length (drop i l) = rw length-drop (omega arith) in
-    rw (records-cons (drop i l) k, drop-drop width i l)
+pub records-step : (f : Form) (l : List ℕ) (i : ℕ) → i + widthOf f ≤ length l
+    → recordsBy f (drop i l) ≡ recordOf f (take (widthOf f) (drop i l)) ∷ recordsBy f (drop (i + widthOf f) l)
+records-step f l i h =
+    let k : widthOf f ≤ length (drop i l) = rw length-drop (omega arith) in
+    rw (records-cons f (drop i l) k, drop-drop (widthOf f) i l)
 
-pub records-end : (l : List ℕ) (i : ℕ) → length l - i < width → records (drop i l) ≡ []
-records-end l i h = records-none (drop i l) (rw length-drop h)
+pub records-end : (f : Form) (l : List ℕ) (i : ℕ) → length l - i < widthOf f → recordsBy f (drop i l) ≡ []
+records-end f l i h = records-none f (drop i l) (rw length-drop h)
 
-pub allSound-end : (ram : ℕ) (l : List ℕ) (i : ℕ) → length l - i < width → allSound ram (records (drop i l)) ≡ true
+pub allSound-end : (f : Form) (ram : ℕ) (l : List ℕ) (i : ℕ) → length l - i < widthOf f → allSound ram (recordsBy f (drop i l)) ≡ true
 unfolding allSound
-allSound-end ram l i h = ap (allSound ram) (records-end l i h)
+allSound-end f ram l i h = ap (allSound ram) (records-end f l i h)
 
-pub applyAll-end : (s l : List ℕ) (i : ℕ) → length l - i < width → applyAll s (records (drop i l)) ≡ s
+pub applyAll-end : (f : Form) (s l : List ℕ) (i : ℕ) → length l - i < widthOf f → applyAll s (recordsBy f (drop i l)) ≡ s
 unfolding applyAll
-applyAll-end s l i h = ap (applyAll s) (records-end l i h)
+applyAll-end f s l i h = ap (applyAll s) (records-end f l i h)
 
 -- one turn over the record at i
-module _ (l : List ℕ) (i : ℕ) (h : i + width ≤ length l) {r : Rec} (e : r ≡ recordOf (take width (drop i l))) where
-  turn : records (drop i l) ≡ r ∷ records (drop (i + width) l)
-  turn = records-step l i h ∙ ap (λ (q : Rec). q ∷ records (drop (i + width) l)) (sym e)
+module _ (f : Form) (l : List ℕ) (i : ℕ) (h : i + widthOf f ≤ length l) {r : Rec} (e : r ≡ recordOf f (take (widthOf f) (drop i l))) where
+  pub turn : recordsBy f (drop i l) ≡ r ∷ recordsBy f (drop (i + widthOf f) l)
+  turn = records-step f l i h ∙ ap (λ (q : Rec). q ∷ recordsBy f (drop (i + widthOf f) l)) (sym e)
 
-  sound-turn : (ram : ℕ) → allSound ram (records (drop i l)) ≡ (soundRecord ram r && allSound ram (records (drop (i + width) l)))
+  sound-turn : (ram : ℕ) → allSound ram (recordsBy f (drop i l)) ≡ (soundRecord ram r && allSound ram (recordsBy f (drop (i + widthOf f) l)))
   unfolding allSound
   sound-turn ram = ap (allSound ram) turn
 
   -- the test stops at a damaged record, and goes on past a sound one
-  pub stops : (ram : ℕ) {t : Bool} → t ≡ soundRecord ram r → t ≡ false → false ≡ allSound ram (records (drop i l))
-  stops ram q f = rw (sound-turn ram, ← q, f)
+  pub stops : (ram : ℕ) {t : Bool} → t ≡ soundRecord ram r → t ≡ false → false ≡ allSound ram (recordsBy f (drop i l))
+  stops ram q n = rw (sound-turn ram, ← q, n)
 
-  pub goes : (ram : ℕ) {t : Bool} → t ≡ soundRecord ram r → t ≡ true → allSound ram (records (drop i l)) ≡ allSound ram (records (drop (i + width) l))
-  goes ram q f = rw (sound-turn ram, ← q, f)
+  pub goes : (ram : ℕ) {t : Bool} → t ≡ soundRecord ram r → t ≡ true → allSound ram (recordsBy f (drop i l)) ≡ allSound ram (recordsBy f (drop (i + widthOf f) l))
+  goes ram q n = rw (sound-turn ram, ← q, n)
 
   -- one record of a sound log: its address is in the save, and the rest is sound
-  pub sound-next : (ram : ℕ) → allSound ram (records (drop i l)) ≡ true → (r .address < ram) × (allSound ram (records (drop (i + width) l)) ≡ true)
+  pub sound-next : (ram : ℕ) → allSound ram (recordsBy f (drop i l)) ≡ true → (r .address < ram) × (allSound ram (recordsBy f (drop (i + widthOf f) l)) ≡ true)
   sound-next ram q =
       let t = both-true (soundRecord ram r) _ (sym (sound-turn ram) ∙ q) in
       let u = both-true (eqb (r .mark) 1) _ (t .0) in
-      (ltb-true _ ram (u .1), t .1)
+      let w = both-true (eqb (r .spare) 0) _ (u .1) in
+      (ltb-true _ ram (w .1), t .1)
 
-  pub applied : (s : List ℕ) → applyAll s (records (drop i l)) ≡ applyAll (set s (r .address) (r .value)) (records (drop (i + width) l))
+  pub applied : (s : List ℕ) → applyAll s (recordsBy f (drop i l)) ≡ applyAll (set s (r .address) (r .value)) (recordsBy f (drop (i + widthOf f) l))
   unfolding applyAll
   applied s = ap (applyAll s) turn
 
 -- a `match` on the lengths, as the list of them has it
-pub one-of : (n : ℕ) → (n ≡ 0) ⊎ ((n ≡ 512) ⊎ ((n ≡ 8192) ⊎ (n ≡ saveLimit))) → oneOf n saveLengths ≡ true
+pub one-of : (n : ℕ) → (n ≡ 0) ⊎ ((n ≡ 512) ⊎ ((n ≡ 8192) ⊎ ((n ≡ 32768) ⊎ (n ≡ saveLimit)))) → oneOf n saveLengths ≡ true
 unfolding oneOf saveLengths
 one-of n (inl e) = rw e
 one-of n (inr (inl e)) = rw e
 one-of n (inr (inr (inl e))) = rw e
-one-of n (inr (inr (inr e))) = rw e
+one-of n (inr (inr (inr (inl e)))) = rw e
+one-of n (inr (inr (inr (inr e)))) = rw e
 
-pub none-of : (n : ℕ) → ((n ≡ 0) ⊎ ((n ≡ 512) ⊎ ((n ≡ 8192) ⊎ (n ≡ saveLimit))) → ⊥) → oneOf n saveLengths ≡ false
+pub none-of : (n : ℕ) → ((n ≡ 0) ⊎ ((n ≡ 512) ⊎ ((n ≡ 8192) ⊎ ((n ≡ 32768) ⊎ (n ≡ saveLimit)))) → ⊥) → oneOf n saveLengths ≡ false
 unfolding oneOf saveLengths
 none-of n h =
     rw (
       ne-eqb n 0 (λ e. h (inl e)),
       ne-eqb n 512 (λ e. h (inr (inl e))),
       ne-eqb n 8192 (λ e. h (inr (inr (inl e)))),
-      ne-eqb n saveLimit (λ e. h (inr (inr (inr e)))),
+      ne-eqb n 32768 (λ e. h (inr (inr (inr (inl e))))),
+      ne-eqb n saveLimit (λ e. h (inr (inr (inr (inr e))))),
     )
 
 -- every address of a save that recovery takes fits a record
-too-long : (n : ℕ) → addressEnd < n → (n ≡ 0) ⊎ ((n ≡ 512) ⊎ ((n ≡ 8192) ⊎ (n ≡ saveLimit))) → ⊥
+too-long : (n : ℕ) → addressEnd < n → (n ≡ 0) ⊎ ((n ≡ 512) ⊎ ((n ≡ 8192) ⊎ ((n ≡ 32768) ⊎ (n ≡ saveLimit)))) → ⊥
 too-long n h (inl e) = omega arith
 too-long n h (inr (inl e)) = omega arith
 too-long n h (inr (inr (inl e))) = omega arith
-too-long n h (inr (inr (inr e))) = omega arith
+too-long n h (inr (inr (inr (inl e)))) = omega arith
+too-long n h (inr (inr (inr (inr e)))) = omega arith
 
 pub save-within : (n : ℕ) → oneOf n saveLengths ≡ true → n ≤ addressEnd
 save-within n e = by-test (decLt addressEnd n)

@@ -13,28 +13,28 @@ use lib.Seq.{take-nil, take-take, take-append-le, drop-append-le, take-at, lengt
 use borrow.Author.Tests.{leb-true, le-leb}
 use Rattle.numbers.specs.Numbers.{done, wrongLength, damaged}
 use Rattle.rules.proofs.Tests.{both-true}
-use Rattle.savelog.specs.Log.{Rec, width, addressEnd, bytesOf, recordNumber, recordBytes, stored, firstRecords, records, soundRecord, allSound, applyAll, saveLengths, logLimit, oneOf, lengthsFit, outcome, recovery, appended, recoverAll, joined, cutCopies}
+use Rattle.savelog.specs.Log.{Form, Three, Four, Rec, width, addressEnd, widthOf, bytesOf, recordNumber, recordBytes, stored, firstRecords, recordsBy, records, soundRecord, allSound, applyAll, saveLengths, logLimit, oneOf, lengthsFit, outcome, recovery, appended, recoverAll, joined, cutCopies}
 use Rattle.savelog.specs.Laws.{Corner, AppendLaw, PrefixLaw, Copy, Copies, none, more, CopiesLaw}
-use Rattle.savelog.proofs.Laws.{records-cons, records-none}
+use Rattle.savelog.proofs.Laws.{some-width, wholes-more, wholes-none, records-cons, records-none}
 use Rattle.savelog.proofs.Use.{used-more, record-first}
 
 -- a log is less than a record, or a record and a log
-data Whole : List ℕ → Type 0 where
-  short : {l : List ℕ} → length l < width → Whole l
-  long : {l : List ℕ} → width ≤ length l → Whole (drop width l) → Whole l
+data Whole (f : Form) : List ℕ → Type 0 where
+  short : {l : List ℕ} → length l < widthOf f → Whole f l
+  long : {l : List ℕ} → widthOf f ≤ length l → Whole f (drop (widthOf f) l) → Whole f l
 
-step-whole : (l : List ℕ) → Dec (length l < width) → (width ≤ length l → Whole (drop width l)) → Whole l
-step-whole l (yes s) f = short s
-step-whole l (no g) f = let h : width ≤ length l = omega (arith, g) in long h (f h)
+step-whole : (f : Form) (l : List ℕ) → Dec (length l < widthOf f) → (widthOf f ≤ length l → Whole f (drop (widthOf f) l)) → Whole f l
+step-whole f l (yes s) g = short s
+step-whole f l (no n) g = let h : widthOf f ≤ length l = omega (arith, n) in long h (g h)
 
-whole-within : (k : ℕ) (l : List ℕ) → length l ≤ k → Whole l
-whole-within zero l h = short {l = l} (omega arith)
-whole-within (suc k) l h =
-    step-whole l (decLt (length l) width)
-    (λ m. let g : length (drop width l) ≤ k = rw length-drop (omega arith) in whole-within k (drop width l) g)
+whole-within : (f : Form) (k : ℕ) (l : List ℕ) → length l ≤ k → Whole f l
+whole-within f zero l h = short {l = l} (omega (arith, some-width f))
+whole-within f (suc k) l h =
+    step-whole f l (decLt (length l) (widthOf f))
+    (λ m. let g : length (drop (widthOf f) l) ≤ k = rw length-drop (omega (arith, some-width f)) in whole-within f k (drop (widthOf f) l) g)
 
-whole : (l : List ℕ) → Whole l
-whole l = whole-within (length l) l (omega arith)
+whole : (f : Form) (l : List ℕ) → Whole f l
+whole f l = whole-within f (length l) l (omega arith)
 
 module _ {A : Type 0} where
   -- a cut of a joined list cuts the first, and the second by what is left
@@ -55,56 +55,63 @@ empty : (l : List ℕ) → length l ≡ 0 → l ≡ []
 empty [] e = refl
 empty (x ∷ l) e = absurd (omega arith)
 
+-- whole records, and with one taken off
+whole-less : (f : Form) (n : ℕ) → widthOf f ≤ n → n % widthOf f ≡ 0 → (n - widthOf f) % widthOf f ≡ 0
+whole-less Three n h e = omega arith
+whole-less Four n h e = omega arith
+
+whole-empty : (f : Form) (n : ℕ) → n < widthOf f → n % widthOf f ≡ 0 → n ≡ 0
+whole-empty Three n h e = omega arith
+whole-empty Four n h e = omega arith
+
 -- the records of joined logs, of which the first is whole records
-append-whole : (a b : List ℕ) → Whole a → length a % width ≡ 0 → records (a ++ b) ≡ records a ++ records b
-append-whole a b (short h) e = rw (empty a (omega arith), records-none [] (omega arith))
-append-whole a b (long h w) e =
-    let g : length (drop width a) % width ≡ 0 = rw length-drop (omega arith) in
-    let k : width ≤ length (a ++ b) = rw length-append (omega arith) in
+append-whole : (f : Form) (a b : List ℕ) → Whole f a → length a % widthOf f ≡ 0 → recordsBy f (a ++ b) ≡ recordsBy f a ++ recordsBy f b
+append-whole f a b (short h) e = rw (empty a (whole-empty f (length a) h e), records-none f [] (some-width f))
+append-whole f a b (long h w) e =
+    let g : length (drop (widthOf f) a) % widthOf f ≡ 0 = rw length-drop (whole-less f (length a) h e) in
+    let k : widthOf f ≤ length (a ++ b) = rw length-append (omega arith) in
     rw (
-      records-cons (a ++ b) k,
-      take-append-le width a b h,
-      drop-append-le width a b h,
-      append-whole (drop width a) b w g,
-      records-cons a h,
+      records-cons f (a ++ b) k,
+      take-append-le (widthOf f) a b h,
+      drop-append-le (widthOf f) a b h,
+      append-whole f (drop (widthOf f) a) b w g,
+      records-cons f a h,
     )
 
-pub records-append : (a b : List ℕ) → length a % width ≡ 0 → records (a ++ b) ≡ records a ++ records b
-records-append a b e = append-whole a b (whole a) e
+pub records-append : (f : Form) (a b : List ℕ) → length a % widthOf f ≡ 0 → recordsBy f (a ++ b) ≡ recordsBy f a ++ recordsBy f b
+records-append f a b e = append-whole f a b (whole f a) e
 
-length-first : (k : ℕ) (l : List ℕ) → length (firstRecords k l) ≡ k
+length-first : (f : Form) (k : ℕ) (l : List ℕ) → length (firstRecords f k l) ≡ k
 unfolding firstRecords
-length-first zero l = refl
-length-first (suc k) l = ap suc (length-first k (drop width l))
+length-first f zero l = refl
+length-first f (suc k) l = ap suc (length-first f k (drop (widthOf f) l))
 
-pub length-records : (l : List ℕ) → length (records l) ≡ length l / width
-unfolding records
-length-records l = length-first (length l / width) l
+pub length-records : (f : Form) (l : List ℕ) → length (recordsBy f l) ≡ length l / widthOf f
+unfolding recordsBy
+length-records f l = length-first f (length l / widthOf f) l
 
 -- the records of a cut log
-take-whole : (l : List ℕ) (n : ℕ) → Whole l → Dec (n < width) → records (take n l) ≡ take (n / width) (records l)
-take-whole l n (short h) d =
-    let g : length (take n l) < width = rw length-take (omega (arith, min-le-right n (length l))) in
-    rw (records-none (take n l) g, records-none l h, take-nil (n / width))
-take-whole l n (long h w) (yes d) =
-    let g : length (take n l) < width = rw length-take (omega (arith, min-le-left n (length l))) in
-    let e : n / width ≡ 0 = omega arith in
-    rw (records-none (take n l) g, e)
-take-whole l n (long h w) (no f) =
-    let d : width ≤ n = omega (arith, f) in
-    let g : width ≤ length (take n l) = rw length-take (omega arith) in
-    let e : n / width ≡ suc ((n - width) / width) = omega arith in
+take-whole : (f : Form) (l : List ℕ) (n : ℕ) → Whole f l → Dec (n < widthOf f) → recordsBy f (take n l) ≡ take (n / widthOf f) (recordsBy f l)
+take-whole f l n (short h) d =
+    let g : length (take n l) < widthOf f = rw length-take (omega (arith, min-le-right n (length l))) in
+    rw (records-none f (take n l) g, records-none f l h, take-nil (n / widthOf f))
+take-whole f l n (long h w) (yes d) =
+    let g : length (take n l) < widthOf f = rw length-take (omega (arith, min-le-left n (length l))) in
+    rw (records-none f (take n l) g, wholes-none f n d)
+take-whole f l n (long h w) (no m) =
+    let d : widthOf f ≤ n = omega (arith, m) in
+    let g : widthOf f ≤ length (take n l) = rw length-take (omega arith) in
     rw (
-      records-cons (take n l) g,
-      take-take width n l d,
-      drop-take width n l,
-      take-whole (drop width l) (n - width) w (decLt (n - width) width),
-      records-cons l h,
-      e,
+      records-cons f (take n l) g,
+      take-take (widthOf f) n l d,
+      drop-take (widthOf f) n l,
+      take-whole f (drop (widthOf f) l) (n - widthOf f) w (decLt (n - widthOf f) (widthOf f)),
+      records-cons f l h,
+      wholes-more f n d,
     )
 
-pub records-take : (l : List ℕ) (n : ℕ) → records (take n l) ≡ take (n / width) (records l)
-records-take l n = take-whole l n (whole l) (decLt n width)
+pub records-take : (f : Form) (l : List ℕ) (n : ℕ) → recordsBy f (take n l) ≡ take (n / widthOf f) (recordsBy f l)
+records-take f l n = take-whole f l n (whole f l) (decLt n (widthOf f))
 
 -- playing records keeps the save's length, and goes part by part
 pub length-applyAll : (s : List ℕ) (rs : List Rec) → length (applyAll s rs) ≡ length s
@@ -150,8 +157,8 @@ prefix s l n z =
     let t = done-by (lengthsFit (length s) (length l)) (allSound (length s) (records l)) _ s s z in
     let f = both-true (oneOf (length s) saveLengths) (leb (length l) logLimit) (t .0) in
     let k : length (take n l) ≤ logLimit = rw length-take (omega (arith, leb-true (length l) logLimit (f .1), min-le-right n (length l))) in
-    let g = ap (allSound (length s)) (records-take l n) ∙ allSound-take (length s) (records l) (n / width) (t .1) in
-    recovery-done s (take n l) (f .0) k g ∙ ap (λ rs. outcome done (applyAll s rs)) (records-take l n)
+    let g = ap (allSound (length s)) (records-take Four l n) ∙ allSound-take (length s) (records l) (n / width) (t .1) in
+    recovery-done s (take n l) (f .0) k g ∙ ap (λ rs. outcome done (applyAll s rs)) (records-take Four l n)
 
 -- a copy recovers, so what the prefix law says of a log it says of a copy
 cut-copy : (s c : List ℕ) (n : ℕ) → oneOf (length s) saveLengths ≡ true → Copy (length s) c
@@ -166,16 +173,16 @@ joined-cut n (c ∷ cs) = rw (take-append n c (joined cs), joined-cut (n - lengt
 recover-cut : {ram : ℕ} {cs : List (List ℕ)} → Copies ram cs → (s : List ℕ) (n : ℕ) → length s ≡ ram → oneOf ram saveLengths ≡ true
     → recoverAll s (cutCopies n cs) ≡ applyAll s (take (n / width) (records (joined cs)))
 unfolding recoverAll cutCopies joined applyAll
-recover-cut none s n m e = rw (records-none [] (omega arith), take-nil (n / width))
+recover-cut none s n m e = rw (records-none Four [] (omega arith), take-nil (n / width))
 recover-cut (more {c} {cs} h hs) s n m e =
     let k : n / width - length c / width ≡ (n - length c) / width = omega (arith, h .whole) in
     let s′ = applyAll s (take (n / width) (records c)) in
     ap (λ x. recoverAll x (cutCopies (n - length c) cs)) (cut-copy s c n (rw m e) (rw m h))
     ∙ recover-cut hs s′ (n - length c) (length-applyAll s (take (n / width) (records c)) ∙ m) e
     ∙ sym (rw (
-      records-append c (joined cs) (h .whole),
+      records-append Four c (joined cs) (h .whole),
       take-append (n / width) (records c) (records (joined cs)),
-      length-records c,
+      length-records Four c,
       k,
       applyAll-append s (take (n / width) (records c)) (take ((n - length c) / width) (records (joined cs))),
     ))
@@ -184,18 +191,18 @@ pub copies : CopiesLaw
 copies s cs n e h = (joined-cut n cs, recover-cut h s n refl e)
 
 -- the bytes of one record are one record
-one-record : (a v : ℕ) → v < 256 → a < addressEnd → records (recordBytes a v) ≡ stored a v ∷ []
+one-record : (a v : ℕ) → v < 256 → a < addressEnd → records (recordBytes Four a v) ≡ stored a v ∷ []
 one-record a v h k =
-    ap records (sym (append-nil (recordBytes a v)))
-    ∙ record-first a v [] h k
-    ∙ ap (λ (rs : List Rec). stored a v ∷ rs) (records-none [] (omega arith))
+    ap records (sym (append-nil (recordBytes Four a v)))
+    ∙ record-first Four a v [] h k
+    ∙ ap (λ (rs : List Rec). stored a v ∷ rs) (records-none Four [] (omega arith))
 
 pub append-adds : AppendLaw
 unfolding appended
 append-adds l u a v e h k m =
     let t : length (take u l) ≡ u = length-take-le u l (omega arith) in (
-      rw (append-assoc, take-at (take u l) (recordBytes a v ++ drop (u + width) l) u t),
-      rw (used-more l u a v h, records-append (take u l) (recordBytes a v) (rw t e), one-record a v m k),
+      rw (append-assoc, take-at (take u l) (recordBytes Four a v ++ drop (u + width) l) u t),
+      rw (used-more l u a v h, records-append Four (take u l) (recordBytes Four a v) (rw t e), one-record a v m k),
     )
 
 pub corner : Corner

@@ -9,7 +9,7 @@ use lib.ListN.{length, take, drop, length-append, length-take, length-drop}
 use lib.Seq.{take-at, drop-at, length-take-le}
 use borrow.Author.Tests.{eqb-true, leb-true, eq-eqb, le-leb, ltb-true, ltb-false}
 use Rattle.rules.proofs.Tests.{both-true}
-use Rattle.savelog.specs.Log.{width, addressEnd, recordBytes, stored, records, appended, useInRange, full}
+use Rattle.savelog.specs.Log.{Form, Four, width, widthOf, endOf, recordBytes, stored, recordsBy, appended, useInRange, full}
 use Rattle.savelog.proofs.Laws.{record-length, records-cons, round}
 
 -- a use in range is whole records within the log, and the other way round
@@ -43,16 +43,21 @@ pub appended-length : (l : List ℕ) (used a v : ℕ) → used + width ≤ lengt
 unfolding appended
 appended-length l used a v h = rw (length-append, length-append, length-take, record-length, length-drop) (omega arith)
 
-pub used-more : (l : List ℕ) (used a v : ℕ) → used + width ≤ length l → take (used + width) (appended l used a v) ≡ take used l ++ recordBytes a v
+pub used-more : (l : List ℕ) (used a v : ℕ) → used + width ≤ length l → take (used + width) (appended l used a v) ≡ take used l ++ recordBytes Four a v
 unfolding appended
 used-more l used a v h =
     let t : length (take used l) ≡ used = length-take-le used l (omega arith) in
-    let j : length (take used l ++ recordBytes a v) ≡ used + width = rw (length-append, t, record-length a v) in
-    take-at (take used l ++ recordBytes a v) (drop (used + width) l) (used + width) j
+    let j : length (take used l ++ recordBytes Four a v) ≡ used + width = rw (length-append, t, record-length Four a v) in
+    take-at (take used l ++ recordBytes Four a v) (drop (used + width) l) (used + width) j
 
 -- a record in front of a log is read first
-pub record-first : (a v : ℕ) (l : List ℕ) → v < 256 → a < addressEnd → records (recordBytes a v ++ l) ≡ stored a v ∷ records l
-record-first a v l h k =
-    let b = record-length a v in
-    let n : width ≤ length (recordBytes a v ++ l) = rw length-append (omega arith) in
-    rw (records-cons (recordBytes a v ++ l) n, take-at (recordBytes a v) l width b, drop-at (recordBytes a v) l width b, round a v h k)
+pub record-first : (f : Form) (a v : ℕ) (l : List ℕ) → v < 256 → a < endOf f → recordsBy f (recordBytes f a v ++ l) ≡ stored a v ∷ recordsBy f l
+record-first f a v l h k =
+    let b = record-length f a v in
+    let n : widthOf f ≤ length (recordBytes f a v ++ l) = rw (length-append, b) (omega arith) in
+    rw (
+      records-cons f (recordBytes f a v ++ l) n,
+      take-at (recordBytes f a v) l (widthOf f) b,
+      drop-at (recordBytes f a v) l (widthOf f) b,
+      round f a v h k,
+    )

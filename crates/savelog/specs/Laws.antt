@@ -5,11 +5,11 @@ use mathlib.Core.List.{List, [], _∷_, _++_}
 use Prim.Native.Nat.{ℕ, _+_, _/_, _%_, _≤_, _<_}
 use lib.ListN.{length, take}
 use Rattle.numbers.specs.Numbers.{done}
-use Rattle.savelog.specs.Log.{width, addressEnd, recordBytes, stored, records, allSound, applyAll, saveLengths, logLimit, oneOf, outcome, recovery, appended, recoverAll, joined, cutCopies}
+use Rattle.savelog.specs.Log.{Four, width, addressEnd, recordBytes, stored, records, allSound, applyAll, saveLengths, logLimit, oneOf, outcome, recovery, appended, recoverAll, joined, cutCopies}
 
--- Document 01, corner 12: address 1234, value 56 gives the bytes 92 34 56.
+-- Document 01, corner 12, as document 02 has it: address 1234, value 56 gives the bytes 84 8D 15 80.
 abbrev pub Corner : Type 0
-Corner = recordBytes 0x1234 0x56 ≡ 0x92 ∷ 0x34 ∷ 0x56 ∷ []
+Corner = recordBytes Four 0x1234 0x56 ≡ 0x84 ∷ 0x8D ∷ 0x15 ∷ 0x80 ∷ []
 
 -- An append keeps the used bytes and adds exactly its own record to theirs.
 abbrev pub AppendLaw : Type 0

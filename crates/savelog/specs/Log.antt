@@ -1,5 +1,5 @@
--- The save log: what its bytes mean, and what recovery does with them (document 01, "Save log and state image").
--- The layout of a record stands in `width`, `addressEnd`, `recordNumber` and `fieldsOf` alone, the lengths in `saveLengths` and `logLimit` alone; every other
+-- The save log: what its bytes mean, and what recovery does with them (document 01, "Save log and state image"; the record as document 02, wish 3, has it).
+-- The layout of a record stands in `widthOf`, `endOf`, `spareOf`, `recordNumber` and `fieldsOf` alone, the lengths in `saveLengths` and `logLimit` alone; every other
 -- crate names them.
 use mathlib.Core.Bool.{Bool, true, false, cond, _&&_, _||_}
 use mathlib.Core.List.{List, [], _∷_, _++_}
@@ -7,8 +7,10 @@ use Prim.Native.Nat.{ℕ, zero, suc, _+_, _-_, _*_, _/_, _%_}
 use lib.Dec.{leb, ltb, eqb}
 use lib.ListN.{length, take, drop, set}
 use Rattle.numbers.specs.Numbers.{done, wrongLength, damaged}
--- "One record per stored save byte": its mark, its address, its value
+-- "One record per stored save byte": its mark, its address, its value, and the bits behind it
 pub use Rattle.savelog.specs.declared.Rec.{Rec}
+pub use Rattle.savelog.specs.declared.Form.{Form}
+pub use Rattle.savelog.specs.declared.Form.the-variants.{Three, Four}
 
 -- Bytes stand most significant first: k bytes of a number, and the number that bytes make.
 unfoldable pub bytesOf : ℕ → ℕ → List ℕ
@@ -19,42 +21,69 @@ unfoldable pub numberFrom : ℕ → List ℕ → ℕ
 numberFrom n [] = n
 numberFrom n (b ∷ bs) = numberFrom (n * 256 + b) bs
 
--- a record's length in bytes, and where its addresses end: 15 bits
+-- Two forms of a record. `Four` is the present one (document 02, wish 3: "four bytes: bit 1, address 17 bits, value 8 bits, six 0 bits"), `Three` the one
+-- before it (document 01: "bit 1, address 15 bits, value 8 bits"), which players' old logs have.
+-- Of each: its length in bytes, where its addresses end, and what the 0 bits behind its value count up to; of the present one also by names of their own.
 abbrev pub width : ℕ
-width = 3
+width = 4
 
 abbrev pub addressEnd : ℕ
-addressEnd = 32768
+addressEnd = 131072
 
--- "most significant bit first: bit 1, address 15 bits, value 8 bits"
-unfoldable pub recordNumber : ℕ → ℕ → ℕ
-recordNumber address value = (1 * addressEnd + address) * 256 + value
+abbrev pub spareEnd : ℕ
+spareEnd = 64
 
-unfoldable pub recordBytes : ℕ → ℕ → List ℕ
-recordBytes address value = bytesOf width (recordNumber address value)
+abbrev pub widthOf : Form → ℕ
+widthOf Three = 3
+widthOf Four = width
+
+abbrev pub endOf : Form → ℕ
+endOf Three = 32768
+endOf Four = addressEnd
+
+abbrev pub spareOf : Form → ℕ
+spareOf Three = 1
+spareOf Four = spareEnd
+
+-- "most significant bit first": the bit, the address, the value, the 0 bits
+unfoldable pub recordNumber : Form → ℕ → ℕ → ℕ
+recordNumber f address value = ((1 * endOf f + address) * 256 + value) * spareOf f
+
+unfoldable pub recordBytes : Form → ℕ → ℕ → List ℕ
+recordBytes f address value = bytesOf (widthOf f) (recordNumber f address value)
 
 -- the fields of that number, read back
-unfoldable pub fieldsOf : ℕ → Rec
-fieldsOf n = record { mark = n / 256 / addressEnd; address = n / 256 % addressEnd; value = n % 256 }
+unfoldable pub fieldsOf : Form → ℕ → Rec
+fieldsOf f n =
+    record {
+      mark = n / spareOf f / 256 / endOf f;
+      address = n / spareOf f / 256 % endOf f;
+      value = n / spareOf f % 256;
+      spare = n % spareOf f;
+    }
 
-abbrev pub recordOf : List ℕ → Rec
-recordOf bytes = fieldsOf (numberFrom 0 bytes)
+abbrev pub recordOf : Form → List ℕ → Rec
+recordOf f bytes = fieldsOf f (numberFrom 0 bytes)
 
 -- the record of a store that is not damaged
 abbrev pub stored : ℕ → ℕ → Rec
-stored address value = record { mark = 1; address = address; value = value }
+stored address value = record { mark = 1; address = address; value = value; spare = 0 }
 
 -- The first k records, and "whole records in order": what is left at the end is ignored.
-unfoldable pub firstRecords : ℕ → List ℕ → List Rec
-firstRecords zero log = []
-firstRecords (suc k) log = recordOf (take width log) ∷ firstRecords k (drop width log)
+unfoldable pub firstRecords : Form → ℕ → List ℕ → List Rec
+firstRecords f zero log = []
+firstRecords f (suc k) log = recordOf f (take (widthOf f) log) ∷ firstRecords f k (drop (widthOf f) log)
 
-unfoldable pub records : List ℕ → List Rec
-records log = firstRecords (length log / width) log
+unfoldable pub recordsBy : Form → List ℕ → List Rec
+recordsBy f log = firstRecords f (length log / widthOf f) log
 
--- "A record is damaged if its first bit is 0 or its address is not below the RAM length": sound is the opposite.
+abbrev pub records : List ℕ → List Rec
+records log = recordsBy Four log
+
+-- "A record is damaged if its first bit is 0 or its address is not below the RAM length", and one "whose last six bits aren't all 0 is damaged too": sound
+-- is the opposite.
 abbrev pub soundRecord : ℕ → Rec → Bool
-soundRecord ram r = eqb (r .mark) 1 && ltb (r .address) ram
+soundRecord ram r = eqb (r .mark) 1 && (eqb (r .spare) 0 && ltb (r .address) ram)
 
 unfoldable pub allSound : ℕ → List Rec → Bool
 allSound ram [] = true
@@ -65,12 +94,12 @@ unfoldable pub applyAll : List ℕ → List Rec → List ℕ
 applyAll save [] = save
 applyAll save (r ∷ rs) = applyAll (set save (r .address) (r .value)) rs
 
--- "Recovery takes a save of 0, 512, 8,192 or 32,768 bytes and a log of 0 to 65,535 bytes"
+-- "Recovery takes a save of 0, 512, 8,192 or 32,768 bytes and a log of 0 to 65,535 bytes", and "also takes a save of 131,072 bytes"
 abbrev pub saveLimit : ℕ
-saveLimit = 32768
+saveLimit = 131072
 
 unfoldable pub saveLengths : List ℕ
-saveLengths = 0 ∷ 512 ∷ 8192 ∷ saveLimit ∷ []
+saveLengths = 0 ∷ 512 ∷ 8192 ∷ 32768 ∷ saveLimit ∷ []
 
 abbrev pub logLimit : ℕ
 logLimit = 65535
@@ -99,13 +128,13 @@ recovery save log =
 
 -- The log after an append at `used`: what was before and what was behind stays.
 unfoldable pub appended : List ℕ → ℕ → ℕ → ℕ → List ℕ
-appended log used address value = take used log ++ recordBytes address value ++ drop (used + width) log
+appended log used address value = take used log ++ recordBytes Four address value ++ drop (used + width) log
 
 -- "Clearing sets use to 0 and leaves the bytes"
 abbrev pub clearedUse : ℕ
 clearedUse = 0
 
--- "log use a multiple of 3 within the log" (document 01, state ranges)
+-- "log use is a multiple of 4", within the log (document 01, state ranges; document 02, wish 3)
 unfoldable pub useInRange : ℕ → ℕ → Bool
 useInRange used len = eqb (used % width) 0 && leb used len
 

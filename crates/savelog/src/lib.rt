@@ -5,46 +5,105 @@ ghost use mathlib.Core.List.{_++_};
 ghost use mathlib.Core.Path.{_≡_};
 ghost use Prim.Native.Nat.{_+_, _<_, _≤_};
 ghost use lib.ListN.{length, take, drop};
-ghost use Rattle.savelog.specs.Log.{width, addressEnd, logLimit, bytesOf, numberFrom, recordNumber, fieldsOf, recordOf, records, soundRecord, allSound, applyAll, lengthsFit, outcome, recovery, appended, clearedUse, useInRange, full};
+ghost use Rattle.savelog.specs.Log.{Three, Four, width, addressEnd, widthOf, endOf, logLimit, bytesOf, numberFrom, recordNumber, fieldsOf, recordOf, recordsBy, records, soundRecord, allSound, applyAll, lengthsFit, outcome, recovery, appended, clearedUse, useInRange, full};
 ghost use Rattle.savelog.specs.Laws.{Corner, AppendLaw, PrefixLaw, CopiesLaw};
 
-// The bytes of a record.
-pub const RECORD_LEN: usize = 3;
+mod convert;
 
-// Where a record's addresses end.
-pub const ADDRESS_END: usize = 32768;
+pub use convert::Converted;
+pub use convert::converters_hold;
+pub use convert::to_new;
+pub use convert::to_old;
+
+// The forms of a record: four bytes, and the three of versions before 3.0, which players' old logs have.
+pub enum Form {
+    Three,
+    Four,
+}
+
+// The bytes of a record, and of an old one.
+pub const RECORD_LEN: usize = 4;
+
+pub const OLD_RECORD_LEN: usize = 3;
+
+// Where a record's addresses end, and an old one's.
+pub const ADDRESS_END: usize = 131072;
+
+pub const OLD_ADDRESS_END: usize = 32768;
+
+// What the bits behind the value count up to: six, all 0.
+const SPARE_END: u32 = 64;
 
 // The most bytes of a log; where none is lent, its use is held to them.
 pub const LOG_LIMIT: usize = 65535;
 
 // The most bytes of a save.
-pub const SAVE_LIMIT: usize = 32768;
+pub const SAVE_LIMIT: usize = 131072;
 
 // What a record's bits say.
 pub struct Rec {
     pub mark: u32,
     pub address: usize,
     pub value: u8,
+    pub spare: u8,
+}
+
+impl Form {
+    // The bytes of a record.
+    pub fn len(self) -> usize
+        ensures { λ r. ⌜ r ≡ widthOf self ⌝ }
+    {
+        match self {
+            Form::Three => OLD_RECORD_LEN,
+            Form::Four => RECORD_LEN,
+        }
+    }
+
+    // Where its addresses end.
+    pub fn end(self) -> usize
+        ensures { λ r. ⌜ r ≡ endOf self ⌝ }
+    {
+        match self {
+            Form::Three => OLD_ADDRESS_END,
+            Form::Four => ADDRESS_END,
+        }
+    }
 }
 
 // The record of one stored byte as a number.
 pub fn record_number(at: usize, value: u8) -> u32
     requires { ⌜ at < addressEnd ⌝ }
-    ensures { λ r. ⌜ r ≡ recordNumber at value ⌝ }
+    ensures { λ r. ⌜ r ≡ recordNumber Four at value ⌝ }
 {
-    (ADDRESS_END + at) as u32 * 256 + value as u32
+    ((ADDRESS_END + at) as u32 * 256 + value as u32) * SPARE_END
 }
 
 // What a record's number says.
 fn fields_of(number: u32) -> Rec
-    ensures { λ r. ⌜ r ≡ fieldsOf number ⌝ }
+    ensures { λ r. ⌜ r ≡ fieldsOf Four number ⌝ }
 {
-    let head = number / 256;
+    let byte = number / SPARE_END;
+    let head = byte / 256;
     let end = ADDRESS_END as u32;
     Rec {
         mark: head / end,
         address: (head % end) as usize,
+        value: (byte % 256) as u8,
+        spare: (number % SPARE_END) as u8,
+    }
+}
+
+// The same of an old one.
+fn old_fields_of(number: u32) -> Rec
+    ensures { λ r. ⌜ r ≡ fieldsOf Three number ⌝ }
+{
+    let head = number / 256;
+    let end = OLD_ADDRESS_END as u32;
+    Rec {
+        mark: head / end,
+        address: (head % end) as usize,
         value: (number % 256) as u8,
+        spare: 0,
     }
 }
 
@@ -83,11 +142,14 @@ fn put_number(log: &mut [u8], i: usize, k: usize, number: u32)
 }
 
 // The record whose bytes begin at `i`.
-pub fn record_at(log: &[u8], i: usize) -> Rec
-    requires { ⌜ i + width ≤ length (now log) ⌝ }
-    ensures { λ r. ⌜ r ≡ recordOf (take width (drop i (now (log .entry)))) ⌝ }
+pub fn record_at(form: Form, log: &[u8], i: usize) -> Rec
+    requires { ⌜ i + widthOf form ≤ length (now log) ⌝ }
+    ensures { λ r. ⌜ r ≡ recordOf form (take (widthOf form) (drop i (now (log .entry)))) ⌝ }
 {
-    fields_of(number_at(log, i, RECORD_LEN))
+    match form {
+        Form::Three => old_fields_of(number_at(log, i, OLD_RECORD_LEN)),
+        Form::Four => fields_of(number_at(log, i, RECORD_LEN)),
+    }
 }
 
 // Writes the record of one stored byte at `used`, and gives the next use. The bus sees that there is room.
@@ -126,26 +188,30 @@ pub fn use_in_range(used: u16, len: usize) -> bool
 }
 
 // Whether a record is sound for a save of `ram` bytes.
-fn sound_record(rec: Rec, ram: usize) -> bool
+pub fn sound_record(rec: Rec, ram: usize) -> bool
     ensures { λ r. ⌜ r ≡ soundRecord ram rec ⌝ }
 {
-    if rec.mark == 1 {
-        return rec.address < ram;
+    if rec.mark != 1 {
+        return false;
     }
-    false
+    if rec.spare != 0 {
+        return false;
+    }
+    rec.address < ram
 }
 
 // Whether every whole record is sound for a save of `ram` bytes.
-fn sound(log: &[u8], ram: usize) -> bool
-    ensures { λ r. ⌜ r ≡ allSound ram (records (now (log .entry))) ⌝ }
+fn sound(form: Form, log: &[u8], ram: usize) -> bool
+    ensures { λ r. ⌜ r ≡ allSound ram (recordsBy form (now (log .entry))) ⌝ }
 {
+    let len = form.len();
     let mut i = 0;
-    while log.len() - i >= RECORD_LEN {
-        let rec = record_at(log, i);
+    while log.len() - i >= len {
+        let rec = record_at(form, log, i);
         if !sound_record(rec, ram) {
             return false;
         }
-        i += RECORD_LEN;
+        i += len;
     }
     true
 }
@@ -157,7 +223,7 @@ fn apply(save: &mut [u8], log: &[u8])
 {
     let mut i = 0;
     while log.len() - i >= RECORD_LEN {
-        let rec = record_at(log, i);
+        let rec = record_at(Form::Four, log, i);
         let at = rec.address;
         save[at] = rec.value;
         i += RECORD_LEN;
@@ -169,7 +235,7 @@ fn lengths_fit(save: usize, log: usize) -> bool
     ensures { λ r. ⌜ r ≡ lengthsFit save log ⌝ }
 {
     match save {
-        0 | 512 | 8192 | SAVE_LIMIT => log <= LOG_LIMIT,
+        0 | 512 | 8192 | 32768 | SAVE_LIMIT => log <= LOG_LIMIT,
         _ => false,
     }
 }
@@ -182,7 +248,7 @@ pub fn recover(save: &mut [u8], log: &[u8]) -> u8
     if !lengths_fit(ram, log.len()) {
         return numbers::WRONG_LENGTH;
     }
-    if !sound(log, ram) {
+    if !sound(Form::Four, log, ram) {
         return numbers::DAMAGED;
     }
     apply(save, log);

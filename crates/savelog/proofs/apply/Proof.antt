@@ -5,7 +5,7 @@ use Prim.Native.Nat.{_+_, _-_, _≤_}
 use native.Mathlib.Omega.{arith}
 use denote.Ref.{now}
 use lib.ListN.{length, drop, length-set}
-use Rattle.savelog.specs.Log.{width, records, allSound, applyAll}
+use Rattle.savelog.specs.Log.{Four, width, records, allSound, applyAll}
 use Rattle.savelog.proofs.Laws.{sound-next, applied, applyAll-end}
 use borrow.Author.Needs.{needs}
 use Rattle.savelog.proofs.apply.Statement.{statement}
@@ -35,7 +35,7 @@ slice-write-save c =
     let a = c .before .before .before .before .before .args in
     let v = c .before .before .loop in
     let h : v .i + width ≤ length (now (a .log)) = omega arith in
-    omega (arith, sound-next (now (a .log)) (v .i) h (c .record-at .ensures) (length (now (a .save))) (v .inv .2) .0, v .inv .1)
+    omega (arith, sound-next Four (now (a .log)) (v .i) h (c .record-at .ensures) (length (now (a .save))) (v .inv .2) .0, v .inv .1)
 
 add-i : tie.Need-add-i Inv-loop μ-loop
 add-i c = search needs
@@ -51,15 +51,15 @@ loop-again c =
     let e = c .record-at .ensures in (
       h,
       simp length-set (v .inv .1),
-      sound-next (now (a .log)) (v .i) h e (length (now (a .save))) (v .inv .2) .1,
-      v .inv .3 ∙ applied (now (a .log)) (v .i) h e (v .save),
+      sound-next Four (now (a .log)) (v .i) h e (length (now (a .save))) (v .inv .2) .1,
+      v .inv .3 ∙ applied Four (now (a .log)) (v .i) h e (v .save),
     )
 
 same-length : tie.Need-same-length Inv-loop μ-loop
 same-length c = search needs
 
 returns : tie.Need-returns Inv-loop μ-loop
-returns c = sym (c .before .loop .inv .3 ∙ applyAll-end (c .before .loop .save) (now (c .before .before .before .before .args .log)) (c .before .loop .i) (omega arith))
+returns c = sym (c .before .loop .inv .3 ∙ applyAll-end Four (c .before .loop .save) (now (c .before .before .before .before .args .log)) (c .before .loop .i) (omega arith))
 
 pub apply-spec : {M : Type 1} → statement M
 apply-spec =

@@ -16,9 +16,12 @@ mul-result c = search needs
 add-result-2 : tie.Need-add-result-2
 add-result-2 c = search needs
 
+mul-result-2 : tie.Need-mul-result-2
+mul-result-2 c = search needs
+
 returns : tie.Need-returns
 unfolding recordNumber
 returns c = search needs
 
 pub record-number-spec : {M : Type 1} → statement M
-record-number-spec = tie.close (tie.spec add-result cast-result mul-result add-result-2 returns)
+record-number-spec = tie.close (tie.spec add-result cast-result mul-result add-result-2 mul-result-2 returns)
