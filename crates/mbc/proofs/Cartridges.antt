@@ -1,14 +1,13 @@
 -- What a cartridge's description says, taken out of the tests; N and its logarithm, both ways.
 use mathlib.Core.Path.{_≡_, refl, sym, _∙_}
-use mathlib.Core.Bool.{Bool, true, false, cond, _&&_, _||_, or-false}
+use mathlib.Core.Bool.{Bool, true, false, cond, _&&_, _||_}
 use mathlib.Core.List.{[], _∷_}
-use mathlib.Core.Logic.{⊎-elim}
-use Prim.Native.Nat.{ℕ, zero, suc, _<_, _≤_, _*_, _^_}
+use Prim.Native.Nat.{ℕ, zero, suc, _≤_, _*_, _^_}
 use native.Mathlib.Omega.{arith}
-use lib.Dec.{eqb, leb, lit≤}
-use borrow.Author.Tests.{leb-true, le-leb, eqb-true}
-use Rattle.rules.proofs.Tests.{or-cases, by-cond, both-true}
-use Rattle.mbc.specs.Cartridge.{oneOf, powers, cartridgeOf, hasBanks, hasCode, ramBanks, log2, banksOf}
+use lib.Dec.{eqb, ltb, leb, lit≤}
+use borrow.Author.Tests.{ltb-true, leb-true, le-leb, lt-leb, eqb-true, ne-eqb}
+use Rattle.rules.proofs.Tests.{by-cond, both-true}
+use Rattle.mbc.specs.Cartridge.{oneOf, powers, codes, cartridgeOf, hasBanks, hasCode, ramBanks, log2, banksOf}
 use Rattle.mbc.specs.declared.cartridge.Cartridge.{Cartridge}
 use Rattle.mbc.proofs.Bools.{and-left, and-right, of-one, every-at}
 
@@ -31,56 +30,58 @@ power-least =
 pub banks-least : (most : ℕ) (c : Cartridge) → hasBanks most c ≡ true → 2 ≤ c .banks
 banks-least most c e = power-least (c .banks) (banks-power most c e)
 
-pub code-most : (c : Cartridge) → hasCode c ≡ true → c .code ≤ 3
+pub code-most : (most : ℕ) (c : Cartridge) → hasCode most c ≡ true → c .code ≤ most
 unfolding hasCode
-code-most c e =
-    ⊎-elim (λ h. omega (arith, eqb-true (c .code) 0 h))
-    (λ k.
-    ⊎-elim (λ h. omega (arith, eqb-true (c .code) 2 h)) (λ l. omega (arith, eqb-true (c .code) 3 (sym (or-false (eqb (c .code) 3)) ∙ l)))
-    (or-cases (eqb (c .code) 2) (eqb (c .code) 3 || false) k))
-    (or-cases (eqb (c .code) 0) (oneOf (2 ∷ 3 ∷ []) (c .code)) e)
+code-most most c e = leb-true (c .code) most (and-left (leb (c .code) most) (oneOf codes (c .code)) e)
+
+-- 1 is none
+pub but-1 : (code : ℕ) → (code ≡ 1 → ⊥) → leb code 4 ≡ oneOf codes code
+but-1 zero h = refl
+but-1 (suc zero) h = absurd (h refl)
+but-1 (suc (suc zero)) h = refl
+but-1 (suc (suc (suc zero))) h = refl
+but-1 (suc (suc (suc (suc zero)))) h = refl
+but-1 (suc (suc (suc (suc (suc n))))) h =
+    let k : ℕ = suc (suc (suc (suc (suc n)))) in
+    let other : (m : ℕ) → m ≤ 4 → eqb k m ≡ false = λ m l. ne-eqb k m (λ e. omega (arith, l, e)) in
+    rw (lt-leb k 4 (omega arith), other 0 (lit≤ tt), other 2 (lit≤ tt), other 3 (lit≤ tt), other 4 (lit≤ tt))
 
 pub four-banks : (code : ℕ) → code ≡ 3 → ramBanks code ≡ 4
 unfolding ramBanks
 four-banks code e = rw e
 
 -- a code other than 0 has RAM
-pub has-ram : (c : Cartridge) → hasCode c ≡ true → eqb (c .code) 0 ≡ false → oneOf (2 ∷ 3 ∷ []) (c .code) ≡ true
+pub has-ram : (most : ℕ) (c : Cartridge) → hasCode most c ≡ true → eqb (c .code) 0 ≡ false → oneOf (2 ∷ 3 ∷ 4 ∷ []) (c .code) ≡ true
 unfolding hasCode
-has-ram c e z = rw z at e
+has-ram most c e z = rw z at (and-right (leb (c .code) most) (oneOf codes (c .code)) e)
 
-pub some-ram : (code : ℕ) → oneOf (2 ∷ 3 ∷ []) code ≡ true → 1 ≤ ramBanks code
+-- where code 4 is none
+pub to-3 : (code : ℕ) → code ≤ 3 → oneOf (2 ∷ 3 ∷ 4 ∷ []) code ≡ oneOf (2 ∷ 3 ∷ []) code
+to-3 code h = rw (ne-eqb code 4 (λ e. omega (arith, h, e)))
+
+-- RAM banks are there by code 2, 3 or 4 alone
+there : (a b d : Bool) → (a || (b || (d || false))) ≡ ltb 0 (cond a 1 (cond b 4 (cond d 16 0)))
+there true b d = refl
+there false true d = refl
+there false false true = refl
+there false false false = refl
+
+pub ram-there : (code : ℕ) → oneOf (2 ∷ 3 ∷ 4 ∷ []) code ≡ ltb 0 (ramBanks code)
 unfolding ramBanks
-some-ram code e =
-    ⊎-elim (λ (h : eqb code 2 ≡ true). rw h (lit≤ tt))
-    (λ (h : (eqb code 3 || false) ≡ true). rw (eqb-true code 3 (sym (or-false (eqb code 3)) ∙ h)) (lit≤ tt))
-    (or-cases (eqb code 2) (eqb code 3 || false) e)
+ram-there code = there (eqb code 2) (eqb code 3) (eqb code 4)
 
--- and back: RAM banks are there by code 2 or 3 alone
-some-code : (a b : Bool) → 0 < cond a 1 (cond b 4 0) → (a || (b || false)) ≡ true
-some-code true b h = refl
-some-code false true h = refl
-some-code false false h = absurd (omega (arith, h))
+pub some-ram : (code : ℕ) → oneOf (2 ∷ 3 ∷ 4 ∷ []) code ≡ true → 1 ≤ ramBanks code
+some-ram code e = ltb-true 0 (ramBanks code) (sym (ram-there code) ∙ e)
 
-pub ram-code : (code : ℕ) → 0 < ramBanks code → oneOf (2 ∷ 3 ∷ []) code ≡ true
+-- what the RAM code can say, of the banks and of their bytes
+pub by-banks : (P : ℕ → Type 0) → P 0 → P 1 → P 4 → P 16 → (code : ℕ) → P (ramBanks code)
 unfolding ramBanks
-ram-code code h = some-code (eqb code 2) (eqb code 3) h
+by-banks P none one four sixteen code =
+    by-cond P (eqb code 2) 1 (cond (eqb code 3) 4 (cond (eqb code 4) 16 0)) (λ e. one)
+    (λ e. by-cond P (eqb code 3) 4 (cond (eqb code 4) 16 0) (λ f. four) (λ f. by-cond P (eqb code 4) 16 0 (λ g. sixteen) (λ g. none)))
 
-no-code : (a b : Bool) → _≡_ {A = ℕ} (cond a 1 (cond b 4 0)) 0 → (a || (b || false)) ≡ false
-no-code true b h = absurd (omega (arith, h))
-no-code false true h = absurd (omega (arith, h))
-no-code false false h = refl
-
-pub no-ram-code : (code : ℕ) → ramBanks code ≡ 0 → oneOf (2 ∷ 3 ∷ []) code ≡ false
-unfolding ramBanks
-no-ram-code code h = no-code (eqb code 2) (eqb code 3) h
-
--- what the RAM code can say
-pub by-ram-banks : (P : ℕ → Type 0) → P 0 → P 0x2000 → P 0x8000 → (code : ℕ) → P (ramBanks code * 0x2000)
-unfolding ramBanks
-by-ram-banks P none one four code =
-    by-cond (λ (b : ℕ). P (b * 0x2000)) (eqb code 2) 1 (cond (eqb code 3) 4 0) (λ e. one)
-    (λ e. by-cond (λ (b : ℕ). P (b * 0x2000)) (eqb code 3) 4 0 (λ f. four) (λ f. none))
+pub by-ram-banks : (P : ℕ → Type 0) → P 0 → P 0x2000 → P 0x8000 → P 0x20000 → (code : ℕ) → P (ramBanks code * 0x2000)
+by-ram-banks P none one four sixteen code = by-banks (λ (b : ℕ). P (b * 0x2000)) none one four sixteen code
 
 -- N and its logarithm
 

@@ -21,16 +21,16 @@ Whole (Save at) = Unit {0}
 Whole (Half at) = Unit {0}
 Whole (Fixed byte) = byte < 256
 
--- what a description in range says: N is a power of two, of at most 9 bits as a bank's number; the code has two bits
+-- what a description in range says: N is a power of two, of at most 9 bits as a bank's number; the code has three bits
 pub record Described (c : Cartridge) : Type 0 where
   pub power : oneOf powers (c .banks) ≡ true
   pub most : c .banks ≤ 512
-  pub code : c .code ≤ 3
+  pub code : c .code ≤ 4
 
 -- and the state ranges
 pub record Held (c : Cartridge) (m : Mapper) : Type 0 where
   pub rom : registersOf m .rom < c .banks
-  pub ram : registersOf m .ram ≤ 3
+  pub ram : registersOf m .ram ≤ 15
   pub high : registersOf m .high ≤ 3
 
 pub record Lawful (m : Mapper) : Type 0 where

@@ -50,16 +50,16 @@ stored-below len value (Half a) at byte v e =
     e
 
 -- the lengths that a save can have
-pub by-ram-len : (P : ℕ → Type 0) → P 0 → P 512 → P 0x2000 → P 0x8000 → (c : Cartridge) (m : Mapper) → P (ramLen c m)
+pub by-ram-len : (P : ℕ → Type 0) → P 0 → P 512 → P 0x2000 → P 0x8000 → P 0x20000 → (c : Cartridge) (m : Mapper) → P (ramLen c m)
 unfolding ramLen
-by-ram-len P none own one four c m =
-    ⊎-elim (λ (e : behaviour m .ownRam ≡ 0). rw e (by-ram-banks P none one four (c .code))) (λ (e : behaviour m .ownRam ≡ 512). rw e own) (lawful m .owns)
+by-ram-len P none own one four sixteen c m =
+    ⊎-elim (λ (e : behaviour m .ownRam ≡ 0). rw e (by-ram-banks P none one four sixteen (c .code))) (λ (e : behaviour m .ownRam ≡ 512). rw e own) (lawful m .owns)
 
-pub ram-len-most : (c : Cartridge) (m : Mapper) → ramLen c m ≤ 0x8000
-ram-len-most c m = by-ram-len (λ (n : ℕ). n ≤ 0x8000) (lit≤ tt) (lit≤ tt) (lit≤ tt) (lit≤ tt) c m
+pub ram-len-most : (c : Cartridge) (m : Mapper) → ramLen c m ≤ 0x20000
+ram-len-most c m = by-ram-len (λ (n : ℕ). n ≤ 0x20000) (lit≤ tt) (lit≤ tt) (lit≤ tt) (lit≤ tt) (lit≤ tt) c m
 
 pub stored-within : (c : Cartridge) (m : Mapper) (index value at byte : ℕ) → value < 256
-    → answer c m index value ≡ Stored at byte → (at < ramLen c m) × ((at < 0x8000) × (byte < 256))
+    → answer c m index value ≡ Stored at byte → (at < ramLen c m) × ((at < 0x20000) × (byte < 256))
 stored-within c m index value at byte v e =
     let b = stored-below (ramLen c m) value (source c m index) at byte v e in
     (b .0, (omega (arith, b .0, ram-len-most c m), b .1))

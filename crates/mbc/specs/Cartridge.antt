@@ -1,4 +1,5 @@
--- A cartridge's description (document 01, "Cartridge and buffers"; document 02, wish 2, N to 512): N ROM banks of 16,384 bytes; RAM codes 0, 2, 3 for 0, 8,192, 32,768 bytes.
+-- A cartridge's description (document 01, "Cartridge and buffers"; document 02, wish 2, N to 512, and wish 3, RAM code 4): N ROM banks of 16,384 bytes; RAM codes 0, 2,
+-- 3, 4 for 0, 8,192, 32,768, 131,072 bytes.
 use mathlib.Core.Bool.{Bool, false, cond, not, _&&_, _||_}
 use mathlib.Core.List.{List, [], _∷_}
 use Prim.Native.Nat.{ℕ, _*_, _^_}
@@ -19,8 +20,9 @@ cartridgeOf banks code = record { banks = banks; code = code }
 abbrev pub romLen : Cartridge → ℕ
 romLen c = c .banks * 0x4000
 
+-- banks of 8,192 bytes
 unfoldable pub ramBanks : ℕ → ℕ
-ramBanks code = cond (eqb code 2) 1 (cond (eqb code 3) 4 0)
+ramBanks code = cond (eqb code 2) 1 (cond (eqb code 3) 4 (cond (eqb code 4) 16 0))
 
 -- what N may be: the powers of two to 512
 abbrev pub powers : List ℕ
@@ -30,8 +32,13 @@ powers = 2 ∷ 4 ∷ 8 ∷ 16 ∷ 32 ∷ 64 ∷ 128 ∷ 256 ∷ 512 ∷ []
 unfoldable pub hasBanks : ℕ → Cartridge → Bool
 hasBanks most c = leb (c .banks) most && oneOf powers (c .banks)
 
-unfoldable pub hasCode : Cartridge → Bool
-hasCode c = oneOf (0 ∷ 2 ∷ 3 ∷ []) (c .code)
+-- what the RAM code may be
+abbrev pub codes : List ℕ
+codes = 0 ∷ 2 ∷ 3 ∷ 4 ∷ []
+
+-- it is one of these, to `most`: code 4 is with MBC5 only (document 02, wish 3)
+unfoldable pub hasCode : ℕ → Cartridge → Bool
+hasCode most c = leb (c .code) most && oneOf codes (c .code)
 
 -- N's logarithm; 0 for a number that no N is
 unfoldable pub log2 : ℕ → ℕ

@@ -58,6 +58,9 @@ impl Cartridge {
         if code == 3 {
             return 4;
         }
+        if code == 4 {
+            return 16;
+        }
         0
     }
 
@@ -81,24 +84,26 @@ impl Cartridge {
         }
     }
 
-    pub fn has_code(self) -> bool
-        ensures { λ r. ⌜ r ≡ hasCode self ⌝ }
+    // The RAM code is one that there is, to `most`; 1 is none.
+    pub fn has_code(self, most: u8) -> bool
+        ensures { λ r. ⌜ r ≡ hasCode most self ⌝ }
     {
         let code = self.code;
-        if code == 0 {
-            return true;
+        if most < code {
+            return false;
         }
-        if code == 2 {
-            return true;
+        if code == 1 {
+            return false;
         }
-        code == 3
+        code <= 4
     }
 
-    pub fn describes(self, most: u16) -> bool
-        ensures { λ r. ⌜ r ≡ (hasBanks most self && hasCode self) ⌝ }
+    // To so many ROM banks, and to this RAM code.
+    pub fn describes(self, banks: u16, code: u8) -> bool
+        ensures { λ r. ⌜ r ≡ (hasBanks banks self && hasCode code self) ⌝ }
     {
-        if self.has_banks(most) {
-            return self.has_code();
+        if self.has_banks(banks) {
+            return self.has_code(code);
         }
         false
     }

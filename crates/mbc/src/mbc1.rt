@@ -116,7 +116,7 @@ impl Mbc1 {
     pub fn in_range(self, cartridge: Cartridge) -> bool
         ensures { λ r. ⌜ r ≡ inRange cartridge (mapper.Mbc1 self) ⌝ }
     {
-        if cartridge.describes(128) {
+        if cartridge.describes(128, 3) {
             return self.held(cartridge);
         }
         false

@@ -77,7 +77,7 @@ impl Mbc5 {
         r.high == 0
     }
 
-    // The state ranges: RAM enabled needs code 2 or 3, and the RAM bank is one that there is, or 0.
+    // The state ranges: RAM enabled needs code 2, 3 or 4, and the RAM bank is one that there is, or 0.
     fn held(self, cartridge: Cartridge) -> bool
         ensures { λ r. ⌜ r ≡ held5 cartridge self ⌝ }
     {
@@ -99,7 +99,7 @@ impl Mbc5 {
     pub fn in_range(self, cartridge: Cartridge) -> bool
         ensures { λ r. ⌜ r ≡ inRange cartridge (mapper.Mbc5 self) ⌝ }
     {
-        if cartridge.describes(512) {
+        if cartridge.describes(512, 4) {
             return self.held(cartridge);
         }
         false

@@ -16,7 +16,7 @@ pub const KIND: u8 = 0;
 pub fn in_range(cartridge: Cartridge) -> bool
     ensures { λ r. ⌜ r ≡ romOnly .described cartridge ⌝ }
 {
-    cartridge.describes(2)
+    cartridge.describes(2, 3)
 }
 
 // Whether the registers are as they start, which they stay, and the description is in range.

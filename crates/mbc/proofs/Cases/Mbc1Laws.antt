@@ -1,5 +1,5 @@
 -- Mbc1's laws: what its ranges say, as a record of facts, and that each of its writes keeps them.
-use mathlib.Core.Path.{_≡_, refl}
+use mathlib.Core.Path.{_≡_, refl, sym, _∙_}
 use mathlib.Core.Bool.{true, false, cond, _&&_, _||_, or-true}
 use mathlib.Core.List.{[], _∷_}
 use mathlib.Core.Logic.{inl}
@@ -15,7 +15,7 @@ use Rattle.mbc.specs.declared.cartridge.Cartridge.{Cartridge}
 use Rattle.mbc.specs.declared.mbc1.Mbc1.{Mbc1 as Registers1}
 use Rattle.mbc.specs.declared.mbc.Mapper.the-variants.{Mbc1}
 use Rattle.mbc.proofs.Bools.{and-left, and-right, implied, and-implied, weaker}
-use Rattle.mbc.proofs.Cartridges.{banks-most, banks-least, banks-power, code-most, four-banks, has-ram, some-ram}
+use Rattle.mbc.proofs.Cartridges.{banks-most, banks-least, banks-power, code-most, four-banks, has-ram, to-3, some-ram}
 use Rattle.mbc.proofs.Lawful.{Lawful, where-whole, where-within}
 use Rattle.mbc.proofs.Bits.{bit-back, bit-small}
 
@@ -37,7 +37,7 @@ enabled-needs m code e h =
 
 pub record Mbc1Facts (c : Cartridge) (m : Registers1) : Type 0 where
   pub banks : hasBanks 128 c ≡ true
-  pub code : hasCode c ≡ true
+  pub code : hasCode 3 c ≡ true
   pub rom : m .rom < c .banks
   pub ram : m .ram ≤ 3
   pub high : m .high ≤ 3
@@ -46,13 +46,13 @@ pub record Mbc1Facts (c : Cartridge) (m : Registers1) : Type 0 where
 pub mbc1-facts : (c : Cartridge) (m : Registers1) → inRange c (Mbc1 m) ≡ true → Mbc1Facts c m
 unfolding inRange described held
 mbc1-facts c m e =
-    let d = and-left (hasBanks 128 c && hasCode c) (ltb (m .rom) (c .banks) && (leb (m .ram) 3 && (leb (m .high) 3 && suits m (c .code)))) e in
-    let h = and-right (hasBanks 128 c && hasCode c) (ltb (m .rom) (c .banks) && (leb (m .ram) 3 && (leb (m .high) 3 && suits m (c .code)))) e in
+    let d = and-left (hasBanks 128 c && hasCode 3 c) (ltb (m .rom) (c .banks) && (leb (m .ram) 3 && (leb (m .high) 3 && suits m (c .code)))) e in
+    let h = and-right (hasBanks 128 c && hasCode 3 c) (ltb (m .rom) (c .banks) && (leb (m .ram) 3 && (leb (m .high) 3 && suits m (c .code)))) e in
     let h1 = and-right (ltb (m .rom) (c .banks)) (leb (m .ram) 3 && (leb (m .high) 3 && suits m (c .code))) h in
     let h2 = and-right (leb (m .ram) 3) (leb (m .high) 3 && suits m (c .code)) h1 in
     record {
-      banks = and-left (hasBanks 128 c) (hasCode c) d;
-      code = and-right (hasBanks 128 c) (hasCode c) d;
+      banks = and-left (hasBanks 128 c) (hasCode 3 c) d;
+      code = and-right (hasBanks 128 c) (hasCode 3 c) d;
       rom = ltb-true _ _ (and-left (ltb (m .rom) (c .banks)) (leb (m .ram) 3 && (leb (m .high) 3 && suits m (c .code))) h);
       ram = leb-true _ _ (and-left (leb (m .ram) 3) (leb (m .high) 3 && suits m (c .code)) h1);
       high = leb-true _ _ (and-left (leb (m .high) 3) (suits m (c .code)) h2);
@@ -66,7 +66,7 @@ ram-below c m e on =
     let f = mbc1-facts c m e in
     by-cond (λ (b : ℕ). b < ramBanks (c .code)) (m .mode) (m .ram) 0
     (λ h. omega (arith, f .ram, four-banks (c .code) (mode-needs m (c .code) (f .suit) h)))
-    (λ h. some-ram (c .code) (enabled-needs m (c .code) (f .suit) on))
+    (λ h. some-ram (c .code) (to-3 (c .code) (code-most 3 c (f .code)) ∙ enabled-needs m (c .code) (f .suit) on))
 
 -- the facts make the range again
 pub in-range1 : (c : Cartridge) (m : Registers1) → Mbc1Facts c m → inRange c (Mbc1 m) ≡ true
@@ -104,7 +104,7 @@ enable-in-range c m value e =
       rom = f .rom;
       ram = f .ram;
       high = f .high;
-      suit = suit (withEnabled m (enables value)) (c .code) (banked m (c .code) (f .suit)) (rw (has-ram c (f .code) z));
+      suit = suit (withEnabled m (enables value)) (c .code) (banked m (c .code) (f .suit)) (rw (sym (to-3 (c .code) (code-most 3 c (f .code))) ∙ has-ram 3 c (f .code) z));
     }))
 
 low-in-range : (c : Cartridge) (m : Registers1) (value : ℕ) → inRange c (Mbc1 m) ≡ true
@@ -186,8 +186,8 @@ mode-in-range c m value e =
 pub mbc1-starts : (c : Cartridge) → inRange c (Mbc1 (from1 (starting kindMbc1))) ≡ described c (Mbc1 (from1 (starting kindMbc1)))
 unfolding inRange described held suits
 mbc1-starts c =
-    and-implied (hasBanks 128 c && hasCode c) (held1 c (from1 (starting kindMbc1)))
-    (λ d. rw (lt-ltb 1 (c .banks) (banks-least 128 c (and-left (hasBanks 128 c) (hasCode c) d)), or-true (eqb (c .code) 3), or-true (oneOf (2 ∷ 3 ∷ []) (c .code))))
+    and-implied (hasBanks 128 c && hasCode 3 c) (held1 c (from1 (starting kindMbc1)))
+    (λ d. rw (lt-ltb 1 (c .banks) (banks-least 128 c (and-left (hasBanks 128 c) (hasCode 3 c) d)), or-true (eqb (c .code) 3), or-true (oneOf (2 ∷ 3 ∷ []) (c .code))))
 
 keeps : (c : Cartridge) (m : Registers1) (index value : ℕ) → 0x8000 ≤ index → after1 c m index value ≡ m
 unfolding after1
@@ -221,9 +221,9 @@ unfolding described ramSource ramLen
 mbc1-lawful m =
     record {
       describes = λ c e.
-          let b = and-left (hasBanks 128 c) (hasCode c) e in
-          record { power = banks-power 128 c b; most = omega (arith, banks-most 128 c b); code = code-most c (and-right (hasBanks 128 c) (hasCode c) e) };
-      holds = λ c e. let f = mbc1-facts c m e in record { rom = f .rom; ram = f .ram; high = f .high };
+          let b = and-left (hasBanks 128 c) (hasCode 3 c) e in
+          record { power = banks-power 128 c b; most = omega (arith, banks-most 128 c b); code = omega (arith, code-most 3 c (and-right (hasBanks 128 c) (hasCode 3 c) e)) };
+      holds = λ c e. let f = mbc1-facts c m e in record { rom = f .rom; ram = omega (arith, f .ram); high = f .high };
       kind = refl;
       back = rw (bit-back (m .mode), bit-back (m .enabled));
       bits = (bit-small (m .mode), bit-small (m .enabled));

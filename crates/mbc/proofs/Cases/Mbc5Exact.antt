@@ -54,5 +54,5 @@ module _ (c : Cartridge) (power : oneOf powers (c .banks) ≡ true) where
 pub one-field : OneField
 unfolding described start
 one-field c ws e =
-    let b = and-left (hasBanks 512 c) (hasCode c) e in
+    let b = and-left (hasBanks 512 c) (hasCode 4 c) e in
     steps c (banks-power 512 c b) (from5 (starting kindMbc5)) apartStart ws (sym (mod-eq-of-lt (banks-least 512 c b)))

@@ -15,7 +15,7 @@ use Rattle.mbc.specs.declared.cartridge.Cartridge.{Cartridge}
 use Rattle.mbc.specs.declared.mbc5.Mbc5.{Mbc5 as Registers5}
 use Rattle.mbc.specs.declared.mbc.Mapper.the-variants.{Mbc5}
 use Rattle.mbc.proofs.Bools.{and-left, and-right, implied, and-implied}
-use Rattle.mbc.proofs.Cartridges.{banks-most, banks-least, banks-power, code-most, has-ram, some-ram}
+use Rattle.mbc.proofs.Cartridges.{banks-most, banks-least, banks-power, code-most, has-ram, some-ram, by-banks}
 use Rattle.mbc.proofs.Lawful.{Lawful, where-whole, where-within}
 use Rattle.mbc.proofs.Bits.{bit-back, bit-small}
 
@@ -34,15 +34,13 @@ unfolding ramFits
 above-fits-not zero bank h some = ne-eqb bank 0 some
 above-fits-not (suc n) bank h some = rw (ne-eqb (suc n) 0 (λ z. omega (arith, z))) (le-ltb bank (suc n) h)
 
--- with one bank or none it is 0, with four it has two bits
-pub ram-most : (code bank : ℕ) → ramFits (ramBanks code) bank ≡ true → bank ≤ 3
-unfolding ramBanks ramFits
+-- it has four bits
+pub ram-most : (code bank : ℕ) → ramFits (ramBanks code) bank ≡ true → bank ≤ 15
+unfolding ramFits
 ram-most code bank =
-    by-cond (λ (b : ℕ). cond (eqb b 0) (eqb bank 0) (ltb bank b) ≡ true → bank ≤ 3) (eqb code 2) 1 (cond (eqb code 3) 4 0)
-    (λ two e. omega (arith, ltb-true bank 1 e))
-    (λ other.
-    by-cond (λ (b : ℕ). cond (eqb b 0) (eqb bank 0) (ltb bank b) ≡ true → bank ≤ 3) (eqb code 3) 4 0
-    (λ three e. omega (arith, ltb-true bank 4 e)) (λ none e. omega (arith, eqb-true bank 0 e)))
+    by-banks (λ (b : ℕ). ramFits b bank ≡ true → bank ≤ 15)
+    (λ e. omega (arith, eqb-true bank 0 e)) (λ e. omega (arith, ltb-true bank 1 e)) (λ e. omega (arith, ltb-true bank 4 e)) (λ e. omega (arith, ltb-true bank 16 e))
+    code
 
 chosen-fits : (banks bank : ℕ) → ramFits banks (chosenRam banks bank) ≡ true
 unfolding ramFits chosenRam
@@ -60,18 +58,18 @@ start-fits (suc n) = rw (ne-eqb (suc n) 0 (λ z. omega (arith, z))) (lt-ltb 0 (s
 
 pub record Mbc5Facts (c : Cartridge) (m : Registers5) : Type 0 where
   pub banks : hasBanks 512 c ≡ true
-  pub code : hasCode c ≡ true
+  pub code : hasCode 4 c ≡ true
   pub rom : m .rom < c .banks
   pub ram : ramFits (ramBanks (c .code)) (m .ram) ≡ true
-  pub suit : implies (m .enabled) (oneOf (2 ∷ 3 ∷ []) (c .code)) ≡ true
+  pub suit : implies (m .enabled) (oneOf (2 ∷ 3 ∷ 4 ∷ []) (c .code)) ≡ true
 
 pub mbc5-facts : (c : Cartridge) (m : Registers5) → inRange c (Mbc5 m) ≡ true → Mbc5Facts c m
 unfolding inRange described held
 mbc5-facts c m e =
-    let b = both-true (hasBanks 512 c && hasCode c) (held5 c m) e in
-    let d = both-true (hasBanks 512 c) (hasCode c) (b .0) in
-    let h = both-true (ltb (m .rom) (c .banks)) (ramFits (ramBanks (c .code)) (m .ram) && implies (m .enabled) (oneOf (2 ∷ 3 ∷ []) (c .code))) (b .1) in
-    let k = both-true (ramFits (ramBanks (c .code)) (m .ram)) (implies (m .enabled) (oneOf (2 ∷ 3 ∷ []) (c .code))) (h .1) in
+    let b = both-true (hasBanks 512 c && hasCode 4 c) (held5 c m) e in
+    let d = both-true (hasBanks 512 c) (hasCode 4 c) (b .0) in
+    let h = both-true (ltb (m .rom) (c .banks)) (ramFits (ramBanks (c .code)) (m .ram) && implies (m .enabled) (oneOf (2 ∷ 3 ∷ 4 ∷ []) (c .code))) (b .1) in
+    let k = both-true (ramFits (ramBanks (c .code)) (m .ram)) (implies (m .enabled) (oneOf (2 ∷ 3 ∷ 4 ∷ []) (c .code))) (h .1) in
     record { banks = d .0; code = d .1; rom = ltb-true (m .rom) (c .banks) (h .0); ram = k .0; suit = k .1 }
 
 pub in-range5 : (c : Cartridge) (m : Registers5) → Mbc5Facts c m → inRange c (Mbc5 m) ≡ true
@@ -82,13 +80,13 @@ in-range5 c m f = rw (f .banks, f .code, lt-ltb (m .rom) (c .banks) (f .rom), f 
 shown-below : (c : Cartridge) (m : Registers5) → inRange c (Mbc5 m) ≡ true → m .enabled ≡ true → m .ram < ramBanks (c .code)
 shown-below c m e on =
     let f = mbc5-facts c m e in
-    ram-below (ramBanks (c .code)) (m .ram) (some-ram (c .code) (implied (m .enabled) (oneOf (2 ∷ 3 ∷ []) (c .code)) (f .suit) on)) (f .ram)
+    ram-below (ramBanks (c .code)) (m .ram) (some-ram (c .code) (implied (m .enabled) (oneOf (2 ∷ 3 ∷ 4 ∷ []) (c .code)) (f .suit) on)) (f .ram)
 
 pub mbc5-starts : (c : Cartridge) (kind : ℕ) → inRange c (Mbc5 (from5 (starting kind))) ≡ described c (Mbc5 (from5 (starting kind)))
 unfolding inRange described held
 mbc5-starts c kind =
-    and-implied (hasBanks 512 c && hasCode c) (held5 c (from5 (starting kind)))
-    (λ d. rw (lt-ltb 1 (c .banks) (banks-least 512 c (and-left (hasBanks 512 c) (hasCode c) d)), start-fits (ramBanks (c .code))) (or-true (oneOf (2 ∷ 3 ∷ []) (c .code))))
+    and-implied (hasBanks 512 c && hasCode 4 c) (held5 c (from5 (starting kind)))
+    (λ d. rw (lt-ltb 1 (c .banks) (banks-least 512 c (and-left (hasBanks 512 c) (hasCode 4 c) d)), start-fits (ramBanks (c .code))) (or-true (oneOf (2 ∷ 3 ∷ 4 ∷ []) (c .code))))
 
 -- writes
 
@@ -110,7 +108,7 @@ module _ (c : Cartridge) (m : Registers5) (e : inRange c (Mbc5 m) ≡ true) wher
       by-cond (λ (n : Registers5). inRange c (Mbc5 n) ≡ true) (eqb (c .code) 0) m (withEnabled5 m (enables value)) (λ z. e)
       (λ z.
       in-range5 c (withEnabled5 m (enables value))
-      (record { banks = f .banks; code = f .code; rom = f .rom; ram = f .ram; suit = rw (has-ram c (f .code) z) }))
+      (record { banks = f .banks; code = f .code; rom = f .rom; ram = f .ram; suit = rw (has-ram 4 c (f .code) z) }))
 
   -- any bank, masked
   selected : (bank : ℕ) → inRange c (Mbc5 (withRom5 m (masked (c .banks) bank))) ≡ true
@@ -148,8 +146,8 @@ unfolding described ramSource ramLen
 mbc5-lawful m =
     record {
       describes = λ c e.
-          let b = and-left (hasBanks 512 c) (hasCode c) e in
-          record { power = banks-power 512 c b; most = banks-most 512 c b; code = code-most c (and-right (hasBanks 512 c) (hasCode c) e) };
+          let b = and-left (hasBanks 512 c) (hasCode 4 c) e in
+          record { power = banks-power 512 c b; most = banks-most 512 c b; code = code-most 4 c (and-right (hasBanks 512 c) (hasCode 4 c) e) };
       holds = λ c e. let f = mbc5-facts c m e in record { rom = f .rom; ram = ram-most (c .code) (m .ram) (f .ram); high = omega arith };
       kind = refl;
       back = rw (bit-back (m .enabled));

@@ -15,11 +15,11 @@ use Rattle.mbc.proofs.Lawful.{Lawful, where-whole, where-within}
 
 in-banks : (c : Cartridge) → inRange c RomOnly ≡ true → hasBanks 2 c ≡ true
 unfolding inRange described
-in-banks c e = and-left (hasBanks 2 c) (hasCode c) (and-left (hasBanks 2 c && hasCode c) (held c RomOnly) e)
+in-banks c e = and-left (hasBanks 2 c) (hasCode 3 c) (and-left (hasBanks 2 c && hasCode 3 c) (held c RomOnly) e)
 
-in-code : (c : Cartridge) → inRange c RomOnly ≡ true → hasCode c ≡ true
+in-code : (c : Cartridge) → inRange c RomOnly ≡ true → hasCode 3 c ≡ true
 unfolding inRange described
-in-code c e = and-right (hasBanks 2 c) (hasCode c) (and-left (hasBanks 2 c && hasCode c) (held c RomOnly) e)
+in-code c e = and-right (hasBanks 2 c) (hasCode 3 c) (and-left (hasBanks 2 c && hasCode 3 c) (held c RomOnly) e)
 
 pub rom-only-starts : (c : Cartridge) → inRange c RomOnly ≡ described c RomOnly
 unfolding inRange held
@@ -30,8 +30,8 @@ unfolding described ramSource ramLen
 rom-only-lawful =
     record {
       describes = λ c e.
-          let b = and-left (hasBanks 2 c) (hasCode c) e in
-          record { power = banks-power 2 c b; most = omega (arith, banks-most 2 c b); code = code-most c (and-right (hasBanks 2 c) (hasCode c) e) };
+          let b = and-left (hasBanks 2 c) (hasCode 3 c) e in
+          record { power = banks-power 2 c b; most = omega (arith, banks-most 2 c b); code = omega (arith, code-most 3 c (and-right (hasBanks 2 c) (hasCode 3 c) e)) };
       holds = λ c e. record { rom = omega (arith, banks-least 2 c (in-banks c e)); ram = omega arith; high = omega arith };
       kind = refl;
       back = refl;
@@ -40,7 +40,7 @@ rom-only-lawful =
       whole = λ c index. where-whole (not (eqb (c .code) 0)) 0 index;
       within = λ c index e l h.
           where-within (ramBanks (c .code) * 0x2000) (not (eqb (c .code) 0)) 0 index
-          (λ y. omega (arith, some-ram (c .code) (has-ram c (in-code c e) (not-true _ y)))) l h;
+          (λ y. omega (arith, some-ram (c .code) (has-ram 3 c (in-code c e) (not-true _ y)))) l h;
       kept = λ c index value h. refl;
       like = λ c index value. refl;
       own = λ c index value. refl;

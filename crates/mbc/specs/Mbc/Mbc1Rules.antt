@@ -87,7 +87,7 @@ from1 r = record { rom = r .rom; ram = r .ram; mode = isOn (r .mode); enabled = 
 abbrev pub mbc1 : Registers1 → Behaviour
 mbc1 m =
     record {
-      described = λ c. hasBanks 128 c && hasCode c;
+      described = λ c. hasBanks 128 c && hasCode 3 c;
       held = λ c. held1 c m;
       ownRam = 0;
       ramSource = λ c index. ramSource1 m index;

@@ -1,5 +1,5 @@
 -- MBC5, from Pan Docs, whose pieces are in specs/PanDocs.antt (document 02, wish 2). What the wish has beside them: N, the RAM codes and enabling as
--- with Mbc1, banks taken modulo those present.
+-- with Mbc1, banks taken modulo those present. Wish 3 has RAM code 4 too, 16 banks, "enabled as code 3 is".
 use mathlib.Core.Bool.{Bool, cond, _&&_}
 use mathlib.Core.List.{[], _∷_}
 use Prim.Native.Nat.{ℕ, _/_, _%_}
@@ -25,9 +25,9 @@ chosenRam banks bank = cond (eqb banks 0) 0 (bank % banks)
 unfoldable pub ramFits : ℕ → ℕ → Bool
 ramFits banks bank = cond (eqb banks 0) (eqb bank 0) (ltb bank banks)
 
--- the ranges: the ROM bank is below N; RAM enabled needs code 2 or 3, as with Mbc1
+-- the ranges: the ROM bank is below N; RAM enabled needs code 2, 3 or 4
 abbrev pub held5 : Cartridge → Registers5 → Bool
-held5 c m = ltb (m .rom) (c .banks) && (ramFits (ramBanks (c .code)) (m .ram) && implies (m .enabled) (oneOf (2 ∷ 3 ∷ []) (c .code)))
+held5 c m = ltb (m .rom) (c .banks) && (ramFits (ramBanks (c .code)) (m .ram) && implies (m .enabled) (oneOf (2 ∷ 3 ∷ 4 ∷ []) (c .code)))
 
 -- Writes. Pan Docs' two registers of the ROM bank are one field here, masked at each write: specs/Mbc.antt, `OneField`.
 
@@ -76,7 +76,7 @@ from5 r = record { rom = r .rom; ram = r .ram; enabled = isOn (r .enabled) }
 abbrev pub mbc5 : Registers5 → Behaviour
 mbc5 m =
     record {
-      described = λ c. hasBanks 512 c && hasCode c;
+      described = λ c. hasBanks 512 c && hasCode 4 c;
       held = λ c. held5 c m;
       ownRam = 0;
       ramSource = λ c index. ramWhere (m .enabled) (m .ram) index;

@@ -13,7 +13,7 @@ kindRomOnly = 0
 abbrev pub romOnly : Behaviour
 romOnly =
     record {
-      described = λ c. hasBanks 2 c && hasCode c;
+      described = λ c. hasBanks 2 c && hasCode 3 c;
       held = λ c. true;
       ownRam = 0;
       ramSource = λ c index. ramWhere (not (eqb (c .code) 0)) 0 index;

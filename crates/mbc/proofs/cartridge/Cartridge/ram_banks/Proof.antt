@@ -16,5 +16,9 @@ returns-3 : tie.Need-returns-3
 unfolding ramBanks
 returns-3 c = search tests
 
+returns-4 : tie.Need-returns-4
+unfolding ramBanks
+returns-4 c = search tests
+
 pub ram-banks-spec : {M : Type 1} → statement M
-ram-banks-spec = tie.close (tie.spec returns returns-2 returns-3)
+ram-banks-spec = tie.close (tie.spec returns returns-2 returns-3 returns-4)
