@@ -54,7 +54,7 @@ fn parts(line: &str) -> Option<(char, Vec<u8>, Vec<u8>)> {
 
 /// The bus that an N line describes, if it is one and its sound window is so.
 fn fresh(input: &[u8]) -> Option<Host> {
-    let [kind, log, code, colour, sound @ ..] = input else {
+    let [kind, log, code, colour, high, low, sound @ ..] = input else {
         return None;
     };
     let (kind, log, code) = (*kind, *log, *code);
@@ -62,6 +62,7 @@ fn fresh(input: &[u8]) -> Option<Host> {
     if !known || *colour > 1 {
         return None;
     }
-    let host = Host::new(Shape { kind, log, code }, *colour == 1);
+    let room = u16::from_be_bytes([*high, *low]);
+    let host = Host::new(Shape { kind, log, code }, *colour == 1, room);
     (host.sound() == sound).then_some(host)
 }
