@@ -13,7 +13,8 @@ use gameboy_core::mmu::Memory;
 use crate::hex;
 use crate::record;
 
-const SAVE: std::ops::RangeInclusive<u16> = 0xA000..=0xBFFF;
+/// What a save byte is written by.
+pub const SAVE: std::ops::RangeInclusive<u16> = 0xA000..=0xBFFF;
 const SPRITES: u16 = 0xFE00;
 const LENGTH: u16 = 0xA0;
 
@@ -50,11 +51,10 @@ pub fn copy<T>(bus: &mut Memory, page: u8, call: impl FnOnce(&mut Memory) -> T) 
     answer
 }
 
-/// Is there no room for this write, with so many bytes of the log free? A byte in
-/// A000..BFFF needs a record, whether it is stored or not; a word two, with either
-/// index there.
-pub fn no_room(letter: char, input: &[u8], free: usize) -> bool {
-    let needed = match letter {
+/// How many records a call needs room for. A byte in A000..BFFF needs one, whether it
+/// is stored or not; a word two, with either index there.
+pub fn records(letter: char, input: &[u8]) -> usize {
+    match letter {
         'W' => usize::from(SAVE.contains(&hex::word(input))),
         'V' => {
             let index = hex::word(input);
@@ -62,6 +62,10 @@ pub fn no_room(letter: char, input: &[u8], free: usize) -> bool {
             2 * usize::from(either)
         }
         _ => 0,
-    };
-    free < needed * record::LENGTH
+    }
+}
+
+/// Is there no room for this call, with so many bytes of the log free?
+pub fn no_room(letter: char, input: &[u8], free: usize) -> bool {
+    free < records(letter, input) * record::LENGTH
 }

@@ -185,7 +185,7 @@ impl Host {
     }
 
     /// Does a write at A000 store?
-    fn stores(&self) -> bool {
+    pub fn stores(&self) -> bool {
         self.banks().enabled || (self.shape.kind == ROM_ONLY && self.shape.code > 0)
     }
 

@@ -23,7 +23,15 @@ pub const WRITE: Letter = Letter {
         state.write(index, random_value(random))
     },
     answer: write_answer,
-    recorded: (520, 460),
+    always: || {
+        let mut list = Vec::new();
+        for state in sixteen_banks() {
+            list.push(state.write(0x4000, 0xF0 - 0x10 * state.ram + 15 - state.ram));
+            list.push(state.write(0xA000 + 0x222 * u16::from(state.ram), 0x5A));
+        }
+        list
+    },
+    recorded: (500, 440),
 };
 
 pub const READ: Letter = Letter {
@@ -34,7 +42,11 @@ pub const READ: Letter = Letter {
         state.read(random_index(random))
     },
     answer: read_answer,
-    recorded: (420, 180),
+    always: || {
+        let read = |state: State| state.read(0xBFFF - 0x222 * u16::from(state.ram));
+        sixteen_banks().map(read).collect()
+    },
+    recorded: (420, 170),
 };
 
 /// The ends of every window, and of the pages that Mbc2 tells apart.
@@ -192,6 +204,15 @@ impl State {
 /// N at most: 2, 128, 16, 512.
 fn most_log(kind: u8) -> u8 {
     [1, 7, 4, 9][usize::from(kind)]
+}
+
+/// Mbc5 with RAM code 4, each bank selected and enabled.
+fn sixteen_banks() -> impl Iterator<Item = State> {
+    (0..ram_banks(4)).map(|ram| State {
+        ram,
+        enabled: 1,
+        ..State::start(MBC5, 1, 4)
+    })
 }
 
 /// By the RAM code.
