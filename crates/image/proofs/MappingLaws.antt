@@ -3,14 +3,15 @@ use mathlib.Core.Bool.{true, _&&_}
 use mathlib.Core.List.{List}
 use mathlib.Core.Logic.{inl, inr}
 use mathlib.Core.Path.{_≡_, refl, sym, ap, _∙_}
-use Prim.Native.Nat.{ℕ, zero, suc, _+_, _-_, _*_, _/_, _%_, _^_, _<_, _≤_}
+use Prim.Native.Nat.{ℕ, _+_, _-_, _*_, _/_, _%_, _^_, _<_, _≤_}
 use native.Mathlib.Omega.{arith}
 use lib.ListN.{length}
+use borrow.Author.Tests.{le-leb}
 use Rattle.places.specs.Places.{fieldAt}
 use Rattle.places.proofs.Laws.{inner-field}
 use Rattle.mbc.specs.Mbc as mbc
-use Rattle.mbc.proofs.Cartridges.{has-banks-7, has-banks-4, banks-power-of}
-use Rattle.mbc.proofs.Enough.{Ramful, enough-rom-only, enough-mbc1, enough-mbc2, enough-mbc5, ram-len-banked}
+use Rattle.mbc.proofs.Cartridges.{but-1, has-banks-7, has-banks-4, banks-power-of}
+use Rattle.mbc.proofs.Enough.{Ramful, enough-rom-only, enough-mbc1, enough-mbc2, enough-mbc5, enough-mbc5-wide, ram-len-banked}
 use Rattle.mbc.specs.declared.cartridge.Cartridge.{Cartridge}
 use Rattle.mbc.specs.declared.held.Registers.{Registers}
 use Rattle.image.specs.Layout.{imageLen}
@@ -19,24 +20,24 @@ use Rattle.image.specs.Patches.{fields, mappingNumber, part, cartridgeBy
 
 module _ (l : List ℕ) (size : length l ≡ imageLen) where
   -- a part that k bits stand behind
-  inner : (k m : ℕ) → k + m ≤ 23 → mappingNumber l / 2 ^ k % 2 ^ m ≡ fieldAt l (5283 + (23 - (k + m))) m
+  inner : (k m : ℕ) → k + m ≤ 26 → mappingNumber l / 2 ^ k % 2 ^ m ≡ fieldAt l (5283 + (26 - (k + m))) m
   unfolding mappingNumber
-  inner k m h = inner-field l 5283 23 k m h (omega (arith, size))
+  inner k m h = inner-field l 5283 26 k m h (omega (arith, size))
 
   pub kind-part : part (mappingNumber l) 0 ≡ at (fields l) 20
-  kind-part = inner 21 2 (search arith)
+  kind-part = inner 24 2 (search arith)
 
   pub log-part : part (mappingNumber l) 1 ≡ at (fields l) 21
-  log-part = inner 17 4 (search arith)
+  log-part = inner 20 4 (search arith)
 
   pub code-part : part (mappingNumber l) 2 ≡ at (fields l) 22
-  code-part = inner 15 2 (search arith)
+  code-part = inner 17 3 (search arith)
 
   pub rom-part : part (mappingNumber l) 3 ≡ at (fields l) 23
-  rom-part = inner 6 9 (search arith)
+  rom-part = inner 8 9 (search arith)
 
   pub ram-part : part (mappingNumber l) 4 ≡ at (fields l) 24
-  ram-part = inner 4 2 (search arith)
+  ram-part = inner 4 4 (search arith)
 
   pub mode-part : part (mappingNumber l) 5 ≡ at (fields l) 25
   mode-part = inner 3 1 (search arith)
@@ -62,11 +63,11 @@ pub mapped-by : (l : List ℕ) {n : ℕ} → length l ≡ imageLen → n ≡ map
 mapped-by l size e h = record { size = size; mapper = sym (mapper-by l size) ∙ ap mapperBy (sym e) ∙ h }
 
 -- and with the lengths of what is lent beside the image, where the commonest mappers' tests pass
-pub common-lent : (l : List ℕ) (n rom save s : ℕ) → length l ≡ imageLen → n ≡ mappingNumber l → Common n s → rom ≡ 2 ^ (n / 131072 % 8) * 0x4000 → save ≡ s
+pub common-lent : (l : List ℕ) (n rom save s : ℕ) → length l ≡ imageLen → n ≡ mappingNumber l → Common n s → rom ≡ 2 ^ (n / 1048576 % 8) * 0x4000 → save ≡ s
     → MapperFits l rom save
 common-lent l n rom save s size e f r g =
-    let low : n / 131072 % 8 ≡ n / 131072 % 16 = omega (arith, f .log) in
-    let banks : 2 ^ (n / 131072 % 8) ≡ mbc.banksOf (part n 1) = ap (λ (k : ℕ). 2 ^ k) low ∙ sym (banks-power-of (part n 1) (omega (arith, f .log))) in
+    let low : n / 1048576 % 8 ≡ n / 1048576 % 16 = omega (arith, f .log) in
+    let banks : 2 ^ (n / 1048576 % 8) ≡ mbc.banksOf (part n 1) = ap (λ (k : ℕ). 2 ^ k) low ∙ sym (banks-power-of (part n 1) (omega (arith, f .log))) in
     let k : cartridgeBy n ≡ cartridgeOf (fields l) = ap cartridgeBy e ∙ cartridge-by l size in
     let m : mbc.mapperOf (registersBy n) ≡ mbc.mapperOf (registersIn (fields l)) = ap mbc.mapperOf (ap registersBy e ∙ registers-by l size) in
     record {
@@ -82,37 +83,34 @@ two-banks : (log code : ℕ) → log ≡ 1 → mbc.hasBanks 2 (mbc.cartridgeOf (
 unfolding mbc.hasBanks mbc.banksOf
 two-banks log code e = rw e
 
--- a code of two bits is one of the three, or 1
-pub other-code : (banks code : ℕ) → code < 4 → (code ≡ 1 → ⊥) → mbc.hasCode (mbc.cartridgeOf banks code) ≡ true
+-- a code to 3 is one of the three, or 1
+pub other-code : (banks code : ℕ) → code ≤ 3 → (code ≡ 1 → ⊥) → mbc.hasCode 3 (mbc.cartridgeOf banks code) ≡ true
 unfolding mbc.hasCode
-other-code banks zero h other = refl
-other-code banks (suc zero) h other = absurd (other refl)
-other-code banks (suc (suc zero)) h other = refl
-other-code banks (suc (suc (suc zero))) h other = refl
-other-code banks (suc (suc (suc (suc k)))) h other = absurd (omega (arith, h))
+other-code banks code h other = rw (le-leb code 3 h, ← but-1 code other) (le-leb code 4 (omega (arith, h)))
 
 module _ (n : ℕ) where
   kind-not-2 : CommonKind n → part n 0 ≡ mbc.kindMbc2 → ⊥
   kind-not-2 (inl k) e = omega (arith, k, e)
   kind-not-2 (inr k) e = omega (arith, k .0, e)
 
-  common-fits : CommonKind n → part n 1 ≤ 7 → 1 ≤ part n 1 → part n 3 < mbc.banksOf (part n 1) → Ramful (cartridgeBy n) (registersBy n) → mapperBy n ≡ true
+  pub common-fits : CommonKind n → part n 1 ≤ 7 → 1 ≤ part n 1 → part n 3 < mbc.banksOf (part n 1) → Ramful (cartridgeBy n) (registersBy n) → mapperBy n ≡ true
   common-fits (inl k) most least rom ram =
-      enough-mbc1 (cartridgeBy n) (registersBy n) k (omega arith) (omega arith) (omega arith) (omega arith) (has-banks-7 (part n 1) (part n 2) least most .0) rom ram
+      enough-mbc1 (cartridgeBy n) (registersBy n) k (omega arith) (omega arith) (omega arith) (has-banks-7 (part n 1) (part n 2) least most .0) rom ram
   common-fits (inr k) most least rom ram =
-      enough-mbc5 (cartridgeBy n) (registersBy n) (k .0) (k .1 .0) (omega arith) (omega arith) (k .1 .1) (has-banks-7 (part n 1) (part n 2) least most .1) rom ram
+      enough-mbc5 (cartridgeBy n) (registersBy n) (k .0) (k .1 .0) (omega arith) (k .1 .1) (has-banks-7 (part n 1) (part n 2) least most .1) rom ram
 
-  pub common : CommonKind n → part n 1 ≤ 7 → 1 ≤ part n 1 → part n 3 < mbc.banksOf (part n 1) → Ramful (cartridgeBy n) (registersBy n)
-      → (s : ℕ) → mbc.ramBanks (part n 2) * 0x2000 ≡ s → Common n s
-  common k most least rom ram s e =
-      record {
-        fits = common-fits k most least rom ram;
-        log = most;
-        save = sym e ∙ sym (ram-len-banked (cartridgeBy n) (registersBy n) (kind-not-2 k));
-      }
+  -- RAM code 4
+  pub wide-fits : CommonKind n → part n 0 ≡ mbc.kindMbc5 → part n 1 ≤ 7 → 1 ≤ part n 1 → part n 3 < mbc.banksOf (part n 1) → part n 2 ≡ 4 → mapperBy n ≡ true
+  wide-fits (inl k) e most least rom code = absurd (omega (arith, k, e))
+  wide-fits (inr k) e most least rom code =
+      enough-mbc5-wide (cartridgeBy n) (registersBy n) e (k .1 .0) (omega arith) (omega arith) (k .1 .1) (has-banks-7 (part n 1) (part n 2) least most .1) rom code
+
+  pub common : CommonKind n → part n 1 ≤ 7 → mapperBy n ≡ true → (s : ℕ) → mbc.ramBanks (part n 2) * 0x2000 ≡ s → Common n s
+  common k most fits s e =
+      record { fits = fits; log = most; save = sym e ∙ sym (ram-len-banked (cartridgeBy n) (registersBy n) (kind-not-2 k)) }
 
   pub rom-only-fits : part n 0 ≡ mbc.kindRomOnly → part n 1 ≡ 1 → part n 3 ≡ 1 → part n 4 ≡ 0 → part n 5 ≡ 0 → part n 6 ≡ 0 → part n 7 ≡ 0
-      → mbc.hasCode (cartridgeBy n) ≡ true → mapperBy n ≡ true
+      → mbc.hasCode 3 (cartridgeBy n) ≡ true → mapperBy n ≡ true
   rom-only-fits k log rom ram mode enabled high code =
       enough-rom-only (cartridgeBy n) (registersBy n) k rom ram mode enabled high (two-banks (part n 1) (part n 2) log) code
 

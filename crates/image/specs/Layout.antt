@@ -1,4 +1,4 @@
--- The state image (document 01, "Save log and state image", and document 02, wish 2): 666 bytes, most significant bit first. `widths` is the one place that has the layout,
+-- The state image (document 01, "Save log and state image", and document 02, wishes 2 and 3): 666 bytes, most significant bit first. `widths` is the one place that has the layout,
 -- `values` what stands there; the image is the number that they make, in bytes. All that is said field by field is said here.
 use mathlib.Core.Bool.{Bool, cond}
 use mathlib.Core.List.{List, [], _∷_, _++_}
@@ -51,10 +51,10 @@ headValues c =
     c .hdma .source ∷ c .hdma .destination ∷
     complement (c .lcd .delay) ∷ complement (c .lcd .counter) ∷ complement (c .lcd .aux) ∷ complement (c .lcd .window) ∷ []
 
--- then mapper, log2 N, RAM code, ROM bank, RAM bank, mode, enabled, high bits; log use, six 0 bits
+-- then mapper, log2 N, RAM code, ROM bank, RAM bank, mode, enabled, high bits; log use, three 0 bits
 
 abbrev pub tailWidths : List ℕ
-tailWidths = 2 ∷ 4 ∷ 2 ∷ 9 ∷ 2 ∷ 1 ∷ 1 ∷ 2 ∷ 16 ∷ 6 ∷ []
+tailWidths = 2 ∷ 4 ∷ 3 ∷ 9 ∷ 4 ∷ 1 ∷ 1 ∷ 2 ∷ 16 ∷ 3 ∷ []
 
 -- "Fields that a mapper lacks hold their starting values": `registersOf`
 abbrev pub tailValues : Core → List ℕ

@@ -45,23 +45,36 @@ pub fn common_save(n: u32) -> usize
     if Cartridge::banks_of(log as u8) <= rom {
         return NO_SAVE;
     }
-    // By the code's two bits: without RAM the RAM bank, the mode and enabled, four bits side by side, are 0; with one bank the first two are.
-    if n / layout::CODE_UNIT / 2 % 2 == 0 {
-        if n / layout::CODE_UNIT % 2 == 1 {
+    // By the code's three bits. With four banks of RAM the RAM bank has two bits; with one it and the mode, five bits side by side, are 0; without RAM
+    // enabled behind them is too.
+    if n / layout::CODE_UNIT % 2 != 0 {
+        if n / layout::CODE_UNIT / 2 % 4 != 1 {
             return NO_SAVE;
         }
-        if n / layout::ENABLED_UNIT % 16 != 0 {
+        if n / layout::RAM_UNIT / 4 % 4 != 0 {
             return NO_SAVE;
         }
-        return 0;
-    }
-    if n / layout::CODE_UNIT % 2 == 1 {
         return 0x8000;
     }
-    if n / layout::BANKING_UNIT % 8 != 0 {
+    if n / layout::CODE_UNIT / 2 % 2 != 0 {
+        if n / layout::CODE_UNIT / 2 / 2 % 2 != 0 {
+            return NO_SAVE;
+        }
+        if n / layout::BANKING_UNIT % 32 != 0 {
+            return NO_SAVE;
+        }
+        return 0x2000;
+    }
+    if n / layout::CODE_UNIT / 2 / 2 % 2 != 0 {
+        if n / layout::KIND_UNIT != 3 {
+            return NO_SAVE;
+        }
+        return 0x20000;
+    }
+    if n / layout::ENABLED_UNIT % 64 != 0 {
         return NO_SAVE;
     }
-    0x2000
+    0
 }
 
 // RomOnly and Mbc2, in range.
@@ -77,6 +90,9 @@ pub fn small_fits(n: u32) -> bool
         if n % layout::CODE_UNIT != layout::ROM_UNIT {
             return false;
         }
+        if n / layout::CODE_UNIT % layout::CODE_SIZE > 3 {
+            return false;
+        }
         return n / layout::CODE_UNIT % layout::CODE_SIZE != 1;
     }
     if n / layout::KIND_UNIT != 2 {
@@ -85,7 +101,7 @@ pub fn small_fits(n: u32) -> bool
     if n / layout::CODE_UNIT % layout::CODE_SIZE != 0 {
         return false;
     }
-    if n / layout::BANKING_UNIT % 8 != 0 {
+    if n / layout::BANKING_UNIT % 32 != 0 {
         return false;
     }
     if n % layout::HIGH_SIZE != 0 {

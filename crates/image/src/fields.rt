@@ -398,12 +398,13 @@ fn put_numbers(image: &mut [u8], r: Registers)
     requires { ⌜ (length (now image) ≡ imageLen) × Fits (numbersFields r) ⌝ }
     ensures { λ _. ⌜ now (image .exit) ≡ put (numbersFields r) (now (image .entry)) ⌝ }
 {
-    let n = r.rom as u32 * layout::ROM_UNIT
-        + r.ram as u32 * layout::RAM_UNIT
+    let low = r.ram as u32 * layout::RAM_UNIT
         + r.mode as u32 * layout::BANKING_UNIT
         + r.enabled as u32 * layout::ENABLED_UNIT
         + r.high as u32;
-    places::put_u16(image, layout::ROM_AT, layout::NUMBERS, n as u16);
+    // Those behind the ROM bank are a byte: that the compiler knows of no carry spares it ten instructions.
+    let n = r.rom as u32 * layout::ROM_UNIT + low as u8 as u32;
+    places::put_u24(image, layout::ROM_AT, layout::NUMBERS, n);
 }
 
 pub fn put_used(image: &mut [u8], used: u16)

@@ -60,11 +60,11 @@ pub const KIND: usize = 2;
 
 pub const LOG: usize = 4;
 
-pub const CODE: usize = 2;
+pub const CODE: usize = 3;
 
 pub const ROM: usize = 9;
 
-pub const RAM: usize = 2;
+pub const RAM: usize = 4;
 
 pub const HIGH: usize = 2;
 
@@ -76,7 +76,7 @@ pub const MAPPING: usize = KIND + LOG + CODE + NUMBERS;
 
 pub const USED: usize = 16;
 
-pub const ZEROS: usize = 6;
+pub const ZEROS: usize = 3;
 
 pub const KIND_AT: usize = WINDOW_AT + 32;
 

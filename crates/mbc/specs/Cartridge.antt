@@ -1,5 +1,5 @@
--- A cartridge's description (document 01, "Cartridge and buffers"; document 02, wish 2, N to 512, and wish 3, RAM code 4): N ROM banks of 16,384 bytes; RAM codes 0, 2,
--- 3, 4 for 0, 8,192, 32,768, 131,072 bytes.
+-- A cartridge's description (document 01, "Cartridge and buffers"; document 02, wish 2, N to 512, and wish 3, RAM code 4): N ROM banks of 16,384 bytes;
+-- RAM codes 0, 2, 3, 4 for 0, 8,192, 32,768, 131,072 bytes.
 use mathlib.Core.Bool.{Bool, false, cond, not, _&&_, _||_}
 use mathlib.Core.List.{List, [], _∷_}
 use Prim.Native.Nat.{ℕ, _*_, _^_}

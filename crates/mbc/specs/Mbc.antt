@@ -21,7 +21,7 @@ use Rattle.mbc.specs.declared.mbc.Written.{Written}
 use Rattle.mbc.specs.declared.mbc.Fresh.{Fresh}
 use Rattle.mbc.specs.declared.mbc.ReadByte.{ReadByte}
 use Rattle.mbc.specs.declared.mbc.WriteByte.{WriteByte}
-pub use Rattle.mbc.specs.Cartridge.{oneOf, implies, cartridgeOf, romLen, powers, codes}
+pub use Rattle.mbc.specs.Cartridge.{oneOf, implies, cartridgeOf, romLen, powers}
 unfoldable pub use Rattle.mbc.specs.Cartridge.{ramBanks, hasBanks, hasCode, log2, banksOf}
 pub use Rattle.mbc.specs.Registers.{starting, bit, isOn}
 unfoldable pub use Rattle.mbc.specs.Registers.{same}

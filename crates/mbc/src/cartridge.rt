@@ -98,7 +98,7 @@ impl Cartridge {
         code <= 4
     }
 
-    // To so many ROM banks, and to this RAM code.
+    // N is to `banks`, the RAM code to `code`.
     pub fn describes(self, banks: u16, code: u8) -> bool
         ensures { λ r. ⌜ r ≡ (hasBanks banks self && hasCode code self) ⌝ }
     {

@@ -104,6 +104,14 @@ pub fn put_u16(bytes: &mut [u8], bit: usize, width: usize, value: u16)
     requires { ⌜ (width ≤ 16) × ((value < 2 ^ width) × Within 24 (now bytes) bit width) ⌝ }
     ensures { λ _. ⌜ now (bytes .exit) ≡ putAt (now (bytes .entry)) bit width value ⌝ }
 {
+    put_u24(bytes, bit, width, value as u32);
+}
+
+// A field within three bytes.
+pub fn put_u24(bytes: &mut [u8], bit: usize, width: usize, value: u32)
+    requires { ⌜ ((bit + width + 7) / 8 * 8 ≤ bit + 24) × ((value < 2 ^ width) × Within 24 (now bytes) bit width) ⌝ }
+    ensures { λ _. ⌜ now (bytes .exit) ≡ putAt (now (bytes .entry)) bit width value ⌝ }
+{
     let end = (bit + width + 7) / 8;
     let shift = end * 8 - (bit + width);
     let at = end - 3;

@@ -129,6 +129,10 @@ round f a v h k = ap (fieldsOf f) (number-bytes (widthOf f) (recordNumber f a v)
 pub stored-sound : (ram a v : ℕ) → a < ram → soundRecord ram (stored a v) ≡ true
 stored-sound ram a v h = lt-ltb a ram h
 
+pub some-width : (f : Form) → 0 < widthOf f
+some-width Three = omega arith
+some-width Four = omega arith
+
 -- how many whole records there are: one more with one more, none in less than one
 pub wholes-more : (f : Form) (n : ℕ) → widthOf f ≤ n → n / widthOf f ≡ suc ((n - widthOf f) / widthOf f)
 wholes-more Three n h = omega arith

@@ -15,7 +15,7 @@ use Rattle.numbers.specs.Numbers.{done, wrongLength, damaged}
 use Rattle.rules.proofs.Tests.{both-true}
 use Rattle.savelog.specs.Log.{Form, Three, Four, Rec, width, addressEnd, widthOf, bytesOf, recordNumber, recordBytes, stored, firstRecords, recordsBy, records, soundRecord, allSound, applyAll, saveLengths, logLimit, oneOf, lengthsFit, outcome, recovery, appended, recoverAll, joined, cutCopies}
 use Rattle.savelog.specs.Laws.{Corner, AppendLaw, PrefixLaw, Copy, Copies, none, more, CopiesLaw}
-use Rattle.savelog.proofs.Laws.{wholes-more, wholes-none, records-cons, records-none}
+use Rattle.savelog.proofs.Laws.{some-width, wholes-more, wholes-none, records-cons, records-none}
 use Rattle.savelog.proofs.Use.{used-more, record-first}
 
 -- a log is less than a record, or a record and a log
@@ -26,10 +26,6 @@ data Whole (f : Form) : List ℕ → Type 0 where
 step-whole : (f : Form) (l : List ℕ) → Dec (length l < widthOf f) → (widthOf f ≤ length l → Whole f (drop (widthOf f) l)) → Whole f l
 step-whole f l (yes s) g = short s
 step-whole f l (no n) g = let h : widthOf f ≤ length l = omega (arith, n) in long h (g h)
-
-some-width : (f : Form) → 0 < widthOf f
-some-width Three = omega arith
-some-width Four = omega arith
 
 whole-within : (f : Form) (k : ℕ) (l : List ℕ) → length l ≤ k → Whole f l
 whole-within f zero l h = short {l = l} (omega (arith, some-width f))

@@ -17,14 +17,14 @@ returns-2 : tie.Need-returns-2
 returns-2 c = λ z. untrue z
 
 returns-3 : tie.Need-returns-3
-returns-3 c =
-    let n = c .before .before .before .args .n in
-    let low : n % 32768 ≡ 64 = c .if3 .left in
-    λ z. rom-only-fits n (omega (arith, c .before .before .if1 .taken)) (omega (arith, c .before .if2 .left)) (omega (arith, low)) (omega (arith, low)) (omega (arith, low)) (omega (arith, low)) (omega (arith, low))
-    (other-code _ (n / 32768 % 4) (omega arith) (eqb-false (n / 32768 % 4) 1 (not-true (eqb (n / 32768 % 4) 1) z)))
+returns-3 c = λ z. untrue z
 
 returns-4 : tie.Need-returns-4
-returns-4 c = λ z. untrue z
+returns-4 c =
+    let n = c .before .before .before .before .args .n in
+    let low : n % 131072 ≡ 256 = c .before .if3 .left in
+    λ z. rom-only-fits n (omega (arith, c .before .before .before .if1 .taken)) (omega (arith, c .before .before .if2 .left)) (omega (arith, low)) (omega (arith, low)) (omega (arith, low)) (omega (arith, low)) (omega (arith, low))
+    (other-code _ (n / 131072 % 8) (c .if4 .left) (eqb-false (n / 131072 % 8) 1 (not-true (eqb (n / 131072 % 8) 1) z)))
 
 returns-5 : tie.Need-returns-5
 returns-5 c = λ z. untrue z
@@ -41,6 +41,9 @@ returns-8 c = λ z. untrue z
 returns-9 : tie.Need-returns-9
 returns-9 c = λ z. untrue z
 
+returns-10 : tie.Need-returns-10
+returns-10 c = λ z. untrue z
+
 cast-rom : tie.Need-cast-rom
 cast-rom c = search needs
 
@@ -50,14 +53,14 @@ cast-banks-of c = search needs
 banks-of-requires : tie.Need-banks-of-requires
 banks-of-requires c κs = search needs
 
-returns-10 : tie.Need-returns-10
-returns-10 c =
+returns-11 : tie.Need-returns-11
+returns-11 c =
     let n = c .before .before .before .before .before .before .before .before .args .n in
-    let log : n / 131072 % 8 ≡ n / 131072 % 16 = omega (arith, c .before .before .if8 .left) in
-    let two : n / 2097152 ≡ 2 = c .before .before .before .before .before .before .if4 .left in
-    let kind : n / 2097152 % 4 ≡ 2 = rw two in
-    λ z. mbc2-fits n kind (c .before .before .if8 .left) (omega (arith, c .before .if9 .left)) (c .before .before .before .before .before .if5 .left)
-    (rw (← log, ← c .banks-of .ensures) (ltb-true _ _ z)) (omega (arith, c .before .before .before .before .if6 .left)) (omega (arith, c .before .before .before .before .if6 .left)) (omega (arith, c .before .before .before .if7 .left))
+    let log : n / 1048576 % 8 ≡ n / 1048576 % 16 = omega (arith, c .before .before .if9 .left) in
+    let two : n / 16777216 ≡ 2 = c .before .before .before .before .before .before .if5 .left in
+    let kind : n / 16777216 % 4 ≡ 2 = rw two in
+    λ z. mbc2-fits n kind (c .before .before .if9 .left) (omega (arith, c .before .if10 .left)) (c .before .before .before .before .before .if6 .left)
+    (rw (← log, ← c .banks-of .ensures) (ltb-true _ _ z)) (omega (arith, c .before .before .before .before .if7 .left)) (omega (arith, c .before .before .before .before .if7 .left)) (omega (arith, c .before .before .before .if8 .left))
 
 pub small-fits-spec : {M : Type 1} → statement M
 small-fits-spec =
@@ -72,7 +75,8 @@ small-fits-spec =
     returns-7
     returns-8
     returns-9
+    returns-10
     cast-rom
     cast-banks-of
     banks-of-requires
-    returns-10)
+    returns-11)

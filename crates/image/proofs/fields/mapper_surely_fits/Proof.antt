@@ -31,7 +31,7 @@ shl-banks c = search needs
 
 mul-if3 : tie.Need-mul-if3
 mul-if3 c =
-    let k = c .before .before .mapping-at .result / 131072 % 8 in
+    let k = c .before .before .mapping-at .result / 1048576 % 8 in
     rw (shifted-one 64 k (omega arith)) (search (needs, power-le k 7 (omega arith)))
 
 returns-3 : tie.Need-returns-3
@@ -41,7 +41,7 @@ returns-4 : tie.Need-returns-4
 returns-4 c = λ z.
     let n = c .before .before .before .mapping-at .result in
     let its = c .before .before .common-save .result in
-    common-lent _ n _ _ its (c .before .before .before .before .if1 .left) (c .before .before .before .mapping-at .ensures .0) (c .before .before .common-save .ensures (c .before .if2 .left)) (c .if3 .left ∙ rw (shifted-one 64 (n / 131072 % 8) (omega arith))) (eqb-true _ _ z)
+    common-lent _ n _ _ its (c .before .before .before .before .if1 .left) (c .before .before .before .mapping-at .ensures .0) (c .before .before .common-save .ensures (c .before .if2 .left)) (c .if3 .left ∙ rw (shifted-one 64 (n / 1048576 % 8) (omega arith))) (eqb-true _ _ z)
 
 pub mapper-surely-fits-spec : {M : Type 1} → statement M
 mapper-surely-fits-spec =

@@ -32,7 +32,7 @@ cast-t19 c = search needs
 returns : tie.Need-returns
 returns c =
     let n = c .before .mapping-at .result in
-    let kind : n / 2097152 ≡ n / 2097152 % 4 = omega (arith, c .before .mapping-at .ensures .1) in
+    let kind : n / 16777216 ≡ n / 16777216 % 4 = omega (arith, c .before .mapping-at .ensures .1) in
     let high : n % 4 ≡ n / 1 % 4 = omega arith in
     rw (c .bit .ensures, ← bit-forth (n / 4 % 2) (omega arith), kind, high, c .before .mapping-at .ensures .0) (registers-by _ (c .before .before .before .pre))
 

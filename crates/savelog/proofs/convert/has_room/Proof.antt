@@ -1,37 +1,55 @@
+-- Each way out is a test of the definition.
+use mathlib.Core.Path.{_≡_}
+use Prim.Native.Nat.{_/_, _*_, _≤_}
+use native.Mathlib.Omega.{arith}
+use borrow.Author.Tests.{le-leb, lt-leb}
 use borrow.Author.Needs.{needs}
+use Rattle.savelog.specs.Log.{logLimit}
+use Rattle.savelog.specs.Convert.{lengthBy, room}
+use Rattle.savelog.proofs.Laws.{some-width}
+use Rattle.savelog.proofs.Converts.{length-bound}
 use Rattle.savelog.proofs.convert.has_room.Statement.{statement}
 use Rattle.savelog.proofs.convert.has_room.Tie as tie
-use Rattle.savelog.proofs.convert.has_room.Reads as reads
-use Rattle.savelog.proofs.convert.has_room.Lts as lts
-use Rattle.savelog.proofs.Form.len.Reads as len-reads
 
--- src/convert.rt:43:9
 returns : tie.Need-returns
-returns c = ?
+unfolding room
+returns c = rw (lt-leb (c .before .args .source) logLimit (c .if1 .taken))
 
--- src/convert.rt:45:24
 len-requires : tie.Need-len-requires
 len-requires c κs = search needs
 
--- src/convert.rt:45:15
 div-len : tie.Need-div-len
-div-len c = ?
+div-len c = omega (arith, c .len .ensures, some-width (c .before .before .args .from))
 
--- src/convert.rt:45:37
 len-requires-2 : tie.Need-len-requires-2
 len-requires-2 c κs = search needs
 
--- src/convert.rt:45:15
 mul-len : tie.Need-mul-len
-mul-len c = ?
+mul-len c =
+    let a = c .before .before .before .args in
+    let h : a .source ≤ logLimit = omega arith in
+    rw (c .before .len .ensures, c .len2 .ensures) (omega (arith, length-bound (a .from) (a .to) (a .source) h))
 
--- src/convert.rt:47:9
 returns-2 : tie.Need-returns-2
-returns-2 c = ?
+unfolding room
+returns-2 c =
+    let a = c .before .before .before .before .args in
+    let h : a .source ≤ logLimit = omega arith in
+    let t = c .if2 .taken in
+    rw (le-leb (a .source) logLimit h, lt-leb (lengthBy (a .from) (a .to) (a .source)) logLimit (rw (c .before .before .len .ensures, c .before .len2 .ensures) at t))
 
--- src/convert.rt:39:1
 returns-3 : tie.Need-returns-3
-returns-3 c = ?
+unfolding room
+returns-3 c =
+    let a = c .before .before .before .before .args in
+    let h : a .source ≤ logLimit = omega arith in
+    let t = c .if2 .left in
+    rw (
+      c .before .before .len .ensures,
+      c .before .len2 .ensures,
+      le-leb (a .source) logLimit h,
+      le-leb (lengthBy (a .from) (a .to) (a .source)) logLimit (rw (c .before .before .len .ensures, c .before .len2 .ensures) at t),
+    )
 
 pub has-room-spec : {M : Type 1} → statement M
 has-room-spec =

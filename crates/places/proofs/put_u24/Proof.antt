@@ -6,8 +6,8 @@ use denote.Ref.{now}
 use Rattle.places.specs.Places.{replaced}
 use Rattle.places.proofs.Laws.{put-window}
 use borrow.Author.Needs.{needs}
-use Rattle.places.proofs.put_u16.Statement.{statement}
-use Rattle.places.proofs.put_u16.Tie as tie
+use Rattle.places.proofs.put_u24.Statement.{statement}
+use Rattle.places.proofs.put_u24.Tie as tie
 
 add-end : tie.Need-add-end
 add-end c = search needs
@@ -52,8 +52,8 @@ returns c =
     put-window l (λ i. c .before .before .before .before .before .before .before .slice-known .given i .fits) (end - 3) 3 (omega arith) s w bit v (k .result) (omega arith) (omega arith) (omega arith) r
     (c .before .before .put-three .last .0) (c .before .before .put-three .ensures) (λ i. c .slice-known2 .given i .fits)
 
-pub put-u16-spec : {M : Type 1} → statement M
-put-u16-spec =
+pub put-u24-spec : {M : Type 1} → statement M
+put-u24-spec =
     tie.close
     (tie.spec
     add-end
