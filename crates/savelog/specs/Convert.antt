@@ -5,7 +5,7 @@ use Prim.Native.Nat.{ℕ, _*_, _/_}
 use lib.Dec.{leb, ltb, eqb}
 use lib.ListN.{length, drop}
 use Rattle.numbers.specs.Numbers.{done, wrongLength, damaged}
-use Rattle.savelog.specs.Log.{Form, Rec, widthOf, endOf, logLimit, recordBytes, recordsBy}
+use Rattle.savelog.specs.Log.{Form, Three, Rec, widthOf, endOf, logLimit, recordBytes, recordsBy, allSound, applyAll, oneOf, Outcome, outcome}
 
 -- A record is damaged by its own bits: "which tests no RAM length".
 unfoldable pub undamaged : List Rec → Bool
@@ -50,3 +50,13 @@ conversion from to source target =
     (converted damaged 0 target))
     (converted damaged 0 target))
     (converted wrongLength 0 target)
+
+-- Recovery by the rule that old logs were made for (document 01): records of three bytes, a save of 0, 512, 8,192 or 32,768 bytes.
+unfoldable pub oldSaveLengths : List ℕ
+oldSaveLengths = 0 ∷ 512 ∷ 8192 ∷ 32768 ∷ []
+
+unfoldable pub oldRecovery : List ℕ → List ℕ → Outcome
+oldRecovery save log =
+    cond (oneOf (length save) oldSaveLengths && leb (length log) logLimit)
+    (cond (allSound (length save) (recordsBy Three log)) (outcome done (applyAll save (recordsBy Three log))) (outcome damaged save))
+    (outcome wrongLength save)

@@ -1,3 +1,4 @@
 pub mod Log
 pub mod Convert
 pub mod Laws
+pub mod ConvertLaws

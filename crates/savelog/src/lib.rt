@@ -11,6 +11,7 @@ ghost use Rattle.savelog.specs.Laws.{Corner, AppendLaw, PrefixLaw, Copie
 mod convert;
 
 pub use convert::Converted;
+pub use convert::converters_hold;
 pub use convert::to_new;
 pub use convert::to_old;
 
