@@ -138,8 +138,9 @@ static inline uint16_t pouch_bus_do_hdma(struct pouch_bus *bus)
 #define POUCH_JOURNAL_MARK "PL4\n"
 #define POUCH_JOURNAL_MARK_LEN 4
 
-/* Whether the file begins with the mark, by its first bytes: an empty one gets it, and one that ends within it, as a host killed there leaves it, the rest. */
-static inline bool pouch_journal_begin(int journal)
+/* Whether the file begins with the mark, by its first bytes: an empty one gets it, and one that ends within it, as a host killed there leaves it, the rest. The
+ * file's end is then where it is written. */
+static inline bool pouch_bus_begin(struct pouch_bus *bus, int journal)
 {
     uint8_t there[POUCH_JOURNAL_MARK_LEN];
     size_t at = 0;
@@ -158,8 +159,10 @@ static inline bool pouch_journal_begin(int journal)
     }
     if (lseek(journal, 0, SEEK_END) < 0)
         return false;
+    if (at < POUCH_JOURNAL_MARK_LEN)
+        bus->kept -= bus->kept % POUCH_RECORD_LEN; /* of a record that was cut the part before went with what was emptied: behind the mark it stands whole */
     while (at < POUCH_JOURNAL_MARK_LEN) {
-        n = write(journal, POUCH_JOURNAL_MARK + at, POUCH_JOURNAL_MARK_LEN - at);
+        n = write(journal, &POUCH_JOURNAL_MARK[at], POUCH_JOURNAL_MARK_LEN - at);
         if (n <= 0)
             return false;
         at += POUCH_SIZE(n);
@@ -181,7 +184,7 @@ static inline bool pouch_bus_keep(struct pouch_bus *bus, int journal)
     if (bus->number != POUCH_DONE)
         return false;
     if (!bus->marked || bus->kept < used) {
-        bus->marked = pouch_journal_begin(journal);
+        bus->marked = pouch_bus_begin(bus, journal);
         if (!bus->marked)
             return false;
     }
@@ -235,9 +238,9 @@ static inline uint8_t pouch_bus_recover(uint8_t *save, size_t save_len, const ui
 {
     const size_t most = POUCH_LOG_LEN_MAX / POUCH_RECORD_LEN * POUCH_RECORD_LEN;
     uint8_t number = pouch_recover(save, save_len, journal, 0); /* the save's length, before all else */
-    journal_len = pouch_journal_len(journal, journal_len);
-    if (number == POUCH_DONE && !pouch_journal_marked(journal, journal_len))
+    if (number == POUCH_DONE && !pouch_journal_marked(journal, journal_len)) /* before zeros go: one old record and zeros would be nothing */
         number = POUCH_DAMAGED;
+    journal_len = pouch_journal_len(journal, journal_len);
     for (size_t at = POUCH_JOURNAL_MARK_LEN, part; number == POUCH_DONE && at < journal_len; at += part) {
         part = journal_len - at < most ? journal_len - at : most;
         number = pouch_recover(save, save_len, journal + at, part);

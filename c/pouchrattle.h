@@ -174,7 +174,7 @@ uint8_t pouch_recover(uint8_t *save, size_t save_len, const uint8_t *log, size_t
 /* Converters, for the logs of versions before 3.0 that players have: records of POUCH_OLD_RECORD_LEN bytes in `old`, of POUCH_RECORD_LEN in `log`, each with
  * the address and the value of its fellow, in order. `value` is how many bytes of the target they take; target bytes past them stay. Last bytes of the source
  * that are no whole record, 1 or 2 of an old log, up to 3 of a new one, are dropped. No image and no save is taken, so an address may lie beyond the save that
- * the log is of: recovery tests that.
+ * the log is of: recovery tests that. As nothing lent overlaps, no log is converted in its own place.
  *
  * An undamaged old log of at most 16,383 records goes to the new form and back unchanged. A longer one is converted in parts of whole records, as each part is
  * a log: 49,149 old bytes make 65,532 new ones. An undamaged new log goes back where every address is below 32,768.

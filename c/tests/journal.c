@@ -3,7 +3,6 @@
  * taken for one of this version, nor one of this for one of those. */
 #define _POSIX_C_SOURCE 200809L
 #include "record.h"
-#include <pouch_bus.h>
 #include <errno.h>
 #include <fcntl.h>
 #include <signal.h>
@@ -11,6 +10,25 @@
 #include <stdlib.h>
 #include <string.h>
 #include <sys/resource.h>
+#include <unistd.h>
+
+/* pouch_bus.h reads by this: a read may give fewer bytes than there are, and a signal may end it. */
+static size_t read_most = SIZE_MAX;
+static unsigned signals;
+
+static ssize_t read_some(int file, void *bytes, size_t len)
+{
+    if (signals > 0) {
+        signals--;
+        errno = EINTR;
+        return -1;
+    }
+    return read(file, bytes, len < read_most ? len : read_most);
+}
+
+#define read read_some
+#include <pouch_bus.h>
+#undef read
 
 enum { WRITES = 30000, MARK = POUCH_JOURNAL_MARK_LEN, RECORD = POUCH_RECORD_LEN, OLD = POUCH_OLD_RECORD_LEN };
 
@@ -321,6 +339,18 @@ static void check_mark(const char *path)
             require(ftruncate(file, 0) == 0 && write_number(&bus, 2) == POUCH_DONE && pouch_bus_keep(&bus, file), "a journal that was emptied");
             memcpy(wanted + MARK, records + 2 * RECORD, RECORD);
             require(holds(file, wanted, MARK + RECORD), "begins with the mark again");
+            /* and in the middle of a record, of which the file took one, two or three bytes, or none */
+            for (size_t part = 0; part < RECORD; part++) {
+                const size_t len = (size_t)lseek(file, 0, SEEK_END);
+                require(write_number(&bus, 1) == POUCH_DONE, "a write");
+                allow((rlim_t)(len + part));
+                require(!pouch_bus_keep(&bus, file) && errno == EFBIG, "keep on a full file");
+                require(lseek(file, 0, SEEK_END) == (off_t)(len + part), "part of a record");
+                allow(RLIM_INFINITY);
+                require(ftruncate(file, 0) == 0 && write_number(&bus, 2) == POUCH_DONE && pouch_bus_keep(&bus, file), "a journal that was emptied");
+                memcpy(wanted + MARK, records + RECORD, 2 * RECORD);
+                require(holds(file, wanted, MARK + 2 * RECORD), "has whole records behind its mark");
+            }
             close(file);
             /* one that goes on with another file, where something is new, and after a fresh start */
             for (int again = 0; again < 2; again++) {
@@ -335,6 +365,30 @@ static void check_mark(const char *path)
                 close(file);
             }
         }
+    /* a mark that is read byte by byte, and by a read that a signal ends */
+    int slow = file_with(path, "", 0);
+    read_most = 1;
+    for (uint32_t i = 0; i < 3; i++) {
+        require(write_number(&bus, i) == POUCH_DONE, "a write");
+        signals = 1;
+        require(!pouch_bus_keep(&bus, slow) && errno == EINTR, "a read that a signal ends");
+        require(pouch_bus_keep(&bus, slow), "keep");
+        if (i == 0)
+            require(ftruncate(slow, 0) == 0, path); /* what was left in the log */
+    }
+    memcpy(wanted + MARK, records + RECORD, 2 * RECORD);
+    require(holds(slow, wanted, MARK + 2 * RECORD), "the mark once, and the records");
+    read_most = SIZE_MAX;
+    close(slow);
+    /* a bus that is lent and given an image, with no fresh start */
+    uint8_t image[POUCH_IMAGE_LEN];
+    require(pouch_clear_log(bus.image, sizeof bus.image) == POUCH_DONE, "the log is cleared");
+    memcpy(image, bus.image, sizeof image);
+    lend(&bus, 300);
+    memcpy(bus.image, image, sizeof image);
+    int given = file_with(path, "\x92\x34\x56", OLD);
+    require(!pouch_bus_keep(&bus, given) && errno == EPROTO, "a bus that is lent anew looks again");
+    close(given);
     /* zeros behind a beginning of the mark: recovery takes it, keep does not, as records would stand behind it */
     const char *const spoiled[] = {"P\0\0\0", "PL4\0", "\0\0\0\0", "PL3\n"};
     for (size_t i = 0; i < sizeof spoiled / sizeof *spoiled; i++) {
