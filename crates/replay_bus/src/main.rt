@@ -115,8 +115,9 @@ fn compared(given: Given, room: u16, tally: Tally, taken: Taken) -> State
 
 // The log's length: a fresh bus brings one.
 fn room_of(line: Line, before: u16) -> u16 {
+    let letter = line.letter;
     let given = line.given;
-    match line.letter {
+    match letter {
         b'N' => word(given[4], given[5]),
         _ => before,
     }
