@@ -336,8 +336,8 @@ uint8_t pouch_are_direction_keys_enabled(const uint8_t *image, size_t image_len,
  * pouch_update_timer is given the processor's cycles at either speed; the screen takes half as many at double speed.
  *
  * For a frame: pouch_colors and pouch_oam once, tiles and maps by pouch_read_block or, whichever bank the game has selected, from vram itself, which the host
- * owns. What calls cost beside a read of work memory of 139 instructions: one number set 90 to 104, pouch_host_numbers 159, pouch_host 199, pouch_oam 118,
- * pouch_colors 1,509 (bench/budgets.txt has every call). */
+ * owns. What calls cost beside a read of work memory of 134 instructions: one number set 84 to 98, pouch_host_numbers 151, pouch_host 191, pouch_oam 110,
+ * pouch_colors 1,497 (bench/budgets.txt has every call). */
 
 /* Sets all eight, to any values: screen disabled, scan line, signal, mode, delay, cycles, auxiliary cycles, window line.
  * 0; 4, 3 image. */
