@@ -42,9 +42,9 @@ fn number(fd: i32) -> u64 {
     fd as u64
 }
 
-// To the file's start.
-pub fn again(fd: i32) -> bool {
-    libc::lseek(fd, 0, SEEK_SET) == 0
+// To a place near the file's start.
+pub fn again(fd: i32, at: u16) -> bool {
+    libc::lseek(fd, at as i64, SEEK_SET) == at as i64
 }
 
 // One read: no bytes at the file's end.

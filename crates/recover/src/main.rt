@@ -1,5 +1,6 @@
-// recover [--replace] [--speak] SAVE LOG [NEW]: plays a save log back over a save, shows what that changes, and writes the recovered save to NEW.
+// recover [--replace] [--speak] [--old | --bare] SAVE LOG [NEW]: plays a save log back over a save, shows what that changes, and writes the recovered save to NEW.
 // Everything is decided on what was read, before a byte is written. What is shown is crate recover_text's, what is told recover_messages', recovery savelog's.
+mod begin;
 mod files;
 mod journal;
 mod keep;
@@ -16,6 +17,7 @@ ghost use Prim.Native.Nat.{_≤_};
 ghost use lib.ListN.{length};
 ghost use Rattle.savelog.specs.Log.{saveLimit, saveLengths, oneOf};
 ghost use Rattle.recover_messages.specs.Journal.{Bounded, journalLimit};
+use journal::Log;
 use keep::Kept;
 use place::Place;
 use recover_messages::journal::LIMIT;
@@ -43,16 +45,17 @@ fn taken(asked: Asked, new: Told, len: usize) -> bool {
 }
 
 // Says how the writing of `len` bytes went; where it is done, by the last line.
-fn conclude(asked: Asked, kept: Kept, path: &[u8], len: usize, scan: Scan)
+fn conclude(asked: Asked, kept: Kept, path: &[u8], len: usize, log: Log, scan: Scan)
     requires { ⌜ Bounded scan × (scan .len ≤ journalLimit) ⌝ }
 {
+    let form = log.form;
     match kept {
         Kept::Done => {
-            say::written(scan, asked.new, len);
+            say::written(form, scan, asked.new, len);
         }
         Kept::Unflushed => {
             say::note(Why::Unflushed, asked.new, len);
-            say::written(scan, asked.new, len);
+            say::written(form, scan, asked.new, len);
         }
         Kept::Taken => {
             taken(asked, told::of(path), len);
@@ -87,6 +90,7 @@ fn settle(
     beside: &[u8],
     path: &[u8],
     place: Place,
+    log: Log,
     scan: Scan,
 )
     requires { ⌜ Bounded scan × (scan .len ≤ journalLimit) ⌝ }
@@ -100,6 +104,7 @@ fn settle(
         keep::settle(beside, path, place.free),
         path,
         old.len(),
+        log,
         scan,
     );
 }
@@ -112,12 +117,14 @@ fn finish(
     path: &[u8],
     place: Place,
     save: &[u8],
+    log: Log,
     scan: Scan,
 )
     requires { ⌜ Bounded scan × (scan .len ≤ journalLimit) ⌝ }
 {
     if path.len() == 0 {
-        say::shown(scan);
+        let form = log.form;
+        say::shown(form, scan);
         return;
     }
     let mut name = io::buffer();
@@ -126,7 +133,18 @@ fn finish(
         say::failed(Why::Unwritten, asked.new, save.len());
         return;
     }
-    settle(asked, sources, old, &name[..n], path, place, scan);
+    settle(asked, sources, old, &name[..n], path, place, log, scan);
+}
+
+// What is left out at the end of the log, or of all of it.
+fn say_end(log: Log, scan: Scan) -> bool
+    requires { ⌜ Bounded scan × (scan .len ≤ journalLimit) ⌝ }
+{
+    if log.torn {
+        return say::torn_mark(log.name, log.len);
+    }
+    let form = log.form;
+    say::end(log.name, form, log.before as usize, scan)
 }
 
 // Plays the log over the save and prints what came of it, then goes on to NEW.
@@ -135,62 +153,90 @@ fn recover(
     sources: Sources,
     save: &mut [u8],
     old: &mut [u8],
+    log: Log,
     scan: Scan,
     path: &[u8],
     place: Place,
 )
     requires { ⌜ (oneOf (length (now save)) saveLengths ≡ true) × (Bounded scan × (scan .len ≤ journalLimit)) × (saveLimit ≤ length (now old)) ⌝ }
 {
-    let mut out = show::room();
-    let shown = show::changes(
-        sources.log.fd,
-        asked.log,
-        scan,
-        asked.speak,
-        save,
-        old,
-        &mut out,
-    );
-    if !shown.good {
+    if !show::changes(log, scan, save, old) {
         return;
     }
-    if !say::end(asked.log, scan) {
-        return;
-    }
-    if !say::print(&out, shown.len) {
+    if !say_end(log, scan) {
         return;
     }
     let n = save.len();
-    finish(asked, sources, &old[..n], path, place, save, scan);
+    let printed = show::report(&old[..n], save, asked.speak);
+    if !printed.good {
+        return;
+    }
+    finish(asked, sources, &old[..n], path, place, save, log, scan);
+}
+
+// Whether the scan is of all the log's records, of which there are `len` bytes, and what the mark promises. If not, it is told.
+fn scan_holds(log: Log, scan: Scan, len: usize) -> bool
+    ensures { λ r. ⌜ (r ≡ true → scan .len ≤ journalLimit) ⌝ }
+{
+    if scan.len < len {
+        return false;
+    }
+    if scan.len > len {
+        return say::failed_so(Why::Changed, log.name, log.len);
+    }
+    if scan.len > LIMIT {
+        return say::failed_so(Why::Unread, log.name, log.len);
+    }
+    if log.torn {
+        if scan.end > 0 {
+            return say::failed_so(Why::Unmarked, log.name, log.len);
+        }
+    }
+    say::ends(log.fd, log.name, log.len)
+}
+
+// To the log's records. If it cannot be, it is told.
+fn at_records(log: Log) -> bool {
+    if files::again(log.fd, log.before) {
+        return true;
+    }
+    say::failed_call(Why::Unread, log.name, log.len);
+    false
 }
 
 // Scans the log, all of it or none.
-fn with_scan(asked: Asked, sources: Sources, save: &mut [u8], path: &[u8], place: Place)
+fn with_scan(asked: Asked, sources: Sources, save: &mut [u8], log: Log, path: &[u8], place: Place)
     requires { ⌜ oneOf (length (now save)) saveLengths ≡ true ⌝ }
 {
-    let log = sources.log.fd;
-    let len = sources.log.told.len;
-    let scan = journal::scan(log, asked.log, len);
-    if scan.len < len {
+    let before = log.before as usize;
+    if log.len < before {
+        say::failed(Why::Changed, log.name, log.len);
         return;
     }
-    if scan.len > len {
-        say::failed(Why::Changed, asked.log, len);
+    if !at_records(log) {
         return;
     }
-    if scan.len > LIMIT {
-        say::failed(Why::Unread, asked.log, len);
+    let len = log.len - before;
+    let scan = journal::scan(log, len);
+    if !scan_holds(log, scan, len) {
         return;
     }
-    if !say::ends(log, asked.log, len) {
-        return;
-    }
-    if !files::again(log) {
-        say::failed_call(Why::Unread, asked.log, len);
+    if !at_records(log) {
         return;
     }
     let mut old = [0u8; savelog::SAVE_LIMIT];
-    recover(asked, sources, save, &mut old, scan, path, place);
+    recover(asked, sources, save, &mut old, log, scan, path, place);
+}
+
+// Looks at what the log begins with.
+fn with_begin(asked: Asked, sources: Sources, save: &mut [u8], path: &[u8], place: Place)
+    requires { ⌜ oneOf (length (now save)) saveLengths ≡ true ⌝ }
+{
+    let log = begin::begin(sources.log.fd, asked, sources.log.told.len);
+    if log.fd < 0 {
+        return;
+    }
+    with_scan(asked, sources, save, log, path, place);
 }
 
 // Opens the log, and looks at NEW before anything is done.
@@ -207,7 +253,7 @@ fn with_log(asked: Asked, save: Source, bytes: &mut [u8])
         return;
     }
     let n = place.len;
-    with_scan(
+    with_begin(
         asked,
         Sources {
             save: save,

@@ -1,4 +1,6 @@
 // What is printed: the lines of crate recover_messages, each written whole. But for `usage`, every function tells whether it could be written.
+ghost use mathlib.Core.Bool.{false};
+ghost use mathlib.Core.Path.{_≡_};
 ghost use Prim.Native.Nat.{_≤_};
 ghost use lib.ListN.{length};
 ghost use Rattle.io.specs.Counts.{Counts};
@@ -9,6 +11,7 @@ use libc::STDOUT_FILENO;
 use recover_messages::journal::Scan;
 use recover_messages::message;
 use recover_messages::message::Why;
+use savelog::Form;
 
 // A line's room: the longest name and the most that is said beside one.
 const LINE: usize = 4400;
@@ -59,7 +62,7 @@ fn name_at(i: usize, out: &mut [u8]) -> usize
 pub fn usage() {
     io::write_all(
         STDERR_FILENO,
-        b"usage: recover [--replace] [--speak] SAVE LOG [NEW]\n",
+        b"usage: recover [--replace] [--speak] [--old | --bare] SAVE LOG [NEW]\n",
     );
     io::write_all(STDOUT_FILENO, b"failed: usage\n");
 }
@@ -71,6 +74,14 @@ pub fn failed(why: Why, i: usize, len: usize) -> bool {
     let mut line = [0u8; LINE];
     let m = message::failed(&mut line, why, &name[..n], len as u64);
     print(&line, m)
+}
+
+// The same, for a caller that then says no.
+pub fn failed_so(why: Why, i: usize, len: usize) -> bool
+    ensures { λ r. ⌜ r ≡ false ⌝ }
+{
+    failed(why, i, len);
+    false
 }
 
 // The same after a call that failed: what the system says of it goes to standard error.
@@ -110,44 +121,53 @@ pub fn wrong_length(i: usize, len: usize) -> bool {
     print(&line, m)
 }
 
-// What is left out at the end of the log.
-pub fn end(i: usize, s: Scan) -> bool
-    requires { ⌜ Bounded s × (s .len ≤ journalLimit) ⌝ }
+// What is left out at the end of the log, which has so many bytes before its records.
+pub fn end(i: usize, form: Form, before: usize, s: Scan) -> bool
+    requires { ⌜ Bounded s × (s .len ≤ journalLimit) × (before ≤ journalLimit) ⌝ }
 {
     let mut name = io::buffer();
     let n = name_at(i, &mut name);
     let mut line = [0u8; LINE];
-    let m = message::end(&mut line, &name[..n], s);
+    let m = message::end(&mut line, &name[..n], form, before, s);
+    print(&line, m)
+}
+
+// What is left out of a log of `len` bytes whose mark is torn.
+pub fn torn_mark(i: usize, len: usize) -> bool {
+    let mut name = io::buffer();
+    let n = name_at(i, &mut name);
+    let mut line = [0u8; LINE];
+    let m = message::torn_mark(&mut line, &name[..n], len as u64);
     print(&line, m)
 }
 
 // The first damaged record of a part of a log of `len` bytes; s is the scan before the part.
-pub fn damage(i: usize, len: usize, s: Scan, part: &[u8], ram: usize) -> bool
+pub fn damage(i: usize, form: Form, len: usize, s: Scan, part: &[u8], ram: usize) -> bool
     requires { ⌜ s .len ≤ journalLimit ⌝ }
 {
     let mut name = io::buffer();
     let n = name_at(i, &mut name);
     let mut line = [0u8; LINE];
-    let m = message::damage(&mut line, &name[..n], len, s, part, ram);
+    let m = message::damage(&mut line, &name[..n], form, len, s, part, ram);
     print(&line, m)
 }
 
 // The last line, where NEW is written with so many bytes.
-pub fn written(s: Scan, i: usize, len: usize) -> bool
+pub fn written(form: Form, s: Scan, i: usize, len: usize) -> bool
     requires { ⌜ Bounded s × (s .len ≤ journalLimit) ⌝ }
 {
     let mut name = io::buffer();
     let n = name_at(i, &mut name);
     let mut line = [0u8; LINE];
-    let m = message::written(&mut line, s, &name[..n], len as u64);
+    let m = message::written(&mut line, form, s, &name[..n], len as u64);
     print(&line, m)
 }
 
 // The last line, where no NEW is named.
-pub fn shown(s: Scan) -> bool
+pub fn shown(form: Form, s: Scan) -> bool
     requires { ⌜ Bounded s × (s .len ≤ journalLimit) ⌝ }
 {
     let mut line = [0u8; LINE];
-    let m = message::shown(&mut line, s);
+    let m = message::shown(&mut line, form, s);
     print(&line, m)
 }

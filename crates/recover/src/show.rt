@@ -1,57 +1,109 @@
-// The log played over the save, and all that this changes, put into one lent buffer before a line of it is printed.
+// The log played over the save; and then all that this changes, printed in parts, as the report of the longest save is longer than a buffer should be.
 ghost use mathlib.Core.Bool.{true};
 ghost use mathlib.Core.Path.{_≡_};
 ghost use Prim.Native.Nat.{_≤_};
 ghost use lib.ListN.{length, take};
 ghost use Rattle.savelog.specs.Log.{saveLimit, saveLengths, oneOf};
-ghost use Rattle.recover_text.specs.Text.{Put};
-ghost use Rattle.recover_text.specs.Report.{report, reportRoom};
+ghost use Rattle.recover_text.specs.Rows.{Rows};
+ghost use Rattle.recover_text.specs.Report.{hexRows, heardRows, report};
 ghost use Rattle.recover_messages.specs.Journal.{Bounded, journalLimit, keptOf, Played};
 use crate::files;
 use crate::journal;
+use crate::journal::Log;
+use crate::say;
 use recover_messages::journal::Scan;
-use recover_text::report;
+use recover_text::rows;
+use recover_text::speak;
 
-// The room for every row of the longest save: 2,048 rows.
-pub const ROOM: usize = 1122704;
+// The bytes of a part of the report.
+const ROOM: usize = 65536;
 
-// The bytes of the report; `good`: the log was played.
-pub struct Shown {
+// How many bytes were printed; `good`: all of them could be.
+pub struct Printed {
     pub good: bool,
     pub len: usize,
 }
 
-// An array of that length, as a value: written out where it is used, it is too long for the prover.
-pub fn room() -> [u8; ROOM] {
-    [0u8; ROOM]
+// Plays the log over the save, of which a copy is made in `old`: whether it could be played. If not, it is told.
+pub fn changes(log: Log, scan: Scan, save: &mut [u8], old: &mut [u8]) -> bool
+    requires { ⌜ (oneOf (length (now save)) saveLengths ≡ true) × (Bounded scan × (scan .len ≤ journalLimit)) × (saveLimit ≤ length (now old)) ⌝ }
+    ensures { λ r. ⌜ (r ≡ true → Played (log .form) (keptOf (log .form) scan) scan (now (save .entry)) (now (save .exit))
+        × (take (length (now (save .entry))) (now (old .exit)) ≡ now (save .entry))) ⌝ }
+{
+    files::copied(save, old);
+    journal::play_all(log, save, scan)
 }
 
-// Plays the log over the save, of which a copy is made in `old`. The report says what changed from the save as it was to the save as it is.
-pub fn changes(
-    fd: i32,
-    log: usize,
-    scan: Scan,
-    speak: bool,
-    save: &mut [u8],
-    old: &mut [u8],
-    out: &mut [u8],
-) -> Shown
-    requires { ⌜ (oneOf (length (now save)) saveLengths ≡ true) × (Bounded scan × (scan .len ≤ journalLimit))
-        × ((saveLimit ≤ length (now old)) × (reportRoom 2048 ≤ length (now out))) ⌝ }
-    ensures { λ r. ⌜ (r .good ≡ true → Played (keptOf scan) scan (now (save .entry)) (now (save .exit))
-        × (Put (now (out .entry)) 0 (report speak (now (save .entry)) (now (save .exit))) (now (out .exit)) (r .len)
-        × (take (length (now (save .entry))) (now (old .exit)) ≡ now (save .entry)))) ⌝ }
+// The rows in hex, part by part.
+fn print_rows(old: &[u8], new: &[u8]) -> Printed
+    requires { ⌜ Rows (now old) (now new) 0 ⌝ }
+    ensures { λ r. ⌜ (r .good ≡ true → r .len ≡ length (hexRows (now (old .entry)) (now (new .entry)))) ⌝ }
 {
-    let n = files::copied(save, old);
-    if !journal::play_all(fd, log, save, scan) {
-        return Shown {
-            good: false,
-            len: 0,
-        };
+    let mut out = [0u8; ROOM];
+    let count = old.len() / rows::ROW;
+    let mut from = 0;
+    let mut len = 0;
+    while from < count {
+        let part = rows::rows(old, new, from, &mut out);
+        if !say::print(&out, part.len) {
+            return Printed {
+                good: false,
+                len: len,
+            };
+        }
+        len += part.len;
+        from = part.next;
     }
-    let len = report::report(&old[..n], save, speak, out);
-    Shown {
+    Printed {
         good: true,
         len: len,
+    }
+}
+
+// What is heard of the rows, part by part.
+fn print_heard(old: &[u8], new: &[u8]) -> Printed
+    requires { ⌜ Rows (now old) (now new) 0 ⌝ }
+    ensures { λ r. ⌜ (r .good ≡ true → r .len ≡ length (heardRows (now (old .entry)) (now (new .entry)))) ⌝ }
+{
+    let mut out = [0u8; ROOM];
+    let count = old.len() / rows::ROW;
+    let mut from = 0;
+    let mut len = 0;
+    while from < count {
+        let part = speak::spoken(old, new, from, &mut out);
+        if !say::print(&out, part.len) {
+            return Printed {
+                good: false,
+                len: len,
+            };
+        }
+        len += part.len;
+        from = part.next;
+    }
+    Printed {
+        good: true,
+        len: len,
+    }
+}
+
+// Prints the report on what changed: as many bytes as it has.
+pub fn report(old: &[u8], new: &[u8], speak: bool) -> Printed
+    requires { ⌜ Rows (now old) (now new) 0 ⌝ }
+    ensures { λ r. ⌜ (r .good ≡ true → r .len ≡ length (report speak (now (old .entry)) (now (new .entry)))) ⌝ }
+{
+    if speak {
+        return print_heard(old, new);
+    }
+    let front = print_rows(old, new);
+    if !front.good {
+        return front;
+    }
+    let back = print_heard(old, new);
+    if !back.good {
+        return back;
+    }
+    Printed {
+        good: true,
+        len: front.len + back.len,
     }
 }

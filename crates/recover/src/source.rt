@@ -52,7 +52,7 @@ pub fn stands(source: Source, i: usize) -> bool {
 pub fn holds(source: Source, i: usize, bytes: &[u8]) -> bool {
     let fd = source.fd;
     let mut buf = [0u8; savelog::SAVE_LIMIT + 1];
-    if !files::again(fd) {
+    if !files::again(fd, 0) {
         say::failed_call(Why::Unread, i, bytes.len());
         return false;
     }

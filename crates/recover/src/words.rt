@@ -6,6 +6,8 @@ pub struct Asked {
     pub good: bool,
     pub replace: bool,
     pub speak: bool,
+    pub old: bool,
+    pub bare: bool,
     pub save: usize,
     pub log: usize,
     pub new: usize,
@@ -14,6 +16,8 @@ pub struct Asked {
 pub enum Word {
     Replace,
     Speak,
+    Old,
+    Bare,
     Name,
     Wrong,
 }
@@ -34,6 +38,12 @@ fn word_of(text: &[u8]) -> Word {
     }
     if check::same(text, b"--speak") {
         return Word::Speak;
+    }
+    if check::same(text, b"--old") {
+        return Word::Old;
+    }
+    if check::same(text, b"--bare") {
+        return Word::Bare;
     }
     if begins_with_dashes(text) {
         return Word::Wrong;
@@ -60,6 +70,8 @@ impl Asked {
             good: true,
             replace: false,
             speak: false,
+            old: false,
+            bare: false,
             save: 0,
             log: 0,
             new: 0,
@@ -94,6 +106,14 @@ impl Asked {
                 self.speak = true;
                 self
             }
+            Word::Old => {
+                self.old = true;
+                self
+            }
+            Word::Bare => {
+                self.bare = true;
+                self
+            }
             Word::Name => self.named(i),
             Word::Wrong => {
                 self.good = false;
@@ -102,8 +122,13 @@ impl Asked {
         }
     }
 
-    // Both files are needed, and a file to replace where that is allowed.
+    // Both files are needed, and a file to replace where that is allowed. A log is read in one way.
     fn whole(self) -> bool {
+        if self.old {
+            if self.bare {
+                return false;
+            }
+        }
         if self.log == 0 {
             return false;
         }

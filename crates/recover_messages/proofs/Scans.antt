@@ -1,6 +1,6 @@
 -- The scan of a journal, in parts and as a whole; the records before the first damaged one.
 use mathlib.Core.Bool.{Bool, true, false, cond}
-use mathlib.Core.Path.{_≡_, refl}
+use mathlib.Core.Path.{_≡_, refl, ap, _∙_}
 use mathlib.Core.List.{List, [], _∷_}
 use Prim.Native.Nat.{ℕ, zero, suc, _+_, _-_, _*_, _/_, _%_, _≤_, _<_}
 use native.Mathlib.Numerals.{add-one}
@@ -8,9 +8,11 @@ use native.Mathlib.Omega.{arith}
 use lib.Dec.{ltb, eqb}
 use lib.ListN.{length, getD, take, drop, List·getD-eq-default}
 use lib.Seq.{drop-cons, drop-length}
-use borrow.Author.Tests.{ltb-false, eqb-true, eqb-false, ne-eqb}
+use borrow.Author.Tests.{ltb-false, lt-ltb, le-ltb, eqb-true, eqb-false, ne-eqb}
 use Rattle.rules.proofs.Tests.{cond-both}
-use Rattle.savelog.specs.Log.{width, recordOf, soundRecord, records}
+use Rattle.savelog.specs.Log.{widthOf, recordOf, soundRecord, recordsBy}
+use Rattle.savelog.specs.declared.Form.{Form}
+use Rattle.savelog.specs.declared.Form.the-variants.{Three, Four}
 use Rattle.savelog.proofs.Laws.{records-step, records-end}
 use Rattle.savelog.specs.declared.Rec.{Rec}
 use Rattle.recover_messages.specs.declared.journal.Scan.{Scan}
@@ -111,29 +113,46 @@ unfolding soundFirst
 first-within ram [] = omega arith
 first-within ram (r ∷ rs) = within-more (soundRecord ram r) (soundFirst ram rs) (length rs) (first-within ram rs)
 
-module _ (ram : ℕ) (l : List ℕ) (i : ℕ) where
+module _ (f : Form) (ram : ℕ) (l : List ℕ) (i : ℕ) where
   -- a turn over the record at i
-  pub first-stops : i + width ≤ length l → soundRecord ram (recordOf (take width (drop i l))) ≡ false → soundFirst ram (records (drop i l)) ≡ 0
+  pub first-stops : i + widthOf f ≤ length l → soundRecord ram (recordOf f (take (widthOf f) (drop i l))) ≡ false → soundFirst ram (recordsBy f (drop i l)) ≡ 0
   unfolding soundFirst
-  first-stops h e = rw (records-step l i h, e)
+  first-stops h e = rw (records-step f l i h, e)
 
-  pub first-goes : i + width ≤ length l → soundRecord ram (recordOf (take width (drop i l))) ≡ true
-      → soundFirst ram (records (drop i l)) ≡ suc (soundFirst ram (records (drop (i + width) l)))
+  pub first-goes : i + widthOf f ≤ length l → soundRecord ram (recordOf f (take (widthOf f) (drop i l))) ≡ true
+      → soundFirst ram (recordsBy f (drop i l)) ≡ suc (soundFirst ram (recordsBy f (drop (i + widthOf f) l)))
   unfolding soundFirst
-  first-goes h e = rw (records-step l i h, e)
+  first-goes h e = rw (records-step f l i h, e)
 
-  pub first-ends : length l - i < width → soundFirst ram (records (drop i l)) ≡ 0
+  pub first-ends : length l - i < widthOf f → soundFirst ram (recordsBy f (drop i l)) ≡ 0
   unfolding soundFirst
-  first-ends h = rw (records-end l i h)
+  first-ends h = rw (records-end f l i h)
+
+-- a form's width is three or four, and whole records are no more than all
+pub width-within : (f : Form) → (3 ≤ widthOf f) × (widthOf f ≤ 4)
+width-within Three = (omega arith, omega arith)
+width-within Four = (omega arith, omega arith)
+
+pub whole-less : (f : Form) (n : ℕ) → n / widthOf f * widthOf f ≤ n
+whole-less Three n = omega arith
+whole-less Four n = omega arith
+
+pub inside : (f : Form) (n len : ℕ) → n < len / widthOf f → n * widthOf f + widthOf f ≤ len
+inside Three n len h = omega arith
+inside Four n len h = omega arith
 
 -- what of a journal is kept
-kept-more : (len e : ℕ) (b : Bool) → ltb ((e + width - 1) / width * width) len ≡ b → e ≤ len
-    → (cond b (e / width * width) len ≤ len)
-    × ((i : ℕ) → i * width + width ≤ cond b (e / width * width) len → i * width < e)
-    × (cond b (e / width * width) len < len
-    → (cond b (e / width * width) len % width ≡ 0) × (cond b (e / width * width) len ≤ e) × (e < cond b (e / width * width) len + width))
-kept-more len e true t h = (omega arith, (λ i g. omega arith), λ g. (omega arith, omega arith, omega arith))
-kept-more len e false t h = (omega arith, (λ i g. omega (arith, ltb-false ((e + width - 1) / width * width) len t)), λ g. absurd (omega arith))
+kept-more : (f : Form) (len e : ℕ) (b : Bool) → ltb ((e + widthOf f - 1) / widthOf f * widthOf f) len ≡ b → e ≤ len
+    → (cond b (e / widthOf f * widthOf f) len ≤ len)
+    × ((i : ℕ) → i * widthOf f + widthOf f ≤ cond b (e / widthOf f * widthOf f) len → i * widthOf f < e)
+    × (cond b (e / widthOf f * widthOf f) len < len
+    → (cond b (e / widthOf f * widthOf f) len % widthOf f ≡ 0)
+    × (cond b (e / widthOf f * widthOf f) len ≤ e)
+    × (e < cond b (e / widthOf f * widthOf f) len + widthOf f))
+kept-more Three len e true t h = (omega arith, (λ i g. omega arith), λ g. (omega arith, omega arith, omega arith))
+kept-more Three len e false t h = (omega arith, (λ i g. omega (arith, ltb-false ((e + 3 - 1) / 3 * 3) len t)), λ g. absurd (omega arith))
+kept-more Four len e true t h = (omega arith, (λ i g. omega arith), λ g. (omega arith, omega arith, omega arith))
+kept-more Four len e false t h = (omega arith, (λ i g. omega (arith, ltb-false ((e + 4 - 1) / 4 * 4) len t)), λ g. absurd (omega arith))
 
 end-more : (p q : Bool) (n m : ℕ) → n ≤ m → cond p (cond q 0 1) (suc n) ≤ suc m
 end-more true true n m h = omega arith
@@ -147,4 +166,17 @@ end-within (b ∷ j) = end-more (eqb (endOf j) 0) (eqb b 0) (endOf j) (length j)
 
 pub keeps : KeptLaw
 unfolding kept
-keeps j = kept-more (length j) (endOf j) (ltb ((endOf j + width - 1) / width * width) (length j)) refl (end-within j)
+keeps f j = kept-more f (length j) (endOf j) (ltb ((endOf j + widthOf f - 1) / widthOf f * widthOf f) (length j)) refl (end-within j)
+
+-- by the numbers that the code has worked out: w is the width, r the records up to the next place, n their bytes
+module _ (f : Form) (len e w r n : ℕ) (a : w ≡ widthOf f) (b : r ≡ (e + w - 1) / widthOf f) (c : n ≡ r * widthOf f) where
+  next-place : n ≡ (e + widthOf f - 1) / widthOf f * widthOf f
+  next-place = c ∙ ap (λ x. x * widthOf f) (b ∙ ap (λ x. (e + x - 1) / widthOf f) a)
+
+  pub keeps-less : (r′ n′ : ℕ) → n < len → r′ ≡ e / widthOf f → n′ ≡ r′ * widthOf f → n′ ≡ kept f len e
+  unfolding kept
+  keeps-less r′ n′ h d g = rw (← next-place, lt-ltb n len h, ← d, g)
+
+  pub keeps-all : len ≤ n → len ≡ kept f len e
+  unfolding kept
+  keeps-all h = rw (← next-place, le-ltb n len h)

@@ -1,3 +1,4 @@
 pub mod Journal
+pub mod Mark
 pub mod Words
 pub mod Messages

@@ -6,13 +6,14 @@ use Prim.Native.Nat.{ℕ, zero, suc, _+_, _<_}
 use native.Mathlib.Decide.{decLt}
 use native.Mathlib.Omega.{arith}
 use lib.Dec.{eqb}
-use lib.ListN.{length, getD}
+use lib.ListN.{length, getD, length-append}
 use lib.Seq.{ext-getD}
 use borrow.Author.Tests.{eq-eqb, eqb-true}
 use Rattle.rules.proofs.Tests.{untrue}
-use Rattle.recover_text.specs.Text.{numbered}
+use Rattle.recover_text.specs.Text.{numbered, addressText}
 use Rattle.recover_text.specs.Rows.{rowBytes, sameBytes, PartsLaw}
 use Rattle.recover_text.specs.Speak.{said, textLine, byteLine, tells, byteHeard, byteLines, heard, HeardLaw}
+use Rattle.recover_text.proofs.Lines.{address-length}
 use Rattle.recover_text.proofs.Same.{told-same}
 
 pub parts : PartsLaw
@@ -52,8 +53,16 @@ not-told : (o n : ℕ) → tells true o n ≡ false → o ≡ n
 unfolding tells
 not-told o n e = eqb-true o n (untold (eqb o n) e)
 
+-- what begins with an address is not empty
+not-silent : (at : ℕ) (a b : List ℕ) → (addressText at ++ a) ++ b ≡ [] → ⊥
+not-silent at a b e =
+    let l : length ((addressText at ++ a) ++ b) ≡ 0 = ap length e in
+    let m = length-append (addressText at ++ a) b in
+    let n = length-append (addressText at) a in
+    omega (arith, address-length at .0)
+
 silent-line : (t : Bool) (at o n : ℕ) → cond t (byteLine at o n) [] ≡ [] → t ≡ false
-silent-line true at o n e = absurd (let l : length (byteLine at o n) ≡ 0 = ap length e in omega arith)
+silent-line true at o n e = absurd (not-silent at _ _ e)
 silent-line false at o n e = refl
 
 silent-byte : (at o n : ℕ) → byteHeard true at o n ≡ [] → o ≡ n
@@ -74,7 +83,7 @@ silent-row true at old new h k e =
     (rw z at (silent (λ j. byteHeard true (at + j) (getD old j 0) (getD new j 0)) rowBytes e i (omega arith))))
 silent-row false at old new h k e =
     let t = both-empty (textLine at (said old) (said new)) (byteLines false at old new) e in
-    absurd (let l : length (textLine at (said old) (said new)) ≡ 0 = ap length (t .0) in omega arith)
+    absurd (not-silent at _ _ (t .0))
 
 silent-same : (at : ℕ) (old new : List ℕ) → old ≡ new → heard at old new ≡ []
 unfolding heard

@@ -9,9 +9,10 @@ use lib.Dec.{eqb}
 use lib.ListN.{length, take, getD, length-append}
 use lib.Seq.{take-suc}
 use borrow.Author.Tests.{eq-eqb, ne-eqb}
-use Rattle.recover_text.specs.Text.{numbered}
+use Rattle.recover_text.specs.Text.{numbered, addressText}
 use Rattle.recover_text.specs.Rows.{rowBytes}
-use Rattle.recover_text.specs.Speak.{inWord, stepText, stepPlace, words, said, nothing, orNothing, textLine, byteLine, tells, byteHeard, byteLines, heard}
+use Rattle.recover_text.specs.Speak.{inWord, stepText, stepPlace, words, said, nothing, becomes, orNothing, place, textLine, byteLine, tells, byteHeard, byteLines, heard}
+use Rattle.recover_text.proofs.Lines.{address-length}
 use Rattle.recover_text.proofs.Same.{told-same, told-other}
 
 -- a byte that is no character of a word, before the first word and behind one; one that is, behind a word and elsewhere
@@ -108,27 +109,34 @@ pub heard-none : (every : Bool) (at o n : ℕ) → tells every o n ≡ false →
 unfolding byteHeard
 heard-none every at o n e = rw e
 
-byte-length : (every : Bool) (at o n : ℕ) → length (byteHeard every at o n) ≤ 20
+place-length : (at : ℕ) → length (place at) ≤ 7
+place-length at = rw (length-append (addressText at)) (omega (arith, address-length at .1))
+
+byte-line-length : (at o n : ℕ) → length (byteLine at o n) ≤ 21
+byte-line-length at o n = rw (length-append (place at)) (omega (arith, place-length at))
+
+byte-length : (every : Bool) (at o n : ℕ) → length (byteHeard every at o n) ≤ 21
 unfolding byteHeard
 byte-length every at o n = pick (tells every o n)
   where
-    pick : (b : Bool) → length (cond b (byteLine at o n) []) ≤ 20
-    pick true = omega arith
+    pick : (b : Bool) → length (cond b (byteLine at o n) []) ≤ 21
+    pick true = byte-line-length at o n
     pick false = omega arith
 
 pub lines-length : (every : Bool) (at : ℕ) (old new : List ℕ) (n : ℕ)
-    → length (numbered (λ i. byteHeard every (at + i) (getD old i 0) (getD new i 0)) 0 n) ≤ 20 * n
+    → length (numbered (λ i. byteHeard every (at + i) (getD old i 0) (getD new i 0)) 0 n) ≤ 21 * n
 unfolding numbered
 lines-length every at old new zero = omega arith
 lines-length every at old new (suc n) =
     rw (length-append (numbered (λ i. byteHeard every (at + i) (getD old i 0) (getD new i 0)) 0 n) (byteHeard every (at + (0 + n)) (getD old (0 + n) 0) (getD new (0 + n) 0)))
     (omega (arith, byte-length every (at + (0 + n)) (getD old (0 + n) 0) (getD new (0 + n) 0), lines-length every at old new n))
 
-pub text-length : (at : ℕ) (a b : List ℕ) → length a ≤ 32 → length b ≤ 32 → length (textLine at a b) ≤ 80
+pub text-length : (at : ℕ) (a b : List ℕ) → length a ≤ 32 → length b ≤ 32 → length (textLine at a b) ≤ 81
 text-length at a b h k =
-    let n = length-append (orNothing a) ((32 ∷ 98 ∷ 101 ∷ 99 ∷ 111 ∷ 109 ∷ 101 ∷ 115 ∷ 32 ∷ []) ++ (orNothing b ++ (10 ∷ []))) in
+    let l = length-append (place at) (orNothing a ++ (becomes ++ (orNothing b ++ (10 ∷ [])))) in
+    let n = length-append (orNothing a) (becomes ++ (orNothing b ++ (10 ∷ []))) in
     let m = length-append (orNothing b) (10 ∷ []) in
-    omega (arith, said-length a h, said-length b k)
+    omega (arith, place-length at, said-length a h, said-length b k)
 
 -- a row, of which a and b are the texts
 module _ (at : ℕ) (old new a b : List ℕ) (e : a ≡ said old) (f : b ≡ said new) where
@@ -145,6 +153,6 @@ pub lines-all : (every : Bool) (at : ℕ) (old new : List ℕ) (i : ℕ) → i �
 lines-all every at old new i e = rw e
 
 pub text-line-length : (at : ℕ) (a b old new : List ℕ) → a ≡ said old → b ≡ said new → length old ≡ rowBytes → length new ≡ rowBytes
-    → length (textLine at a b) ≤ 80
+    → length (textLine at a b) ≤ 81
 text-line-length at a b old new e f h k =
     text-length at a b (omega (arith, ap length e, words-length 0 old)) (omega (arith, ap length f, words-length 0 new))

@@ -1,4 +1,4 @@
--- All rows at once: a buffer with room for each of them has them all. And the rows of whole rows are all of a save.
+-- How long all rows' texts are. And the rows of whole rows are all of a save.
 use mathlib.Core.Bool.{Bool, true, false, cond}
 use mathlib.Core.Path.{_≡_, refl, sym, _∙_}
 use mathlib.Core.List.{List, [], _++_, append-nil}
@@ -24,35 +24,6 @@ numbered-length f room (suc n) h =
     rw (length-append (numbered f 0 n) (f (0 + n)), mul-suc room n, z)
     (omega (arith, h n (omega arith), numbered-length f room n (λ k l. h k (omega arith))))
 
--- with that room all rows are shown
-pub all-shown : (lines : List ℕ → List ℕ → ℕ → List ℕ) (room : ℕ) (old new o o′ : List ℕ) (p : Part) → Shows lines room old new 0 o o′ p
-    → ((k : ℕ) → k < rowCount old → length (lines old new k) ≤ room) → room * rowCount old + room ≤ length o
-    → Put o 0 (numbered (lines old new) 0 (rowCount old)) o′ (p .len)
-all-shown lines room old new o o′ p s h r =
-    let z : p .next - 0 ≡ p .next = omega arith in
-    let t : Put o 0 (numbered (lines old new) 0 (p .next)) o′ (p .len) = rw z at (s .text) in
-    let w = s .within in
-    let l = numbered-length (lines old new) room (p .next) (λ k g. h k (omega arith)) in
-    let m : room * p .next ≤ room * rowCount old = mul-le-mul-left room w in
-    let e : p .next ≡ rowCount old = s .full (omega (arith, t .ends)) in
-    rw e at t
-
--- a text put at the start of the rest of a buffer
-pub put-part : (o l t : List ℕ) (at e : ℕ) → at ≤ length o → Put (take (length o - at) (drop at o)) 0 t l e
-    → Put o at t (take at o ++ (l ++ drop (length o - at) (drop at o))) (at + e)
-put-part o l t at e h p =
-    let d = length-drop at o in
-    let r : drop (length o - at) (drop at o) ≡ [] = drop-of-length-le (drop at o) {i = length o - at} (omega arith) in
-    let m : take (length o - at) (drop at o) ≡ drop at o = take-all (length o - at) (drop at o) (omega arith) in
-    let q : Put (drop at o) 0 t l e = rw m at p in
-    let f = q .fits in
-    let g = q .ends in
-    record {
-      fits = omega arith;
-      ends = omega arith;
-      bytes = rw (r, append-nil l, q .bytes, drop-drop e at o);
-    }
-
 -- a row's length, and its texts'
 row-is : (k : ℕ) (s : List ℕ) → k < rowCount s → length (row k s) ≡ rowBytes
 row-is k s h = let d = length-drop (k * rowBytes) s in length-take-le rowBytes (drop (k * rowBytes) s) (omega arith)
@@ -71,12 +42,8 @@ module _ (old new : List ℕ) (rows : Rows old new 0) (k : ℕ) (h : k < rowCoun
       pick : (b : Bool) → length (cond b [] (rowLine 45 (k * rowBytes) (row k old) ++ rowLine 43 (k * rowBytes) (row k new))) ≤ rowRoom
       pick true = omega arith
       pick false =
-          rw (
-            length-append (rowLine 45 (k * rowBytes) (row k old)) (rowLine 43 (k * rowBytes) (row k new)),
-            line-length 45 (k * rowBytes) (row k old) old-row,
-            line-length 43 (k * rowBytes) (row k new) new-row,
-          )
-          (omega arith)
+          rw (length-append (rowLine 45 (k * rowBytes) (row k old)) (rowLine 43 (k * rowBytes) (row k new)))
+          (omega (arith, line-length 45 (k * rowBytes) (row k old) old-row, line-length 43 (k * rowBytes) (row k new) new-row))
 
   pub heard-fits : length (rowHeard old new k) ≤ heardRoom
   unfolding heard
@@ -93,17 +60,11 @@ module _ (old new : List ℕ) (rows : Rows old new 0) (k : ℕ) (h : k < rowCoun
             lines-length false (k * rowBytes) (row k old) (row k new) rowBytes,
           ))
 
--- all of them in hex, all of them heard
-pub all-in-hex : (old new o o′ : List ℕ) (p : Part) → Rows old new 0 → Shows rowLines rowRoom old new 0 o o′ p → rowRoom * rowCount old + rowRoom ≤ length o
-    → Put o 0 (hexRows old new) o′ (p .len)
-all-in-hex old new o o′ p rows s r = all-shown rowLines rowRoom old new o o′ p s (lines-fit old new rows) r
-
-pub all-heard : (old new o o′ : List ℕ) (p : Part) → Rows old new 0 → Shows rowHeard heardRoom old new 0 o o′ p
-    → heardRoom * rowCount old + heardRoom ≤ length o → Put o 0 (heardRows old new) o′ (p .len)
-all-heard old new o o′ p rows s r = all-shown rowHeard heardRoom old new o o′ p s (heard-fits old new rows) r
-
 pub hex-length : (old new : List ℕ) → Rows old new 0 → length (hexRows old new) ≤ rowRoom * rowCount old
 hex-length old new rows = numbered-length (rowLines old new) rowRoom (rowCount old) (lines-fit old new rows)
+
+pub heard-length : (old new : List ℕ) → Rows old new 0 → length (heardRows old new) ≤ heardRoom * rowCount old
+heard-length old new rows = numbered-length (rowHeard old new) heardRoom (rowCount old) (heard-fits old new rows)
 
 pub heard-alone : (speak : Bool) (old new : List ℕ) → speak ≡ true → heardRows old new ≡ report speak old new
 unfolding report
@@ -124,13 +85,3 @@ first-rows s (suc n) =
 
 pub rows-are-all : RowsLaw
 rows-are-all s e = first-rows s (rowCount s) ∙ take-all (rowCount s * rowBytes) s (omega arith)
-
--- what is heard, behind what is there
-pub heard-behind : (old new o l : List ℕ) (at : ℕ) (p : Part) → Rows old new 0 → at + rowCount old * heardRoom + heardRoom ≤ length o
-    → Shows rowHeard heardRoom old new 0 (take (length o - at) (drop at o)) l p
-    → Put o at (heardRows old new) (take at o ++ (l ++ drop (length o - at) (drop at o))) (at + p .len)
-heard-behind old new o l at p rows r s =
-    let d = length-drop at o in
-    let n : length (take (length o - at) (drop at o)) ≡ length o - at = length-take-le (length o - at) (drop at o) (omega arith) in
-    put-part o l (heardRows old new) at (p .len) (omega arith)
-    (all-heard old new (take (length o - at) (drop at o)) l p rows s (omega arith))

@@ -1,10 +1,10 @@
 -- All that is shown of what recovery changed.
 use mathlib.Core.Bool.{Bool, cond}
 use mathlib.Core.List.{List, _++_}
-use Prim.Native.Nat.{ℕ, _+_, _*_}
+use Prim.Native.Nat.{ℕ}
 use Rattle.recover_text.specs.Text.{numbered}
-use Rattle.recover_text.specs.Rows.{rowCount, rowLines, rowRoom}
-use Rattle.recover_text.specs.Speak.{rowHeard, heardRoom}
+use Rattle.recover_text.specs.Rows.{rowCount, rowLines}
+use Rattle.recover_text.specs.Speak.{rowHeard}
 
 -- every row's lines, in hex and to be heard
 abbrev pub hexRows : List ℕ → List ℕ → List ℕ
@@ -16,7 +16,3 @@ heardRows old new = numbered (rowHeard old new) 0 (rowCount old)
 -- what is heard alone, where that is asked for; else behind the rows in hex
 unfoldable pub report : Bool → List ℕ → List ℕ → List ℕ
 report speak old new = cond speak (heardRows old new) (hexRows old new ++ heardRows old new)
-
--- a buffer for so many rows, with one row's room more
-abbrev pub reportRoom : ℕ → ℕ
-reportRoom rows = rows * (rowRoom + heardRoom) + heardRoom

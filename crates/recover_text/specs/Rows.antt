@@ -5,8 +5,7 @@ use mathlib.Core.Path.{_≡_}
 use Prim.Native.Nat.{ℕ, _+_, _-_, _*_, _/_, _≤_, _<_}
 use lib.Dec.{eqb}
 use lib.ListN.{length, take, drop}
-use Rattle.lines.specs.Text.{indexText}
-use Rattle.recover_text.specs.Text.{Put, numbered, hexes, shownAll}
+use Rattle.recover_text.specs.Text.{Put, numbered, addressText, hexes, shownAll}
 use Rattle.recover_text.specs.declared.rows.Part.{Part}
 
 abbrev pub rowBytes : ℕ
@@ -21,7 +20,7 @@ rowCount s = length s / rowBytes
 
 -- `- 0010  4C 55 ..  LU..`: a sign, the address, the bytes in hex and as text
 abbrev pub head : ℕ → ℕ → List ℕ
-head sign at = sign ∷ 32 ∷ (indexText at ++ (32 ∷ []))
+head sign at = sign ∷ 32 ∷ (addressText at ++ (32 ∷ []))
 
 abbrev pub rowLine : ℕ → ℕ → List ℕ → List ℕ
 rowLine sign at bytes = head sign at ++ (hexes bytes ++ ((32 ∷ 32 ∷ []) ++ (shownAll bytes ++ (10 ∷ []))))
@@ -40,14 +39,18 @@ changedLines at old new = cond (sameBytes old new) [] (rowLine 45 at old ++ rowL
 abbrev pub rowLines : List ℕ → List ℕ → ℕ → List ℕ
 rowLines old new k = changedLines (k * rowBytes) (row k old) (row k new)
 
--- two lines of 74 bytes
-abbrev pub rowRoom : ℕ
-rowRoom = 148
+-- where the addresses that are shown end
+abbrev pub addressLimit : ℕ
+addressLimit = 131072
 
--- Two saves of the same length, whole rows, whose addresses have four digits, and a row to begin with.
+-- two lines of 75 bytes at most
+abbrev pub rowRoom : ℕ
+rowRoom = 150
+
+-- Two saves of the same length, whole rows, whose addresses have five digits at most, and a row to begin with.
 pub record Rows (old new : List ℕ) (from : ℕ) : Type 0 where
   pub same : length old ≡ length new
-  pub short : length old ≤ 65536
+  pub short : length old ≤ addressLimit
   pub whole : length old ≡ rowCount old * rowBytes
   pub inside : from ≤ rowCount old
 

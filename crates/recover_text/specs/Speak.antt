@@ -5,8 +5,8 @@ use mathlib.Core.Path.{_≡_}
 use Prim.Native.Nat.{ℕ, _+_, _*_}
 use lib.Dec.{ltb, eqb}
 use lib.ListN.{length, getD}
-use Rattle.lines.specs.Text.{byteText, indexText}
-use Rattle.recover_text.specs.Text.{numbered}
+use Rattle.lines.specs.Text.{byteText}
+use Rattle.recover_text.specs.Text.{numbered, addressText}
 use Rattle.recover_text.specs.Rows.{rowBytes, row, sameBytes}
 
 -- a character of a word: 33 to 126
@@ -41,7 +41,7 @@ orNothing (b ∷ bs) = b ∷ bs
 
 -- an address and a colon
 abbrev pub place : ℕ → List ℕ
-place at = indexText at ++ (58 ∷ 32 ∷ [])
+place at = addressText at ++ (58 ∷ 32 ∷ [])
 
 -- `0010: LUNA becomes STELLA`
 abbrev pub textLine : ℕ → List ℕ → List ℕ → List ℕ
@@ -71,9 +71,9 @@ heard at old new =
 abbrev pub rowHeard : List ℕ → List ℕ → ℕ → List ℕ
 rowHeard old new k = heard (k * rowBytes) (row k old) (row k new)
 
--- a line of text, of 80 bytes at most, and 16 of 20
+-- a line of text, of 81 bytes at most, and 16 of 21
 abbrev pub heardRoom : ℕ
-heardRoom = 400
+heardRoom = 417
 
 -- a row that changed is heard, and no other; which of two changes it was the words need not tell
 abbrev pub HeardLaw : Type 0

@@ -5,7 +5,7 @@ use mathlib.Core.Path.{_≡_}
 use Prim.Native.Nat.{ℕ, zero, suc, _+_, _/_, _%_, _≤_}
 use lib.Dec.{ltb, eqb}
 use lib.ListN.{length, take, drop}
-use Rattle.lines.specs.Text.{byteText}
+use Rattle.lines.specs.Text.{hexDigit, byteText, indexText}
 
 -- The buffer `o` with the text `t` put at `at`: the text ends at `end`, and every other byte is as it was.
 pub record Put (o : List ℕ) (at : ℕ) (t : List ℕ) (o′ : List ℕ) (end : ℕ) : Type 0 where
@@ -42,6 +42,10 @@ spaced b = 32 ∷ byteText b
 
 abbrev pub hexes : List ℕ → List ℕ
 hexes s = texts spaced s
+
+-- an address in four hex digits, from 10000 on in five
+unfoldable pub addressText : ℕ → List ℕ
+addressText at = cond (ltb at 65536) (indexText at) (hexDigit (at / 65536) ∷ indexText (at % 65536))
 
 -- a byte as text: itself where ASCII prints it, 32 to 126, else a full stop
 unfoldable pub shown : ℕ → ℕ

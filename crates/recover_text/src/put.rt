@@ -4,7 +4,8 @@ ghost use mathlib.Core.Path.{_≡_};
 ghost use Prim.Native.Nat.{_+_, _*_, _≤_, _<_};
 ghost use lib.ListN.{length};
 ghost use Rattle.lines.specs.Text.{byteText, indexText};
-ghost use Rattle.recover_text.specs.Text.{Put, decimal, counted, spaced, shown, hexes, shownAll};
+ghost use Rattle.recover_text.specs.Text.{Put, decimal, counted, spaced, addressText, shown, hexes, shownAll};
+ghost use Rattle.recover_text.specs.Rows.{addressLimit};
 use lines::line::hex_digit;
 
 pub fn byte(out: &mut [u8], at: usize, b: u8) -> usize
@@ -61,8 +62,8 @@ fn spaced(b: u8) -> [u8; 3]
     [b' ', hex_digit(b / 16), hex_digit(b % 16)]
 }
 
-// An address in four hex digits.
-pub fn address(at: usize) -> [u8; 4]
+// The last four hex digits of an address.
+fn digits(at: usize) -> [u8; 4]
     requires { ⌜ at < 65536 ⌝ }
     ensures { λ r. ⌜ r ≡ indexText at ⌝ }
 {
@@ -72,6 +73,20 @@ pub fn address(at: usize) -> [u8; 4]
         hex_digit((at % 256 / 16) as u8),
         hex_digit((at % 256 % 16) as u8),
     ]
+}
+
+// An address in four hex digits, in five where it needs them.
+pub fn address(out: &mut [u8], end: usize, at: usize) -> usize
+    requires { ⌜ (at < addressLimit) × (end + 5 ≤ length (now out)) ⌝ }
+    ensures { λ r. ⌜ Put (now (out .entry)) end (addressText at) (now (out .exit)) r × (r ≤ end + 5) ⌝ }
+{
+    if at < 65536 {
+        let four = digits(at);
+        return text(out, end, &four);
+    }
+    let low = digits(at % 65536);
+    let next = byte(out, end, hex_digit((at / 65536) as u8));
+    text(out, next, &low)
 }
 
 // A byte as text.

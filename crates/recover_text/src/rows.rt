@@ -3,14 +3,14 @@ ghost use mathlib.Core.Path.{_≡_};
 ghost use Prim.Native.Nat.{_+_, _*_, _≤_, _<_};
 ghost use lib.ListN.{length};
 ghost use Rattle.recover_text.specs.Text.{Put};
-ghost use Rattle.recover_text.specs.Rows.{head, rowLine, changedLines, rowLines, Rows, Shows, rowBytes, rowRoom, PartsLaw, RowsLaw};
+ghost use Rattle.recover_text.specs.Rows.{head, rowLine, changedLines, rowLines, Rows, Shows, rowBytes, rowRoom, addressLimit, PartsLaw, RowsLaw};
 use crate::put;
 
 // The bytes of a row.
 pub const ROW: usize = 16;
 
-// The bytes of a row's two lines.
-pub const ROOM: usize = 148;
+// The most bytes of a row's two lines.
+pub const ROOM: usize = 150;
 
 // The text of the rows up to, not including, `next` stands in the first `len` bytes.
 pub struct Part {
@@ -19,21 +19,21 @@ pub struct Part {
 }
 
 // A line's sign and address.
-fn head(sign: u8, at: usize) -> [u8; 7]
-    requires { ⌜ at < 65536 ⌝ }
-    ensures { λ r. ⌜ r ≡ head sign at ⌝ }
+fn head(out: &mut [u8], end: usize, sign: u8, at: usize) -> usize
+    requires { ⌜ (at < addressLimit) × (end + 8 ≤ length (now out)) ⌝ }
+    ensures { λ r. ⌜ Put (now (out .entry)) end (head sign at) (now (out .exit)) r × (r ≤ end + 8) ⌝ }
 {
-    let a = put::address(at);
-    [sign, b' ', a[0], a[1], a[2], a[3], b' ']
+    let a = put::text(out, end, &[sign, b' ']);
+    let b = put::address(out, a, at);
+    put::byte(out, b, b' ')
 }
 
 // A row's line.
 fn line(out: &mut [u8], end: usize, sign: u8, at: usize, row: &[u8]) -> usize
-    requires { ⌜ (at < 65536) × (length (now row) ≡ rowBytes) × (end + 74 ≤ length (now out)) ⌝ }
-    ensures { λ r. ⌜ Put (now (out .entry)) end (rowLine sign at (now (row .entry))) (now (out .exit)) r ⌝ }
+    requires { ⌜ (at < addressLimit) × (length (now row) ≡ rowBytes) × (end + 75 ≤ length (now out)) ⌝ }
+    ensures { λ r. ⌜ Put (now (out .entry)) end (rowLine sign at (now (row .entry))) (now (out .exit)) r × (r ≤ end + 75) ⌝ }
 {
-    let front = head(sign, at);
-    let a = put::text(out, end, &front);
+    let a = head(out, end, sign, at);
     let b = put::hexes(out, a, row);
     let c = put::text(out, b, b"  ");
     let d = put::shown_all(out, c, row);
@@ -42,7 +42,7 @@ fn line(out: &mut [u8], end: usize, sign: u8, at: usize, row: &[u8]) -> usize
 
 // A row's lines, if it changed.
 fn lines(out: &mut [u8], end: usize, at: usize, old: &[u8], new: &[u8]) -> usize
-    requires { ⌜ (at < 65536) × (length (now old) ≡ rowBytes) × (length (now new) ≡ rowBytes) × (end + rowRoom ≤ length (now out)) ⌝ }
+    requires { ⌜ (at < addressLimit) × (length (now old) ≡ rowBytes) × (length (now new) ≡ rowBytes) × (end + rowRoom ≤ length (now out)) ⌝ }
     ensures { λ r. ⌜ Put (now (out .entry)) end (changedLines at (now (old .entry)) (now (new .entry))) (now (out .exit)) r ⌝ }
 {
     if check::same(old, new) {

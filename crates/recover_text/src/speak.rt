@@ -3,14 +3,14 @@ ghost use mathlib.Core.Path.{_≡_};
 ghost use Prim.Native.Nat.{_+_, _*_, _≤_, _<_};
 ghost use lib.ListN.{length};
 ghost use Rattle.recover_text.specs.Text.{Put};
-ghost use Rattle.recover_text.specs.Rows.{Rows, Shows, rowBytes};
+ghost use Rattle.recover_text.specs.Rows.{Rows, Shows, rowBytes, addressLimit};
 ghost use Rattle.recover_text.specs.Speak.{inWord, stepText, stepPlace, words, orNothing, place, textLine, byteLine, tells, byteHeard, byteLines, heard, rowHeard, heardRoom, HeardLaw};
 use crate::put;
 use crate::rows::Part;
 use crate::rows::ROW;
 
 // The most bytes that are said of a row.
-pub const ROOM: usize = 400;
+pub const ROOM: usize = 417;
 
 // Where a byte of a row stands: before the first word, in a word, behind one.
 const BEFORE: u8 = 0;
@@ -94,17 +94,16 @@ fn or_nothing(out: &mut [u8], end: usize, text: &[u8]) -> usize
 
 // An address and a colon.
 fn head(out: &mut [u8], end: usize, at: usize) -> usize
-    requires { ⌜ (at < 65536) × (end + 6 ≤ length (now out)) ⌝ }
-    ensures { λ r. ⌜ Put (now (out .entry)) end (place at) (now (out .exit)) r ⌝ }
+    requires { ⌜ (at < addressLimit) × (end + 7 ≤ length (now out)) ⌝ }
+    ensures { λ r. ⌜ Put (now (out .entry)) end (place at) (now (out .exit)) r × (r ≤ end + 7) ⌝ }
 {
-    let digits = put::address(at);
-    let a = put::text(out, end, &digits);
+    let a = put::address(out, end, at);
     put::text(out, a, b": ")
 }
 
 // The line of a text that changed.
 fn text_line(out: &mut [u8], end: usize, at: usize, old: &[u8], new: &[u8]) -> usize
-    requires { ⌜ (at < 65536) × (length (now old) ≤ 32) × (length (now new) ≤ 32) × (end + 80 ≤ length (now out)) ⌝ }
+    requires { ⌜ (at < addressLimit) × (length (now old) ≤ 32) × (length (now new) ≤ 32) × (end + 81 ≤ length (now out)) ⌝ }
     ensures { λ r. ⌜ Put (now (out .entry)) end (textLine at (now (old .entry)) (now (new .entry))) (now (out .exit)) r ⌝ }
 {
     let a = head(out, end, at);
@@ -116,7 +115,7 @@ fn text_line(out: &mut [u8], end: usize, at: usize, old: &[u8], new: &[u8]) -> u
 
 // The line of a byte that changed.
 fn byte_line(out: &mut [u8], end: usize, at: usize, old: u8, new: u8) -> usize
-    requires { ⌜ (at < 65536) × (end + 20 ≤ length (now out)) ⌝ }
+    requires { ⌜ (at < addressLimit) × (end + 21 ≤ length (now out)) ⌝ }
     ensures { λ r. ⌜ Put (now (out .entry)) end (byteLine at old new) (now (out .exit)) r ⌝ }
 {
     let before = put::pair(old);
@@ -145,7 +144,7 @@ fn tells(every: bool, old: u8, new: u8) -> bool
 }
 
 fn byte_heard(out: &mut [u8], end: usize, at: usize, every: bool, old: u8, new: u8) -> usize
-    requires { ⌜ (at < 65536) × (end + 20 ≤ length (now out)) ⌝ }
+    requires { ⌜ (at < addressLimit) × (end + 21 ≤ length (now out)) ⌝ }
     ensures { λ r. ⌜ Put (now (out .entry)) end (byteHeard every at old new) (now (out .exit)) r ⌝ }
 {
     if tells(every, old, new) {
@@ -156,7 +155,7 @@ fn byte_heard(out: &mut [u8], end: usize, at: usize, every: bool, old: u8, new: 
 
 // The bytes of a row, one by one.
 fn byte_lines(out: &mut [u8], end: usize, at: usize, every: bool, old: &[u8], new: &[u8]) -> usize
-    requires { ⌜ (at + rowBytes ≤ 65536) × (length (now old) ≡ rowBytes) × (length (now new) ≡ rowBytes) × (end + 320 ≤ length (now out)) ⌝ }
+    requires { ⌜ (at + rowBytes ≤ addressLimit) × (length (now old) ≡ rowBytes) × (length (now new) ≡ rowBytes) × (end + 336 ≤ length (now out)) ⌝ }
     ensures { λ r. ⌜ Put (now (out .entry)) end (byteLines every at (now (old .entry)) (now (new .entry))) (now (out .exit)) r ⌝ }
 {
     let mut next = end;
@@ -170,7 +169,7 @@ fn byte_lines(out: &mut [u8], end: usize, at: usize, every: bool, old: &[u8], ne
 
 // A row: its text, if that changed, and the bytes that it does not say.
 fn row_text(out: &mut [u8], end: usize, at: usize, old: &[u8], new: &[u8]) -> usize
-    requires { ⌜ (at + rowBytes ≤ 65536) × (length (now old) ≡ rowBytes) × (length (now new) ≡ rowBytes) × (end + heardRoom ≤ length (now out)) ⌝ }
+    requires { ⌜ (at + rowBytes ≤ addressLimit) × (length (now old) ≡ rowBytes) × (length (now new) ≡ rowBytes) × (end + heardRoom ≤ length (now out)) ⌝ }
     ensures { λ r. ⌜ Put (now (out .entry)) end (heard at (now (old .entry)) (now (new .entry))) (now (out .exit)) r ⌝ }
 {
     let mut before = [0u8; 32];

@@ -1,20 +1,15 @@
--- The copy of the save has room for it, and the report has its own.
-use mathlib.Core.Path.{sym}
+-- The copy of the save has room for it, and both have whole rows.
+use mathlib.Core.Path.{_≡_, sym}
 use native.Mathlib.Omega.{arith}
+use lib.ListN.{length, take}
 use lib.Seq.{length-take-le}
 use borrow.Author.Needs.{needs}
-use Rattle.recover.proofs.Saves.{save-rows}
+use Rattle.recover.proofs.Saves.{rows-of, save-rows}
 use Rattle.recover.proofs.recover.Statement.{statement}
 use Rattle.recover.proofs.recover.Tie as tie
 
-room-requires : tie.Need-room-requires
-room-requires c κs = search needs
-
-slice-aggregate-changes : tie.Need-slice-aggregate-changes
-slice-aggregate-changes c = search needs
-
 changes-requires : tie.Need-changes-requires
-changes-requires c κs = let a = c .before .before .before .before .before .before .before .before in (a .pre .0, a .pre .1, (a .pre .2, omega arith))
+changes-requires c κs = search needs
 
 same-length : tie.Need-same-length
 same-length c = search needs
@@ -25,8 +20,8 @@ same-length-2 c = search needs
 returns : tie.Need-returns
 returns c = search needs
 
-end-requires : tie.Need-end-requires
-end-requires c κs = c .before .before .before .before .before .before .before .before .before .before .before .before .before .before .before .before .pre .1
+say-end-requires : tie.Need-say-end-requires
+say-end-requires c κs = search needs
 
 same-length-3 : tie.Need-same-length-3
 same-length-3 c = search needs
@@ -37,11 +32,14 @@ same-length-4 c = search needs
 returns-2 : tie.Need-returns-2
 returns-2 c = search needs
 
-slice-aggregate-print : tie.Need-slice-aggregate-print
-slice-aggregate-print c = search needs
+slice-reshare-prefix-report : tie.Need-slice-reshare-prefix-report
+slice-reshare-prefix-report c = omega (arith, save-rows _ (c .before .before .before .before .before .before .before .before .before .before .before .before .before .pre .0) .1, c .before .before .before .before .before .before .before .before .before .before .before .before .before .pre .2)
 
-print-requires : tie.Need-print-requires
-print-requires c κs = search needs
+slice-aggregate-report : tie.Need-slice-aggregate-report
+slice-aggregate-report c = sym (length-take-le _ _ (omega (arith, save-rows _ (c .before .before .before .before .before .before .before .before .before .before .before .before .before .before .pre .0) .1, c .before .before .before .before .before .before .before .before .before .before .before .before .before .before .pre .2)))
+
+report-requires : tie.Need-report-requires
+report-requires c κs = let s = c .before .before .before .before .before .before .before .before .before .changes .last .1 .1 .0 in let o = c .before .before .before .before .before .before .before .before .before .changes .last .1 .1 .1 .0 in let k = c .before .before .before .before .before .before .before .before .before .changes .kept .1 .1 in let m : length (take (length s) o) ≡ length s = length-take-le (length s) o (omega (arith, save-rows _ (c .before .before .before .before .before .before .before .before .before .before .before .before .before .before .before .pre .0) .1, c .before .before .before .before .before .before .before .before .before .before .before .before .before .before .before .pre .2, k .0, k .1 .0)) in rows-of (take (length s) o) s (rw (m, k .0) (c .before .before .before .before .before .before .before .before .before .before .before .before .before .before .before .pre .0)) (sym m)
 
 same-length-5 : tie.Need-same-length-5
 same-length-5 c = search needs
@@ -53,13 +51,13 @@ returns-3 : tie.Need-returns-3
 returns-3 c = search needs
 
 slice-reshare-prefix-finish : tie.Need-slice-reshare-prefix-finish
-slice-reshare-prefix-finish c = omega (arith, save-rows _ (c .before .before .before .before .before .before .before .before .before .before .before .before .before .before .before .before .before .before .before .before .before .pre .0) .1, c .before .before .before .before .before .before .before .before .before .before .before .before .before .before .before .before .before .before .before .before .before .pre .2)
+slice-reshare-prefix-finish c = omega (arith, save-rows _ (c .before .before .before .before .before .before .before .before .before .before .before .before .before .before .before .before .before .before .pre .0) .1, c .before .before .before .before .before .before .before .before .before .before .before .before .before .before .before .before .before .before .pre .2)
 
 slice-aggregate-finish : tie.Need-slice-aggregate-finish
-slice-aggregate-finish c = sym (length-take-le _ _ (omega (arith, save-rows _ (c .before .before .before .before .before .before .before .before .before .before .before .before .before .before .before .before .before .before .before .before .before .before .pre .0) .1, c .before .before .before .before .before .before .before .before .before .before .before .before .before .before .before .before .before .before .before .before .before .before .pre .2)))
+slice-aggregate-finish c = sym (length-take-le _ _ (omega (arith, save-rows _ (c .before .before .before .before .before .before .before .before .before .before .before .before .before .before .before .before .before .before .before .pre .0) .1, c .before .before .before .before .before .before .before .before .before .before .before .before .before .before .before .before .before .before .before .pre .2)))
 
 finish-requires : tie.Need-finish-requires
-finish-requires c κs = c .before .before .before .before .before .before .before .before .before .before .before .before .before .before .before .before .before .before .before .before .before .before .before .pre .1
+finish-requires c κs = search needs
 
 same-length-7 : tie.Need-same-length-7
 same-length-7 c = search needs
@@ -74,18 +72,17 @@ pub recover-spec : {M : Type 1} → statement M
 recover-spec =
     tie.close
     (tie.spec
-    room-requires
-    slice-aggregate-changes
     changes-requires
     same-length
     same-length-2
     returns
-    end-requires
+    say-end-requires
     same-length-3
     same-length-4
     returns-2
-    slice-aggregate-print
-    print-requires
+    slice-reshare-prefix-report
+    slice-aggregate-report
+    report-requires
     same-length-5
     same-length-6
     returns-3

@@ -12,22 +12,22 @@ use Rattle.recover.proofs.journal.play_all.Statement.{statement}
 use Rattle.recover.proofs.journal.play_all.Tie as tie
 
 abbrev Inv-loop : tie.InvT-loop
-Inv-loop fd log save₀ first kept len s₀ save s = Bounded s × (length save ≡ length save₀) × Played kept s save₀ save
+Inv-loop log save₀ first kept len s₀ save s = Bounded s × (length save ≡ length save₀) × Played (log .form) kept s save₀ save
 
 abbrev μ-loop : tie.MeasureT-loop
-μ-loop fd log save₀ first kept len s₀ save s = len - s .len
+μ-loop log save₀ first kept len s₀ save s = len - s .len
 
 journal-len-requires : tie.Need-journal-len-requires Inv-loop μ-loop
-journal-len-requires c κs = search needs
+journal-len-requires c κs = (c .before .pre .1, c .before .pre .2)
 
 unread-requires : tie.Need-unread-requires Inv-loop μ-loop
 unread-requires c κs = search needs
 
 loop-holds : tie.Need-loop-holds Inv-loop μ-loop
-loop-holds c = (c .unread .ensures .1, refl, rw (c .unread .ensures .0) (none-played _ _))
+loop-holds c = (c .unread .ensures .1, refl, rw (c .unread .ensures .0) (none-played _ _ _))
 
 play-next-requires : tie.Need-play-next-requires Inv-loop μ-loop
-play-next-requires c κs = search needs
+play-next-requires c κs = (c .before .before .before .loop .inv .0, rw (c .before .before .before .loop .inv .1) (c .before .before .before .before .before .before .before .pre .0))
 
 same-length : tie.Need-same-length Inv-loop μ-loop
 same-length c = search needs
@@ -39,7 +39,7 @@ loop-less : tie.Need-loop-less Inv-loop μ-loop
 loop-less c = search needs
 
 loop-again : tie.Need-loop-again Inv-loop μ-loop
-loop-again c = (c .before .before .before .before .before .play-next .ensures .0, omega (arith, c .before .before .before .before .before .before .before .before .before .loop .inv .1), played-more _ _ _ _ _ _ (c .before .before .before .before .before .before .before .before .before .loop .inv .2) (c .before .before .before .before .before .play-next .ensures .1 (c .if2 .left)))
+loop-again c = (c .before .before .before .before .before .play-next .ensures .0, omega (arith, c .before .before .before .before .before .before .before .before .before .loop .inv .1), played-more _ _ _ _ _ _ _ (c .before .before .before .before .before .before .before .before .before .loop .inv .2) (c .before .before .before .before .before .play-next .ensures .1 (c .if2 .left)))
 
 failed-requires : tie.Need-failed-requires Inv-loop μ-loop
 failed-requires c κs = search needs
@@ -66,7 +66,7 @@ same-length-4 : tie.Need-same-length-4 Inv-loop μ-loop
 same-length-4 c = search needs
 
 returns-4 : tie.Need-returns-4 Inv-loop μ-loop
-returns-4 c = λ h. whole-journal _ _ _ _ _ _ (c .before .before .before .before .before .before .before .before .before .before .journal-len .ensures .0) (c .before .before .before .before .if3 .left) (c .before .if4 .left) (c .before .before .before .before .before .before .before .before .loop .inv .2)
+returns-4 c = λ h. whole-journal _ _ _ _ _ _ _ (c .before .before .before .before .before .before .before .before .before .before .before .journal-len .ensures .0) (c .before .before .before .before .before .if3 .left) (c .before .before .if4 .left) (c .before .before .before .before .before .before .before .before .before .loop .inv .2)
 
 pub play-all-spec : {M : Type 1} → statement M
 play-all-spec =

@@ -6,10 +6,10 @@ use Rattle.recover.proofs.journal.scan.Statement.{statement}
 use Rattle.recover.proofs.journal.scan.Tie as tie
 
 abbrev Inv-loop : tie.InvT-loop
-Inv-loop fd log len s₀ s = Bounded s
+Inv-loop log len s₀ s = Bounded s
 
 abbrev μ-loop : tie.MeasureT-loop
-μ-loop fd log len s₀ s = len - s .len
+μ-loop log len s₀ s = len - s .len
 
 unread-requires : tie.Need-unread-requires Inv-loop μ-loop
 unread-requires c κs = search needs

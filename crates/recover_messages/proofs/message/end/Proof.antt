@@ -9,6 +9,9 @@ use Rattle.recover_messages.proofs.message.end.Tie as tie
 journal-len-requires : tie.Need-journal-len-requires
 journal-len-requires c κs = search needs
 
+add-len : tie.Need-add-len
+add-len c = search needs
+
 slice-aggregate-left-out : tie.Need-slice-aggregate-left-out
 slice-aggregate-left-out c = search needs
 
@@ -22,10 +25,13 @@ same-length : tie.Need-same-length
 same-length c = search needs
 
 returns : tie.Need-returns
-returns c = named (ends-in-zeros _ _ _ (c .before .before .before .before .before .before .journal-len .ensures .0) (c .before .before .before .before .before .if1 .taken)) (c .before .before .left-out .ensures)
+returns c = named (ends-in-zeros _ _ _ _ _ (c .before .before .before .before .before .before .before .before .before .journal-len .ensures .0) (c .before .before .before .before .before .before .if1 .taken)) (c .before .before .left-out .ensures)
+
+rest-of-requires : tie.Need-rest-of-requires
+rest-of-requires c κs = search needs
 
 returns-2 : tie.Need-returns-2
-returns-2 c = named (ends-whole _ _ _ (c .before .before .journal-len .ensures .0) (c .before .if1 .left) (c .if2 .taken)) (put-none _ _ (omega arith))
+returns-2 c = named (ends-whole _ _ _ _ _ (c .before .before .before .before .before .journal-len .ensures .0) (c .before .before .if1 .left) (c .before .rest-of .ensures .0) (c .if2 .taken)) (put-none _ _ (omega arith))
 
 slice-aggregate-left-out-2 : tie.Need-slice-aggregate-left-out-2
 slice-aggregate-left-out-2 c = search needs
@@ -37,18 +43,20 @@ same-length-2 : tie.Need-same-length-2
 same-length-2 c = search needs
 
 returns-3 : tie.Need-returns-3
-returns-3 c = named (ends-torn _ _ _ (c .before .before .before .before .before .before .before .journal-len .ensures .0) (c .before .before .before .before .before .before .if1 .left) (c .before .before .before .before .before .if2 .left)) (c .before .before .left-out2 .ensures)
+returns-3 c = named (ends-torn _ _ _ _ _ (c .before .before .before .before .before .before .before .before .before .before .journal-len .ensures .0) (c .before .before .before .before .before .before .before .if1 .left) (c .before .before .before .before .before .before .rest-of .ensures .0) (c .before .before .before .before .before .if2 .left)) (c .before .before .left-out2 .ensures)
 
 pub end-spec : {M : Type 1} → statement M
 end-spec =
     tie.close
     (tie.spec
     journal-len-requires
+    add-len
     slice-aggregate-left-out
     sub-left-out
     left-out-requires
     same-length
     returns
+    rest-of-requires
     returns-2
     slice-aggregate-left-out-2
     left-out-requires-2

@@ -105,6 +105,30 @@ slice-aggregate-sized-14 c = search needs
 sized-requires-7 : tie.Need-sized-requires-7
 sized-requires-7 c κs = search needs
 
+enum-told-10 : tie.Need-enum-told-10
+enum-told-10 c = search needs
+
+slice-aggregate-sized-15 : tie.Need-slice-aggregate-sized-15
+slice-aggregate-sized-15 c = search needs
+
+slice-aggregate-sized-16 : tie.Need-slice-aggregate-sized-16
+slice-aggregate-sized-16 c = search needs
+
+sized-requires-8 : tie.Need-sized-requires-8
+sized-requires-8 c κs = search needs
+
+enum-told-11 : tie.Need-enum-told-11
+enum-told-11 c = search needs
+
+slice-aggregate-sized-17 : tie.Need-slice-aggregate-sized-17
+slice-aggregate-sized-17 c = search needs
+
+slice-aggregate-sized-18 : tie.Need-slice-aggregate-sized-18
+slice-aggregate-sized-18 c = search needs
+
+sized-requires-9 : tie.Need-sized-requires-9
+sized-requires-9 c κs = search needs
+
 same-length : tie.Need-same-length
 same-length c = search needs
 
@@ -159,6 +183,18 @@ same-length-9 c = search needs
 returns-9 : tie.Need-returns-9
 returns-9 c = rw (c .before .before .before .before .before .before .enum-told9 .given .1) (c .before .before .sized7 .ensures)
 
+same-length-10 : tie.Need-same-length-10
+same-length-10 c = search needs
+
+returns-10 : tie.Need-returns-10
+returns-10 c = rw (c .before .before .before .before .before .before .enum-told10 .given .1) (c .before .before .sized8 .ensures)
+
+same-length-11 : tie.Need-same-length-11
+same-length-11 c = search needs
+
+returns-11 : tie.Need-returns-11
+returns-11 c = rw (c .before .before .before .before .before .before .enum-told11 .given .1) (c .before .before .sized9 .ensures)
+
 pub reason-spec : {M : Type 1} → statement M
 reason-spec =
     tie.close
@@ -197,6 +233,14 @@ reason-spec =
     slice-aggregate-sized-13
     slice-aggregate-sized-14
     sized-requires-7
+    enum-told-10
+    slice-aggregate-sized-15
+    slice-aggregate-sized-16
+    sized-requires-8
+    enum-told-11
+    slice-aggregate-sized-17
+    slice-aggregate-sized-18
+    sized-requires-9
     same-length
     returns
     same-length-2
@@ -214,4 +258,8 @@ reason-spec =
     same-length-8
     returns-8
     same-length-9
-    returns-9)
+    returns-9
+    same-length-10
+    returns-10
+    same-length-11
+    returns-11)

@@ -1,19 +1,22 @@
 -- The pieces of the text, one behind the other; the number is of what is kept.
 use mathlib.Core.List.{_++_}
-use mathlib.Core.Path.{ap}
+use mathlib.Core.Path.{ap, _∙_}
 use Prim.Native.Nat.{_/_}
 use native.Mathlib.Omega.{arith}
 use borrow.Author.Needs.{needs}
-use Rattle.savelog.specs.Log.{width}
+use Rattle.savelog.specs.Log.{widthOf}
 use Rattle.recover_text.specs.Text.{counted}
-use Rattle.recover_text.proofs.Pieces.{named, and-then}
 use Rattle.recover_text.proofs.Digits.{counted-length}
+use Rattle.recover_text.proofs.Pieces.{named, and-then}
 use Rattle.recover_messages.specs.Words as words
 use Rattle.recover_messages.proofs.message.recovered.Statement.{statement}
 use Rattle.recover_messages.proofs.message.recovered.Tie as tie
 
 journal-len-requires : tie.Need-journal-len-requires
 journal-len-requires c κs = search needs
+
+records-in-requires : tie.Need-records-in-requires
+records-in-requires c κs = search needs
 
 slice-aggregate-text : tie.Need-slice-aggregate-text
 slice-aggregate-text c = search needs
@@ -31,19 +34,14 @@ same-length : tie.Need-same-length
 same-length c = search needs
 
 returns : tie.Need-returns
-returns c =
-    let j = c .before .before .before .before .before .before .before .before .before .before .journal-len in
-    let t = c .before .before .before .before .before .before .before .text .ensures in
-    let u = c .before .before .counted .ensures in (
-      named (ap (λ k. words.recovered ++ counted (k / width) words.recordNoun) (j .ensures .0)) (and-then t u),
-      omega (arith, t .ends, u .ends, counted-length (j .result / width) words.recordNoun),
-    )
+returns c = (named (ap (λ k. words.recovered ++ counted k words.recordNoun) (c .before .before .before .before .before .before .before .before .before .before .records-in .ensures .0 ∙ ap (λ k. k / widthOf (c .before .before .before .before .before .before .before .before .before .before .before .before .before .args .form)) (c .before .before .before .before .before .before .before .before .before .before .before .journal-len .ensures .0))) (and-then (c .before .before .before .before .before .before .before .text .ensures) (c .before .before .counted .ensures)), omega (arith, c .before .before .before .before .before .before .before .text .ensures .ends, c .before .before .counted .ensures .ends, counted-length (c .before .before .before .before .before .before .before .before .before .before .records-in .result) words.recordNoun))
 
 pub recovered-spec : {M : Type 1} → statement M
 recovered-spec =
     tie.close
     (tie.spec
     journal-len-requires
+    records-in-requires
     slice-aggregate-text
     text-requires
     slice-aggregate-counted

@@ -1,27 +1,35 @@
--- The digits are those of the address.
+-- The pieces of the head, one behind the other.
+use native.Mathlib.Omega.{arith}
 use borrow.Author.Needs.{needs}
+use Rattle.recover_text.proofs.Pieces.{and-then, kept-length}
 use Rattle.recover_text.proofs.rows.head.Statement.{statement}
 use Rattle.recover_text.proofs.rows.head.Tie as tie
+
+slice-aggregate-text : tie.Need-slice-aggregate-text
+slice-aggregate-text c = search needs
+
+text-requires : tie.Need-text-requires
+text-requires c κs = search needs
 
 address-requires : tie.Need-address-requires
 address-requires c κs = search needs
 
-array-read-t7 : tie.Need-array-read-t7
-array-read-t7 c = search needs
+byte-requires : tie.Need-byte-requires
+byte-requires c κs = omega (arith, c .before .before .before .before .before .before .before .text .ensures .ends, c .before .before .before .address .ensures .1, kept-length (c .before .before .before .before .before .before .before .text .ensures), kept-length (c .before .before .before .address .ensures .0), c .before .before .before .before .before .before .before .before .before .before .before .pre .1)
 
-array-read-t10 : tie.Need-array-read-t10
-array-read-t10 c = search needs
-
-array-read-t13 : tie.Need-array-read-t13
-array-read-t13 c = search needs
-
-array-read-t16 : tie.Need-array-read-t16
-array-read-t16 c = search needs
+same-length : tie.Need-same-length
+same-length c = search needs
 
 returns : tie.Need-returns
-returns c = rw (c .address .ensures)
+returns c = (and-then (c .before .before .before .before .before .before .before .before .before .before .text .ensures) (and-then (c .before .before .before .before .before .before .address .ensures .0) (c .before .before .byte .ensures)), omega (arith, c .before .before .before .before .before .before .before .before .before .before .text .ensures .ends, c .before .before .before .before .before .before .address .ensures .1, c .before .before .byte .ensures .ends))
 
 pub head-spec : {M : Type 1} → statement M
 head-spec =
     tie.close
-    (tie.spec address-requires array-read-t7 array-read-t10 array-read-t13 array-read-t16 returns)
+    (tie.spec
+    slice-aggregate-text
+    text-requires
+    address-requires
+    byte-requires
+    same-length
+    returns)

@@ -1,7 +1,7 @@
 -- No lines where the bytes are the same, else two.
 use native.Mathlib.Omega.{arith}
 use borrow.Author.Needs.{needs}
-use Rattle.recover_text.proofs.Lines.{unchanged-lines, changed-lines, line-length}
+use Rattle.recover_text.proofs.Lines.{unchanged-lines, changed-lines}
 use Rattle.recover_text.proofs.Pieces.{named, and-then, put-none}
 use Rattle.recover_text.proofs.rows.lines.Statement.{statement}
 use Rattle.recover_text.proofs.rows.lines.Tie as tie
@@ -19,9 +19,7 @@ line-requires-2 : tie.Need-line-requires-2
 line-requires-2 c κs =
     omega (
       arith,
-      c .before .before .before .line .ensures .ends,
-      line-length 45 (c .before .before .before .before .before .before .before .before .before .before .args .at) (c .before .before .before .before .before
-          .before .before .before .before .before .args .old .now) (omega arith),
+      c .before .before .before .line .ensures .1,
     )
 
 same-length : tie.Need-same-length
@@ -31,7 +29,7 @@ returns-2 : tie.Need-returns-2
 returns-2 c =
     named (changed-lines _ _ _ (c .before .before .before .before .before .before .before .before .before .same .ensures .1) (c .before .before .before
     .before .before .before .before .before .if1 .left))
-    (and-then (c .before .before .before .before .before .before .line .ensures) (c .before .before .line2 .ensures))
+    (and-then (c .before .before .before .before .before .before .line .ensures .0) (c .before .before .line2 .ensures .0))
 
 pub lines-spec : {M : Type 1} → statement M
 lines-spec =

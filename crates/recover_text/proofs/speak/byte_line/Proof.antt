@@ -49,7 +49,7 @@ returns c =
     .before .before .before .before .before .pair2 .ensures in
     let y = c .before .before .before .before .before .before .text3 .ensures in
     let z = c .before .before .byte .ensures in
-    and-then t (and-then (named u v) (and-then w (and-then (named x y) z)))
+    and-then (t .0) (and-then (named u v) (and-then w (and-then (named x y) z)))
 
 pub byte-line-spec : {M : Type 1} → statement M
 byte-line-spec =

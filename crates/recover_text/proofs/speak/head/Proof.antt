@@ -1,6 +1,7 @@
 -- The address, and the colon behind it.
+use native.Mathlib.Omega.{arith}
 use borrow.Author.Needs.{needs}
-use Rattle.recover_text.proofs.Pieces.{named, and-then}
+use Rattle.recover_text.proofs.Pieces.{and-then}
 use Rattle.recover_text.proofs.speak.head.Statement.{statement}
 use Rattle.recover_text.proofs.speak.head.Tie as tie
 
@@ -13,28 +14,12 @@ slice-aggregate-text c = search needs
 text-requires : tie.Need-text-requires
 text-requires c κs = search needs
 
-slice-aggregate-text-2 : tie.Need-slice-aggregate-text-2
-slice-aggregate-text-2 c = search needs
-
-text-requires-2 : tie.Need-text-requires-2
-text-requires-2 c κs = search needs
-
 same-length : tie.Need-same-length
 same-length c = search needs
 
 returns : tie.Need-returns
-returns c =
-    and-then (named (c .before .before .before .before .before .before .before .before .before .before .address .ensures) (c .before .before .before .before
-    .before .before .before .text .ensures)) (c .before .before .text2 .ensures)
+returns c = (and-then (c .before .before .before .before .before .before .before .address .ensures .0) (c .before .before .text .ensures), omega (arith, c .before .before .before .before .before .before .before .address .ensures .1, c .before .before .text .ensures .ends))
 
 pub head-spec : {M : Type 1} → statement M
 head-spec =
-    tie.close
-    (tie.spec
-    address-requires
-    slice-aggregate-text
-    text-requires
-    slice-aggregate-text-2
-    text-requires-2
-    same-length
-    returns)
+    tie.close (tie.spec address-requires slice-aggregate-text text-requires same-length returns)

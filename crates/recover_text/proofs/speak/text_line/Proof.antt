@@ -21,7 +21,7 @@ text-requires c κs =
     let u = c .before .before .before .before .or-nothing .ensures in
     omega (
       arith,
-      t .ends,
+      t .1,
       u .ends,
       said-length (c .before .before .before .before .before .before .before .before .before .before .before .before .before .args .old .now) (omega arith),
     )
@@ -33,7 +33,7 @@ or-nothing-requires-2 c κs =
     let v = c .before .before .before .text .ensures in (
       omega (
         arith,
-        t .ends,
+        t .1,
         u .ends,
         v .ends,
         said-length (c .before .before .before .before .before .before .before .before .before .before .before .before .before .before .before .before
@@ -41,7 +41,7 @@ or-nothing-requires-2 c κs =
       ),
       omega (
         arith,
-        t .ends,
+        t .1,
         u .ends,
         v .ends,
         said-length (c .before .before .before .before .before .before .before .before .before .before .before .before .before .before .before .before
@@ -57,7 +57,7 @@ byte-requires c κs =
     let w = c .before .before .before .or-nothing2 .ensures in
     omega (
       arith,
-      t .ends,
+      t .1,
       u .ends,
       v .ends,
       w .ends,
@@ -78,7 +78,7 @@ returns c =
     let v = c .before .before .before .before .before .before .before .before .before .before .text .ensures in
     let w = c .before .before .before .before .before .before .or-nothing2 .ensures in
     let x = c .before .before .byte .ensures in
-    and-then t (and-then u (and-then v (and-then w x)))
+    and-then (t .0) (and-then u (and-then v (and-then w x)))
 
 pub text-line-spec : {M : Type 1} → statement M
 text-line-spec =
