@@ -291,6 +291,49 @@ static void check_fresh(void)
     }
 }
 
+/* A save of another cartridge's length: 4, in each way in which a call tests the lengths. */
+static void check_saves(void)
+{
+    const size_t lens[] = {POUCH_SAVE_LEN_CODE_0, POUCH_SAVE_LEN_MBC2, POUCH_SAVE_LEN_CODE_2, POUCH_SAVE_LEN_CODE_3, POUCH_SAVE_LEN_CODE_4};
+    const uint16_t sizes[] = {2, 128, 512};
+    unsigned tried = 0;
+    for (uint8_t kind = POUCH_ROM_ONLY; kind <= POUCH_MBC5; kind++)
+        for (uint8_t code = 0; code < 5; code++)
+            for (size_t n = 0; n < 3; n++) {
+                if (!is_described(kind, sizes[n], code))
+                    continue;
+                start(kind, sizes[n], code, false, 100);
+                IS(wr(0x0000, 0x0A), POUCH_DONE);
+                const size_t own = save.len;
+                for (size_t i = 0; i < sizeof lens / sizeof *lens; i++) {
+                    if (lens[i] == own)
+                        continue;
+                    save.len = lens[i];
+                    tried++;
+                    uint8_t byte = 0xEE;
+                    uint16_t word = 0xEEEE;
+                    memcpy(before, arena, arena_len);
+                    IS(pouch_read_byte(READS, 0xC000, &byte), POUCH_WRONG_LENGTH);
+                    IS(byte, 0);
+                    byte = 0xEE;
+                    IS(pouch_read_byte(READS, 0xA000, &byte), POUCH_WRONG_LENGTH);
+                    IS(byte, 0);
+                    IS(pouch_read_word(READS, 0xA000, &word), POUCH_WRONG_LENGTH);
+                    IS(word, 0);
+                    byte = 0xEE;
+                    IS(pouch_mapper_read(LEND(image), LEND(rom), LEND(save), 0xA000, &byte), POUCH_WRONG_LENGTH);
+                    IS(byte, 0);
+                    IS(pouch_read_block(READS, 0xA000, wram.at, 1), POUCH_WRONG_LENGTH);
+                    IS(wr(0xC000, 1), POUCH_WRONG_LENGTH);
+                    IS(wr(0xA000, 1), POUCH_WRONG_LENGTH);
+                    IS(pouch_write_word(WRITES, 0xA000, 1), POUCH_WRONG_LENGTH);
+                    IS(pouch_do_dma_transfer(WRITES, 0xA0), POUCH_WRONG_LENGTH);
+                    IS(memcmp(before, arena, arena_len), 0);
+                }
+            }
+    IS(tried, 4 * (3 + 3 * 2 + 1 + 4 * 3)); /* RomOnly, Mbc1, Mbc2, Mbc5: codes by sizes */
+}
+
 static void check_numbers(void)
 {
     uint8_t byte = 0xEE;
@@ -440,6 +483,7 @@ static void check_numbers(void)
 int main(void)
 {
     check_fresh();
+    check_saves();
     for (size_t k = 0; k < sizeof with_save / sizeof *with_save; k++) {
         one = &with_save[k];
         for (size_t i = 0; i < sizeof entries / sizeof entries[0]; i++)

@@ -77,3 +77,8 @@ zero-closed x w (call.WriteWord i v) e = rw (write-closed x w e)
 zero-closed x w (call.DoDmaTransfer page) e = rw (write-closed x w e)
 zero-closed x w call.DoHdma e = rw (write-closed x w e)
 zero-closed x w (call.State c) e = rw (calls-closed (w .state) (state-closed (w .state) e logLimit) c)
+
+-- RAM code 4, mapper by mapper: computed
+pub code-four : CodeFour
+unfolding mbc.fresh mbc.known mbc.described mbc.start mbc.hasBanks mbc.hasCode mbc.ramBanks mbc.ramLen
+code-four = (refl, refl, refl, refl, refl, refl)

@@ -19,7 +19,8 @@ use Rattle.savelog.proofs.Laws.{stored-sound, records-none}
 use Rattle.savelog.proofs.Prefix.{records-append}
 use Rattle.savelog.proofs.Use.{record-first}
 use Rattle.savelog.specs.Laws.{Copies, none, more}
-use Rattle.savelog.specs.Log.{Four, width, addressEnd, stored, records, soundRecord, allSound, joined, logLimit, saveLengths, oneOf}
+use Rattle.savelog.specs.declared.Form.the-variants.{Four}
+use Rattle.savelog.specs.Log.{width, addressEnd, stored, records, soundRecord, allSound, joined, logLimit, saveLengths, oneOf}
 use Rattle.savelog.specs.declared.Rec.{Rec}
 use Rattle.promise.specs.Bus.{Call, inSave, refused, Kind, Reading, Clearing, Other, kindOf}
 use Rattle.promise.specs.Calls.{ByteWrite}

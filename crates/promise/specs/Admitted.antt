@@ -7,7 +7,8 @@ use Rattle.mbc.specs.declared.cartridge.Cartridge.{Cartridge}
 use Rattle.mbc.specs.declared.mbc.Mapper.{Mapper}
 use Rattle.mbc.specs.declared.mbc.Answer.{Answer}
 use Rattle.mbc.specs.declared.mbc.Answer.the-variants.{Stored, NotStored}
-use Rattle.savelog.specs.Log.{Four, stored, recordBytes}
+use Rattle.savelog.specs.Log.{stored, recordBytes}
+use Rattle.savelog.specs.declared.Form.the-variants.{Four}
 use Rattle.savelog.specs.declared.Rec.{Rec}
 use Rattle.promise.specs.Bus.{Call, inSave, refused}
 use Rattle.promise.specs.Calls.{ByteWrite, writesOf}

@@ -75,3 +75,9 @@ abbrev pub Example : Type 0
 Example =
     letInAll (cartridgeOf 2 0) (mapperOf 2) (byte 0xA000 0x55 ∷ byte 0x0000 0x0A ∷ byte 0xA000 0xAB ∷ byte 0xA200 0x12 ∷ [])
     ≡ stored 0 0x0B ∷ []
+
+-- and MBC5 with RAM code 4 (document 02, wish 3): the last byte of the last of 16 banks is at 131,071
+abbrev pub WideExample : Type 0
+WideExample =
+    letInAll (cartridgeOf 2 4) (mapperOf 3) (byte 0x0000 0x0A ∷ byte 0x4000 0x0F ∷ byte 0xBFFF 0xAB ∷ [])
+    ≡ stored 131071 0xAB ∷ []
