@@ -153,6 +153,10 @@ fn cartridge(list: &mut List, random: &mut Random) {
 }
 
 fn save(list: &mut List, random: &mut Random) {
+    // Sixteen RAM banks are many: often another is selected first, and RAM is on.
+    if list.host.shape.code == 4 && random.once_in(2) {
+        list.write_all(&[(0x0000, 0x0A), (0x4000, random.any_byte())]);
+    }
     let length = random.pick(&[0x200, 0x2000]);
     let index = 0xA000 + offset(random, length);
     if random.once_in(3) {
