@@ -7,11 +7,12 @@
  * What the host owns and lends for the time of a call:
  *
  *   image   the state of the bus, POUCH_IMAGE_LEN bytes. Made by pouch_fresh, changed by the calls. It is plain data: the host may copy it, store it,
- *           put it back (with the memories as they were then; what that means for save and log is in README.md beside this file).
+ *           put it back (with the memories as they were then; what that means for save and log is in README.md beside this file). A stored one
+ *           is for the version that made it: see pouch_version.
  *   rom     the cartridge's ROM: N banks of 16,384 bytes, N a power of two, 512 (8 MiB) at most.
  *   vram    video memory: 8,192 bytes, in colour 16,384 (bank 0, then bank 1).
  *   wram    work memory: 8,192 bytes, in colour 32,768 (banks 0 to 7).
- *   save    the cartridge's RAM: 0, 512, 8,192 or 32,768 bytes, as the cartridge has.
+ *   save    the cartridge's RAM: 0, 512, 8,192, 32,768 or 131,072 bytes, as the cartridge has.
  *   log     0 to POUCH_LOG_LEN_MAX bytes. The image says how many of them are used: pouch_log_used.
  *   sound   what FF10..FF3F read now: 48 bytes, which the host's sound part keeps.
  *
@@ -53,11 +54,11 @@ enum pouch_number {
     POUCH_DONE = 0,
     POUCH_OWED = 1,            /* done; an index of this write is in FF10..FF3F, and the host owes its sound part the write */
     POUCH_NO_ROOM = 2,         /* a write in A000..BFFF, and too few log bytes are free: copy the used bytes off, clear, write again. A log
-                                  of under 3 bytes, for words 6, never has room */
+                                  of under 4 bytes, for words 8, never has room */
     POUCH_OUT_OF_RANGE = 3,    /* the cartridge's description, or the state in the image */
     POUCH_WRONG_LENGTH = 4,    /* of something lent */
     POUCH_TOO_MANY_CYCLES = 5, /* over 65,536 in one call */
-    POUCH_DAMAGED = 6,         /* recovery met a whole record that is damaged */
+    POUCH_DAMAGED = 6,         /* recovery, or a converter, met a whole record that is damaged; or one that the old form has no room for */
     POUCH_OUTSIDE = 7          /* a button over 7, an interrupt over 4, an index or a bank outside */
 };
 
@@ -83,36 +84,43 @@ enum pouch_interrupt {
     POUCH_NO_INTERRUPT = 5
 };
 
-/* Mappers, for pouch_fresh. RAM code 0, 2 or 3, where nothing else is said. */
+/* Mappers, for pouch_fresh. RAM code 0, 2 or 3, where nothing else is said. Code 4, of 16 RAM banks, is Mbc5's alone: with another it is refused by 3. */
 enum pouch_kind {
     POUCH_ROM_ONLY = 0, /* 2 ROM banks */
     POUCH_MBC1 = 1,     /* 2, 4, .. 128 ROM banks: up to 2 MiB */
     POUCH_MBC2 = 2,     /* 2, 4, 8, 16 ROM banks, a save of 512 bytes, RAM code 0 */
-    POUCH_MBC5 = 3      /* 2, 4, .. 512 ROM banks: up to 8 MiB */
+    POUCH_MBC5 = 3      /* 2, 4, .. 512 ROM banks: up to 8 MiB; RAM code 4 too */
 };
 
 /* Lengths in bytes. */
-#define POUCH_IMAGE_LEN 666 /* 665 before version 2.0 */
+#define POUCH_IMAGE_LEN 666 /* 665 before version 2.0; 2.0 had another layout of the same length */
 #define POUCH_ROM_BANK_LEN 16384
 #define POUCH_VRAM_LEN_MONOCHROME 8192
 #define POUCH_VRAM_LEN_COLOUR 16384
 #define POUCH_WRAM_LEN_MONOCHROME 8192
 #define POUCH_WRAM_LEN_COLOUR 32768
-#define POUCH_SAVE_LEN_CODE_0 0     /* RAM code 0 of RomOnly, Mbc1 and Mbc5 */
-#define POUCH_SAVE_LEN_CODE_2 8192  /* RAM code 2 of the same: one bank */
-#define POUCH_SAVE_LEN_CODE_3 32768 /* RAM code 3 of the same: four banks */
-#define POUCH_SAVE_LEN_MBC2 512     /* Mbc2, RAM code 0 */
+#define POUCH_SAVE_LEN_CODE_0 0      /* RAM code 0 of RomOnly, Mbc1 and Mbc5 */
+#define POUCH_SAVE_LEN_CODE_2 8192   /* RAM code 2 of the same: one bank */
+#define POUCH_SAVE_LEN_CODE_3 32768  /* RAM code 3 of the same: four banks */
+#define POUCH_SAVE_LEN_CODE_4 131072 /* RAM code 4 of Mbc5 alone: 16 banks */
+#define POUCH_SAVE_LEN_MBC2 512      /* Mbc2, RAM code 0 */
 #define POUCH_SOUND_LEN 48
 #define POUCH_LOG_LEN_MAX 65535
 #define POUCH_COLORS_LEN 192 /* red, green and blue of 64 colours */
 #define POUCH_OAM_LEN 160    /* 40 sprites of four bytes */
 #define POUCH_BLOCK_LEN_MAX 65536
 
-/* A log is records of 3 bytes, most significant bit first: a 1 bit, 15 bits of address in the save, 8 bits of value. */
-#define POUCH_RECORD_LEN 3
+/* A log is records of 4 bytes, most significant bit first: a 1 bit, 17 bits of address in the save, 8 bits of value, six 0 bits. So the value 56 at 1234
+ * is 84 8D 15 80. */
+#define POUCH_RECORD_LEN 4
+
+/* Before version 3.0 it was records of 3 bytes: a 1 bit, 15 bits of address, 8 bits of value; the same was 92 34 56. Nothing in a log says which form it has:
+ * a log of one form is mostly, not always, refused as damaged where it is taken for the other. A host tells them apart by what it keeps beside: the mark of
+ * a journal (pouch_bus.h), or the record's length in the number of pouch_version. pouch_log_to_new converts. */
+#define POUCH_OLD_RECORD_LEN 3
 
 /* The version that this header is of, the image's length and a record's, as one number: what pouch_version gives where the library is of the same. */
-#define POUCH_VERSION_MAJOR 2
+#define POUCH_VERSION_MAJOR 3
 #define POUCH_VERSION_MINOR 0
 #define POUCH_VERSION_PATCH 0
 #define POUCH_VERSION                                                                                                              \
@@ -128,13 +136,15 @@ enum pouch_kind {
 #define POUCH_RECORD_LEN_OF(version) ((version) & 0xFF)
 
 /* POUCH_VERSION as the library has it; takes nothing, refuses nothing. For a host that finds the library at run time (compare with POUCH_VERSION), or that
- * stores images and logs for later: store the number beside them. An image whose length is another version's is refused by 4, and by nothing else would
- * it be known: the image itself does not say of which version it is. */
+ * stores images and logs for later: store the number beside them, and compare it before a stored image is used. The image itself does not say of which
+ * version it is. One of before 2.0 is refused by its length (4). One of 2.0 has this version's length and another layout: it may be refused by 3, and may as
+ * well be taken for another state, with other banks and another use of the log. Only the number beside it tells. No image of another MAJOR is converted: such
+ * a session goes on from its save and its log. */
 uint64_t pouch_version(void);
 
 /* Starting, and the save's log */
 
-/* Makes the image of a fresh bus. `kind` is an enum pouch_kind, `banks` N, `code` the RAM code of the cartridge's header: 0, 2 or 3. vram and wram are
+/* Makes the image of a fresh bus. `kind` is an enum pouch_kind, `banks` N, `code` the RAM code of the cartridge's header: 0, 2, 3, with Mbc5 4 too. vram and wram are
  * zeroed; the bytes of save and log are kept, and the log's use is 0. What the image held before does not matter.
  * 0; 4 image's length; 3 kind, banks or code out of range; 4 another length is not the one that kind, banks, code and colour ask for. */
 uint8_t pouch_fresh(
@@ -156,9 +166,22 @@ uint8_t pouch_clear_log(uint8_t *image, size_t image_len);
 uint8_t pouch_set_log_used(uint8_t *image, size_t image_len, uint16_t used);
 
 /* Recovery: stores the log's records in the save, in order. Takes no image. Copies of a log that was cleared in between are given one by one, in order.
- * Last bytes that are no whole record are ignored.
- * 0; 4 save_len is not 0, 512, 8,192 or 32,768, or log_len is over POUCH_LOG_LEN_MAX; 6 a whole record begins with a 0 bit or names no byte of this save. */
+ * Last bytes that are no whole record, up to 3, are ignored.
+ * 0; 4 save_len is not 0, 512, 8,192, 32,768 or 131,072, or log_len is over POUCH_LOG_LEN_MAX; 6 a whole record begins with a 0 bit, does not end in six 0
+ * bits, or names no byte of this save. */
 uint8_t pouch_recover(uint8_t *save, size_t save_len, const uint8_t *log, size_t log_len);
+
+/* Converters, for the logs of versions before 3.0 that players have: records of POUCH_OLD_RECORD_LEN bytes in `old`, of POUCH_RECORD_LEN in `log`, each with
+ * the address and the value of its fellow, in order. `value` is how many bytes of the target they take; target bytes past them stay. Last bytes of the source
+ * that are no whole record, 1 or 2 of an old log, up to 3 of a new one, are dropped. No image and no save is taken, so an address may lie beyond the save that
+ * the log is of: recovery tests that. As nothing lent overlaps, no log is converted in its own place.
+ *
+ * An undamaged old log of at most 16,383 records goes to the new form and back unchanged. A longer one is converted in parts of whole records, as each part is
+ * a log: 49,149 old bytes make 65,532 new ones. An undamaged new log goes back where every address is below 32,768.
+ * 0; 4 the source is over POUCH_LOG_LEN_MAX, its records would be in the target's form, or the target is too short for them (it may be longer than any log);
+ * 6 a whole record begins with a 0 bit, a new one does not end in six 0 bits, or, to the old form, has an address of 32,768 or more. */
+uint8_t pouch_log_to_new(const uint8_t *old, size_t old_len, uint8_t *log, size_t log_len, uint16_t *value);
+uint8_t pouch_log_to_old(const uint8_t *log, size_t log_len, uint8_t *old, size_t old_len, uint16_t *value);
 
 /* The processor's reads and writes */
 
@@ -193,7 +216,7 @@ uint8_t pouch_mapper_read(
     const uint8_t *image, size_t image_len, const uint8_t *rom, size_t rom_len, const uint8_t *save, size_t save_len, uint16_t index, uint8_t *value);
 
 /* What the mapper does with a byte: its registers change in the image; save and log are not touched. `value` is the record that the bus would log, as a
- * number: bit 23 set, the save's address in bits 22..8, the byte that is stored in bits 7..0; or 0 where nothing is to be stored.
+ * number: bit 31 set, the save's address in bits 30..14, the byte that is stored in bits 13..6, 0 in bits 5..0; or 0 where nothing is to be stored.
  * 0; 4, 3 image; 7 index outside 0000..7FFF and A000..BFFF. */
 uint8_t pouch_mapper_write(uint8_t *image, size_t image_len, uint16_t index, uint8_t byte, uint32_t *value);
 
@@ -313,8 +336,8 @@ uint8_t pouch_are_direction_keys_enabled(const uint8_t *image, size_t image_len,
  * pouch_update_timer is given the processor's cycles at either speed; the screen takes half as many at double speed.
  *
  * For a frame: pouch_colors and pouch_oam once, tiles and maps by pouch_read_block or, whichever bank the game has selected, from vram itself, which the host
- * owns. What calls cost beside a read of work memory of 139 instructions: one number set 90 to 104, pouch_host_numbers 159, pouch_host 199, pouch_oam 118,
- * pouch_colors 1,509 (bench/budgets.txt has every call). */
+ * owns. What calls cost beside a read of work memory of 134 instructions: one number set 84 to 98, pouch_host_numbers 151, pouch_host 191, pouch_oam 110,
+ * pouch_colors 1,497 (bench/budgets.txt has every call). */
 
 /* Sets all eight, to any values: screen disabled, scan line, signal, mode, delay, cycles, auxiliary cycles, window line.
  * 0; 4, 3 image. */

@@ -4,7 +4,8 @@
 #include <string.h>
 
 static uint8_t image[POUCH_IMAGE_LEN], first[POUCH_IMAGE_LEN], rom[512 * POUCH_ROM_BANK_LEN], vram[POUCH_VRAM_LEN_COLOUR], wram[POUCH_WRAM_LEN_COLOUR];
-static uint8_t save[POUCH_SAVE_LEN_CODE_2], log_[POUCH_LOG_LEN_MAX], sound[POUCH_SOUND_LEN], colors[POUCH_COLORS_LEN], oam[POUCH_OAM_LEN], block[1024];
+static uint8_t save[POUCH_SAVE_LEN_CODE_4], log_[POUCH_LOG_LEN_MAX], sound[POUCH_SOUND_LEN], colors[POUCH_COLORS_LEN], oam[POUCH_OAM_LEN], block[1024];
+static uint8_t old[1000 * POUCH_OLD_RECORD_LEN];
 static size_t rom_len, vram_len, wram_len, save_len;
 
 /* what calls set */
@@ -52,9 +53,18 @@ static uint8_t button(void)
 static void records(unsigned count)
 {
     for (unsigned at = 0; at < count; at++) {
-        log_[3 * at] = (uint8_t)(0x80 | at >> 8);
-        log_[3 * at + 1] = (uint8_t)at;
-        log_[3 * at + 2] = (uint8_t)(at % 251);
+        uint32_t bits = 1u << 31 | at << 14 | at % 251 << 6;
+        for (unsigned i = 0; i < POUCH_RECORD_LEN; i++)
+            log_[POUCH_RECORD_LEN * at + i] = (uint8_t)(bits >> (24 - 8 * i));
+    }
+}
+
+static void old_records(unsigned count)
+{
+    for (unsigned at = 0; at < count; at++) {
+        old[POUCH_OLD_RECORD_LEN * at] = (uint8_t)(0x80 | at >> 8);
+        old[POUCH_OLD_RECORD_LEN * at + 1] = (uint8_t)at;
+        old[POUCH_OLD_RECORD_LEN * at + 2] = (uint8_t)(at % 251);
     }
 }
 
@@ -77,6 +87,14 @@ static void mbc5(uint16_t banks)
 {
     fresh_with(POUCH_MBC5, banks, 2, true, POUCH_SAVE_LEN_CODE_2);
     WRITE(0x0000, 0x0A);
+}
+
+/* 16 RAM banks, of which the last is selected. */
+static void mbc5_code_4(uint16_t banks)
+{
+    fresh_with(POUCH_MBC5, banks, 4, true, POUCH_SAVE_LEN_CODE_4);
+    WRITE(0x0000, 0x0A);
+    WRITE(0x4000, 0x0F);
 }
 
 static void rom_only(void)
@@ -142,7 +160,7 @@ int main(void)
         rom_len = 2 * POUCH_ROM_BANK_LEN;
         vram_len = sizeof vram;
         wram_len = sizeof wram;
-        save_len = sizeof save;
+        save_len = POUCH_SAVE_LEN_CODE_2;
         cases[at].ready();
         puts(cases[at].name);
         count_from();

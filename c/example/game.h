@@ -5,8 +5,10 @@
 
 #include <pouchrattle.h>
 
-#ifdef LARGE_GAME /* the largest cartridge, whose save has four banks: the tests play and kill it too */
+#if defined LARGE_GAME /* the largest ROM, and a save of four banks: the tests play and kill it too */
 enum { GAME_KIND = POUCH_MBC5, GAME_BANKS = 512, GAME_CODE = 3, SAVE_LEN = POUCH_SAVE_LEN_CODE_3 };
+#elif defined LARGEST_SAVE /* and this one, whose save has 16 banks */
+enum { GAME_KIND = POUCH_MBC5, GAME_BANKS = 64, GAME_CODE = 4, SAVE_LEN = POUCH_SAVE_LEN_CODE_4 };
 #else
 enum { GAME_KIND = POUCH_MBC1, GAME_BANKS = 2, GAME_CODE = 2, SAVE_LEN = POUCH_SAVE_LEN_CODE_2 };
 #endif
@@ -15,9 +17,9 @@ enum { GAME_KIND = POUCH_MBC1, GAME_BANKS = 2, GAME_CODE = 2, SAVE_LEN = POUCH_S
 enum { SAVE_BANK_LEN = 8192 };
 
 /* The address in the save: 0, 3001, 6002, .. modulo its length. 3001 is odd, so a pass meets each address once. */
-static inline uint16_t game_at(uint32_t i)
+static inline uint32_t game_at(uint32_t i)
 {
-    return (uint16_t)(i * 3001u % SAVE_LEN);
+    return i * 3001u % SAVE_LEN;
 }
 
 /* The value: never that of an empty save, 0, and at each address another in each of 255 passes. */

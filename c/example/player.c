@@ -48,7 +48,8 @@ static void recover(int folder, int journal)
     size_t len = (size_t)is.st_size;
     uint8_t *bytes = malloc(len + 1);
     require(bytes != NULL && read_all(journal, bytes, len) == len, "hero.journal");
-    uint8_t number = pouch_bus_recover(save, sizeof save, bytes, len);
+    bool marked = pouch_journal_marked(bytes, len); /* else a version before 3.0 wrote it */
+    uint8_t number = marked ? pouch_bus_recover(save, sizeof save, bytes, len) : pouch_bus_recover_old(save, sizeof save, bytes, len);
     free(bytes);
     if (number != POUCH_DONE) {
         fprintf(stderr, "hero.journal: refused by %d; hero.sav is as it was\n", number);

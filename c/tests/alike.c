@@ -4,6 +4,7 @@
  * entries.h is made from pouchrattle.h (c/test-aarch64): make_call, and every call declared with 64 bits for a narrower number. So the bits of a register or a
  * stack slot that such a number leaves unused hold anything here, as both processors' calling conventions allow. */
 #include "lent.h"
+#include "record.h"
 #include <inttypes.h>
 
 static uint64_t seed = 1, digest = 14695981039346656037u;
@@ -65,14 +66,25 @@ static uint64_t truth(uint64_t x)
 
 static void cartridge(void)
 {
-    const uint8_t kind = (uint8_t)(any() % 4), codes[] = {0, 2, 3}, sizes[] = {1, 7, 4, 9};
-    const uint8_t code = kind == POUCH_MBC2 ? 0 : codes[any() % 3];
+    const uint8_t kind = (uint8_t)(any() % 4), codes[] = {0, 2, 3, 4}, sizes[] = {1, 7, 4, 9};
+    const uint8_t code = kind == POUCH_MBC2 ? 0 : codes[any() % (kind == POUCH_MBC5 ? 4 : 3)];
     const uint16_t banks = (uint16_t)(2u << any() % sizes[kind]);
     const bool colour = any() % 2 != 0;
-    const size_t log_len = any() % 8 == 0 ? any() % 7 : any() % (POUCH_LOG_LEN_MAX + 1);
+    const size_t log_len = any() % 8 == 0 ? any() % 9 : any() % 3 == 0 ? any() % 300 : any() % (POUCH_LOG_LEN_MAX + 1);
     start(kind, banks, code, colour, log_len);
     for (size_t i = 0; i < rom.len; i++)
         rom.at[i] = (uint8_t)any();
+    for (size_t i = 0; i + POUCH_RECORD_LEN <= log_len; i += POUCH_RECORD_LEN) /* sound ones, for the converter: it reads a log as a whole */
+        put_record(log_.at + i, (uint32_t)(any() % (any() % 500 == 0 ? 131072 : 32768)), (uint8_t)any());
+}
+
+/* A block of old records, one in 200 of them damaged, for the converter. */
+static void old_records(struct lent *block)
+{
+    for (size_t i = 0; i + POUCH_OLD_RECORD_LEN <= block->len; i += POUCH_OLD_RECORD_LEN) {
+        put_old_record(block->at + i, (uint32_t)(any() % 32768), (uint8_t)any());
+        block->at[i] ^= any() % 200 == 0 ? 0x80 : 0;
+    }
 }
 
 int main(void)
@@ -88,6 +100,8 @@ int main(void)
             }
             for (int i = 0; i < BLOCKS; i++)
                 blocks[i].len = any() % 3 ? POUCH_COLORS_LEN : any() % 2 ? OAM_LEN : any() % 16 ? any() % 300 : any() % (POUCH_BLOCK_LEN_MAX + 2);
+            if ((turn >> 40 & 7) == 0)
+                old_records(&blocks[0]);
             /* Now and then something lent has another length for one call, or the image another byte. */
             struct lent *const odd = lent[turn % 7];
             const size_t len = odd->len;

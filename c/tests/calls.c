@@ -330,7 +330,7 @@ static void check_version(void)
     IS(POUCH_PATCH_OF(pouch_version()), POUCH_VERSION_PATCH);
     IS(POUCH_IMAGE_LEN_OF(pouch_version()), POUCH_IMAGE_LEN);
     IS(POUCH_RECORD_LEN_OF(pouch_version()), POUCH_RECORD_LEN);
-    IS(pouch_version() == 0x0002000000029A03, true);
+    IS(pouch_version() == 0x0003000000029A04, true);
 }
 
 /* Each colour at its three bytes: the background's second and the sprites' last, and no others. */
@@ -370,7 +370,7 @@ static void check_log(void)
     IS(wr(0xA001, 0x11), POUCH_DONE);
     IS(pouch_write_word(WRITES, 0xBFFE, 0x3322), POUCH_DONE);
     IS(ask(pouch_log_used), 4 * POUCH_RECORD_LEN);
-    IS(memcmp(log_.at, "\x80\x01\x11\x80\x01\x11\x9F\xFE\x22\x9F\xFF\x33\x5A", 4 * POUCH_RECORD_LEN + 1), 0);
+    IS(memcmp(log_.at, "\x80\x00\x44\x40\x80\x00\x44\x40\x87\xFF\x88\x80\x87\xFF\xCC\xC0\x5A", 4 * POUCH_RECORD_LEN + 1), 0);
     IS(save.at[1] == 0x11 && save.at[8190] == 0x22 && save.at[8191] == 0x33, true);
     IS(pouch_clear_log(LEND(image)), POUCH_DONE);
     IS(ask(pouch_log_used), 0);
@@ -461,7 +461,8 @@ static void check_sprites_from_rom(void)
         uint8_t kind, code;
         uint16_t banks, bank;
     } cartridges[] = {{POUCH_ROM_ONLY, 0, 2, 1}, {POUCH_MBC1, 2, 8, 5},   {POUCH_MBC1, 3, 64, 19},   {POUCH_MBC2, 0, 16, 11},   {POUCH_MBC5, 0, 2, 0},
-                      {POUCH_MBC5, 2, 8, 7},     {POUCH_MBC5, 3, 64, 32}, {POUCH_MBC5, 3, 256, 128}, {POUCH_MBC5, 2, 512, 256}, {POUCH_MBC5, 3, 512, 511}};
+                      {POUCH_MBC5, 2, 8, 7},     {POUCH_MBC5, 3, 64, 32}, {POUCH_MBC5, 3, 256, 128}, {POUCH_MBC5, 2, 512, 256}, {POUCH_MBC5, 3, 512, 511},
+                      {POUCH_MBC5, 4, 64, 63},   {POUCH_MBC5, 4, 512, 300}};
     const uint8_t pages[] = {0x00, 0x3F, 0x40, 0x7F};
     uint8_t behind[256 - POUCH_OAM_LEN], block[POUCH_OAM_LEN];
     for (unsigned i = 0; i < sizeof cartridges / sizeof *cartridges; i++) {
@@ -578,14 +579,24 @@ static void check_mapper_corners(void)
     IS(wr(0xA001, 0x77), POUCH_DONE);
     IS(wr(0x4000, 4), POUCH_DONE);
     IS(wr(0xA001, 0x88), POUCH_DONE);
-    IS(memcmp(log_.at, "\xE0\x01\x77\x80\x01\x88", 2 * POUCH_RECORD_LEN), 0);
+    IS(memcmp(log_.at, "\x98\x00\x5D\xC0\x80\x00\x62\x00", 2 * POUCH_RECORD_LEN), 0);
     IS(save.at[3 * 8192 + 1] == 0x77 && save.at[1] == 0x88, true);
+
+    /* sixteen RAM banks, of which 16 is 0 again; the last byte of the save has the last address of a record */
+    start(POUCH_MBC5, 2, 4, false, 2 * POUCH_RECORD_LEN);
+    IS(wr(0x0000, 0x0A), POUCH_DONE);
+    IS(wr(0x4000, 15), POUCH_DONE);
+    IS(wr(0xBFFF, 0x77), POUCH_DONE);
+    IS(wr(0x4000, 16), POUCH_DONE);
+    IS(wr(0xA001, 0x88), POUCH_DONE);
+    IS(memcmp(log_.at, "\xFF\xFF\xDD\xC0\x80\x00\x62\x00", 2 * POUCH_RECORD_LEN), 0);
+    IS(save.len == 131072 && save.at[131071] == 0x77 && save.at[1] == 0x88, true);
 
     start(POUCH_MBC2, 2, 0, false, POUCH_RECORD_LEN);
     IS(wr(0x0000, 0x0A), POUCH_DONE);
     IS(wr(0xA000, 0xAB), POUCH_DONE);
     IS(save.at[0], 0x0B);
-    IS(memcmp(log_.at, "\x80\x00\x0B", POUCH_RECORD_LEN), 0);
+    IS(memcmp(log_.at, "\x80\x00\x02\xC0", POUCH_RECORD_LEN), 0);
 }
 
 static void check_other_corners(void)
@@ -593,7 +604,7 @@ static void check_other_corners(void)
     start_one(false);
     IS(wr(0x0000, 0x0A), POUCH_DONE);
     IS(wr(0xB234, 0x56), POUCH_DONE);
-    IS(memcmp(log_.at, "\x92\x34\x56", POUCH_RECORD_LEN), 0);
+    IS(memcmp(log_.at, "\x84\x8D\x15\x80", POUCH_RECORD_LEN), 0);
 
     start_one(true);
     IS(wr(0xFF68, 0x80), POUCH_DONE);
@@ -623,7 +634,7 @@ static void check_mapper(void)
     IS(pouch_mapper_write(LEND(image), 0x0000, 0x0A, &answer), POUCH_DONE);
     IS(answer, 0);
     IS(pouch_mapper_write(LEND(image), 0xB234, 0x56, &answer), POUCH_DONE);
-    IS(answer, 0x923456);
+    IS(answer, 0x848D1580);
     IS(pouch_mapper_read(LEND(image), LEND(rom), LEND(save), 0xB234, &byte), POUCH_DONE);
     IS(byte, FILL);
     IS(all_are(save.at, save.len, FILL) && all_are(log_.at, log_.len, FILL), true);

@@ -2,9 +2,10 @@
  *
  *     kill PLAYER FOLDER ROUNDS SEED
  *
- * After each kill hero.sav must be the save as the last start found or left it, hero.journal the records of the writes since, and recovery over both must
- * give the save after exactly as many of the game's writes as these files hold, no fewer than the player had reported. The expected bytes are made from the
- * list alone. Then the journal is cut at random places, and recovery must give the save after the last write whose record is whole. */
+ * After each kill hero.sav must be the save as the last start found or left it, hero.journal the mark and the records of the writes since, and recovery over
+ * both must give the save after exactly as many of the game's writes as these files hold, no fewer than the player had reported. The expected bytes are made
+ * from the list alone. Then the journal is cut at random places, and recovery must give the save after the last write whose record is whole. Before the first
+ * start a version before 3.0 has played: its journal, of records of three bytes, is what the player finds. */
 #define _POSIX_C_SOURCE 200809L
 #include "../example/game.h"
 #include "record.h"
@@ -18,9 +19,9 @@
 #include <sys/wait.h>
 #include <time.h>
 
-enum { JOURNAL_MAX = 4 << 20, CUTS = 20, LONGEST_MS = 100, PATIENCE_MS = 60000 };
+enum { JOURNAL_MAX = 4 << 20, CUTS = 20, LONGEST_MS = 100, PATIENCE_MS = 60000, OLD_WRITES = 5000 };
 
-static uint8_t save[SAVE_LEN + 1], expected[SAVE_LEN], records[JOURNAL_MAX + POUCH_RECORD_LEN], journal[JOURNAL_MAX];
+static uint8_t save[SAVE_LEN + 1], expected[SAVE_LEN], records[JOURNAL_MAX + POUCH_RECORD_LEN] = POUCH_JOURNAL_MARK, journal[JOURNAL_MAX];
 static const char *folder;
 static uint64_t seed;
 
@@ -70,14 +71,50 @@ static bool is_save_after(const uint8_t *bytes, uint32_t count)
     return memcmp(bytes, expected, sizeof expected) == 0;
 }
 
-/* Whether the journal is, byte for byte, the records of the writes from `from` on; the last may be cut. */
+/* How many whole records a journal of this length has. */
+static uint32_t records_in(size_t len)
+{
+    return len < POUCH_JOURNAL_MARK_LEN ? 0 : (uint32_t)((len - POUCH_JOURNAL_MARK_LEN) / POUCH_RECORD_LEN);
+}
+
+/* Whether the journal is, byte for byte, the mark and the records of the writes from `from` on; the last may be cut, or the mark. */
 static bool is_journal_from(uint32_t from, size_t len)
 {
-    for (size_t i = 0; i < len; i += POUCH_RECORD_LEN) {
-        uint32_t write = from + (uint32_t)(i / POUCH_RECORD_LEN);
+    uint32_t write = from;
+    for (size_t i = POUCH_JOURNAL_MARK_LEN; i < len; i += POUCH_RECORD_LEN, write++)
         put_record(records + i, game_at(write), game_value(write));
-    }
     return memcmp(journal, records, len) == 0;
+}
+
+/* What a version before 3.0 left behind: an empty save, and a journal of records of three bytes. Where it could not have played this game, nothing. */
+static void play_before(void)
+{
+    char path[4096];
+    uint8_t record[POUCH_OLD_RECORD_LEN];
+    if (SAVE_LEN > POUCH_SAVE_LEN_CODE_3)
+        return;
+    snprintf(path, sizeof path, "%s/hero.journal", folder);
+    FILE *file = fopen(path, "wb");
+    require(file != NULL, "hero.journal of a version before");
+    for (; made < OLD_WRITES; made++) {
+        put_old_record(record, game_at(made), game_value(made));
+        require(fwrite(record, sizeof record, 1, file) == 1, "hero.journal of a version before");
+    }
+    require(fclose(file) == 0, "hero.journal of a version before");
+}
+
+/* Whether the journal is still the one of that version. */
+static bool is_journal_before(size_t len)
+{
+    uint8_t record[POUCH_OLD_RECORD_LEN];
+    if (saved != 0 || made != OLD_WRITES || len != OLD_WRITES * sizeof record)
+        return false;
+    for (uint32_t i = 0; i < made; i++) {
+        put_old_record(record, game_at(i), game_value(i));
+        if (memcmp(journal + i * sizeof record, record, sizeof record) != 0)
+            return false;
+    }
+    return true;
 }
 
 /* Runs the player, kills it so many milliseconds after its start or after its first report, and gives the last count that it reported, 0 if none. */
@@ -141,15 +178,22 @@ int main(int count, char **words)
     unsigned rounds = (unsigned)strtoul(words[3], NULL, 10), in_play = 0, in_recovery = 0;
     printf("kill: seed %s\n", words[4]);
     fflush(stdout);
+    play_before();
     for (unsigned round = 0; round < rounds; round++) {
         uint32_t reported = run_and_kill(words[1], random_below(LONGEST_MS), round % 2 == 1);
 
         size_t save_len = load("hero.sav", save, sizeof save), len = load("hero.journal", journal, sizeof journal);
+        if (is_journal_before(len)) { /* killed in the first recovery: there is no save, or the recovered one */
+            require(save_len == 0 || (save_len == SAVE_LEN && is_save_after(save, made)), "hero.sav is neither missing nor new");
+            require(reported == 0, "writes are reported before the journal is emptied");
+            in_recovery++;
+            continue;
+        }
         if (save_len == 0)
             require(saved == 0 && made == 0, "hero.sav is gone"); /* killed before the first was there */
         else
             require(save_len == SAVE_LEN, "hero.sav has another length");
-        size_t before = (size_t)(made - saved) * POUCH_RECORD_LEN;
+        size_t before = POUCH_JOURNAL_MARK_LEN + (size_t)(made - saved) * POUCH_RECORD_LEN;
         bool old_journal = made > saved && len == before && is_journal_from(saved, len);
         if (old_journal) { /* killed before the journal was emptied: the save file is the old or the new one */
             require(is_save_after(save, saved) || is_save_after(save, made), "hero.sav is neither old nor new");
@@ -158,8 +202,8 @@ int main(int count, char **words)
             require(is_save_after(save, made), "hero.sav is not the recovered save");
             require(is_journal_from(made, len), "hero.journal is not the list of the writes");
             saved = made;
-            made += (uint32_t)(len / POUCH_RECORD_LEN);
-            in_play += len > 0;
+            made += records_in(len);
+            in_play += records_in(len) > 0;
         }
         require(reported <= made, "fewer writes are in the journal than were reported");
 
@@ -171,7 +215,7 @@ int main(int count, char **words)
             uint32_t n = random_below((uint32_t)len + 1);
             memcpy(recovered, save, sizeof recovered);
             require(pouch_bus_recover(recovered, sizeof recovered, journal, n) == POUCH_DONE, "recovery of a cut journal is refused");
-            require(is_save_after(recovered, saved + n / POUCH_RECORD_LEN), "a cut journal gives another save");
+            require(is_save_after(recovered, saved + records_in(n)), "a cut journal gives another save");
         }
     }
     printf("kill: %u kills, %u in play, %u in recovery; %u save writes, none lost\n", rounds, in_play, in_recovery, (unsigned)made);

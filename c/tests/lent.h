@@ -14,7 +14,7 @@ struct lent {
 
 enum { GUARD_LEN = 64, LAST_GUARD_LEN = 65536, GUARD = 0xC5, FILL = 0x5A };
 
-static uint8_t arena[512 * POUCH_ROM_BANK_LEN + 250000];
+static uint8_t arena[512 * POUCH_ROM_BANK_LEN + 350000];
 static size_t arena_len; /* up to the end of the last guard */
 static struct lent image, rom, vram, wram, save, log_, sound;
 static struct lent *const lent[] = {&rom, &vram, &wram, &save, &log_, &sound, &image};
@@ -52,7 +52,7 @@ static inline void check(long got, long wanted, const char *what, const char *of
 /* Lays the memories out for a cartridge. The first byte of each ROM bank is the bank's number, the second its ninth bit. */
 static inline void lay_out(uint8_t kind, uint16_t banks, uint8_t code, bool colour, size_t log_len)
 {
-    const size_t saves[] = {POUCH_SAVE_LEN_CODE_0, 0, POUCH_SAVE_LEN_CODE_2, POUCH_SAVE_LEN_CODE_3};
+    const size_t saves[] = {POUCH_SAVE_LEN_CODE_0, 0, POUCH_SAVE_LEN_CODE_2, POUCH_SAVE_LEN_CODE_3, POUCH_SAVE_LEN_CODE_4};
     here = (struct cartridge){kind, banks, code};
     rom.len = (size_t)banks * POUCH_ROM_BANK_LEN;
     vram.len = colour ? POUCH_VRAM_LEN_COLOUR : POUCH_VRAM_LEN_MONOCHROME;
@@ -88,8 +88,8 @@ static inline void start(uint8_t kind, uint16_t banks, uint8_t code, bool colour
     IS(fresh(kind, banks, code, colour), POUCH_DONE);
 }
 
-/* Cartridges that show a save of 8,192 bytes at A000 once 0000 is given 0A. What a list of calls does with one of them it does with each. */
-static const struct cartridge with_save[] = {{POUCH_MBC1, 2, 2}, {POUCH_MBC5, 2, 2}, {POUCH_MBC5, 64, 2}, {POUCH_MBC5, 512, 2}};
+/* Cartridges that show the first 8,192 bytes of their save at A000 once 0000 is given 0A. What a list of calls does with one of them it does with each. */
+static const struct cartridge with_save[] = {{POUCH_MBC1, 2, 2}, {POUCH_MBC5, 2, 2}, {POUCH_MBC5, 64, 2}, {POUCH_MBC5, 512, 2}, {POUCH_MBC5, 8, 4}};
 static const struct cartridge *one = with_save;
 
 static inline void start_one(bool colour)
@@ -105,8 +105,11 @@ static inline bool all_are(const uint8_t *bytes, size_t len, uint8_t byte)
 /* Fields of the image: the mapper's part, by the bit that each starts at, most significant first */
 
 enum {
-    MAPPER = 5283, LOG_BANKS = 5285, CODE = 5289, ROM_BANK = 5291, RAM_BANK = 5300, BANKING = 5302, ENABLED = 5303, HIGH = 5304, LOG_USE = 5306, ZEROS = 5322
+    MAPPER = 5283, LOG_BANKS = 5285, CODE = 5289, ROM_BANK = 5292, RAM_BANK = 5301, BANKING = 5305, ENABLED = 5306, HIGH = 5307, LOG_USE = 5309, ZEROS = 5325
 };
+
+/* and how many bits those have that are named more than once */
+enum { CODE_WIDTH = 3, RAM_BANK_WIDTH = 4, ZEROS_WIDTH = 3 };
 
 static inline uint32_t field(unsigned at, unsigned width)
 {

@@ -3,7 +3,7 @@
 #include "record.h"
 #include "refused.h"
 
-enum { SAVE_BANK_LEN = 8192 };
+enum { SAVE_BANK_LEN = 8192, SAVE_BANKS_MOST = 16 };
 
 /* The model: four registers, and what save and log must hold */
 
@@ -15,12 +15,13 @@ struct registers {
 static const struct registers at_start = {.low = 1};
 static struct registers model;
 
-static uint8_t kept[POUCH_SAVE_LEN_CODE_3], records[POUCH_LOG_LEN_MAX];
+static uint8_t kept[POUCH_SAVE_LEN_CODE_4], records[POUCH_LOG_LEN_MAX];
 static size_t recorded;
 
 static unsigned save_banks(void)
 {
-    return here.code == 3 ? 4 : here.code == 2 ? 1 : 0;
+    const unsigned banks[] = {0, 0, 1, 4, 16};
+    return banks[here.code];
 }
 
 static unsigned rom_bank(void)
@@ -72,7 +73,7 @@ static uint16_t rom_mark(unsigned bank)
 
 static uint8_t save_mark(uint32_t at)
 {
-    return (uint8_t)(at * 13 + at / SAVE_BANK_LEN * 59 + 7);
+    return (uint8_t)(at * 13 + at / SAVE_BANK_LEN * 59 + 7); /* 59 is odd: no two of 256 banks are alike */
 }
 
 static void start_marked(uint16_t banks, uint8_t code, size_t log_len)
@@ -141,7 +142,7 @@ static void write_now(uint16_t index, uint8_t byte, uint8_t next)
         break;
     default:
         HOLDS(pouch_mapper_write(LEND(image), index, byte, &answer), POUCH_DONE);
-        HOLDS(answer, index < 0x8000 || !is_open() ? 0 : 0x800000 | place(index) << 8 | byte);
+        HOLDS(answer, index < 0x8000 || !is_open() ? 0 : 0x80000000 | place(index) << 14 | (uint32_t)byte << 6);
         if (index < 0x8000)
             model_write(index, byte);
     }
@@ -161,7 +162,7 @@ static void check_image(void)
     uint8_t wanted[POUCH_IMAGE_LEN];
     memcpy(wanted, fresh_image, sizeof wanted);
     put_field(wanted, ROM_BANK, 9, rom_bank());
-    put_field(wanted, RAM_BANK, 2, ram_bank());
+    put_field(wanted, RAM_BANK, RAM_BANK_WIDTH, ram_bank());
     put_field(wanted, ENABLED, 1, is_open());
     put_field(wanted, LOG_USE, 16, (uint32_t)recorded);
     HOLDS(memcmp(wanted, image.at, sizeof wanted), 0);
@@ -197,8 +198,7 @@ static void check_stored(void)
     /* and back to the marks */
     const uint16_t written[] = {0xA000, 0xA001, 0xBFFF};
     for (int i = 0; i < 3 && save.len > 0; i++)
-        kept[place(written[i])] = save_mark(place(written[i]));
-    memcpy(save.at, kept, save.len);
+        kept[place(written[i])] = save.at[place(written[i])] = save_mark(place(written[i]));
     memset(log_.at, FILL, recorded);
     recorded = 0;
 }
@@ -223,7 +223,7 @@ static const struct {
 static void check_registers(uint16_t banks, uint8_t code)
 {
     const uint16_t indexes[] = {0x0000, 0x1FFF, 0x2000, 0x2FFF, 0x3000, 0x3FFF, 0x4000, 0x5FFF, 0x6000, 0x7FFF};
-    bool shown[512] = {false}, opened[4] = {false};
+    bool shown[512] = {false}, opened[SAVE_BANKS_MOST] = {false};
     start_marked(banks, code, 100);
     memcpy(fresh_image, image.at, sizeof fresh_image);
     for (now.way = BY_BYTE; now.way <= BY_MAPPER; now.way++)
@@ -254,7 +254,7 @@ static void check_registers(uint16_t banks, uint8_t code)
     /* every bank was shown, 0 too */
     for (unsigned bank = 0; bank < 512; bank++)
         IS(shown[bank], bank < banks);
-    for (unsigned bank = 0; bank < 4; bank++)
+    for (unsigned bank = 0; bank < SAVE_BANKS_MOST; bank++)
         IS(opened[bank], bank < save_banks());
 }
 
@@ -279,18 +279,18 @@ static void check_corners(void)
         IS(wr(selects[i].index, selects[i].byte), POUCH_DONE);
         IS(rd(0x4000) << 8 | rd(0x4001), rom_mark(selects[i].shown));
     }
-    /* the save's bank by code: none, always 0, modulo 4 */
-    const uint8_t bytes[] = {0, 1, 3, 4, 8, 0x0F, 0x13, 0xFF}, of_four[] = {0, 1, 3, 0, 0, 3, 3, 3};
-    const uint8_t codes[] = {0, 2, 3};
-    for (unsigned i = 0; i < 3 * sizeof bytes; i++) {
-        const uint8_t code = codes[i / sizeof bytes], bank = code == 3 ? of_four[i % sizeof bytes] : 0;
-        start_marked(4, code, 3);
+    /* the save's bank by code: none, always 0, modulo 4, modulo 16 */
+    const uint8_t bytes[] = {0, 1, 3, 4, 8, 0x0F, 0x13, 0xFE}, of_four[] = {0, 1, 3, 0, 0, 3, 3, 2}, of_sixteen[] = {0, 1, 3, 4, 8, 15, 3, 14};
+    const uint8_t codes[] = {0, 2, 3, 4};
+    for (unsigned i = 0; i < 4 * sizeof bytes; i++) {
+        const uint8_t code = codes[i / sizeof bytes], bank = code == 4 ? of_sixteen[i % sizeof bytes] : code == 3 ? of_four[i % sizeof bytes] : 0;
+        start_marked(4, code, POUCH_RECORD_LEN);
         IS(rd(0xA000), 0xFF); /* off at the start */
         IS(wr(0xA000, 0x12), POUCH_DONE);
         IS(ask(pouch_log_used), 0);
         IS(wr(0x4000, bytes[i % sizeof bytes]), POUCH_DONE);
         IS(wr(0x0000, 0x0A), POUCH_DONE);
-        IS(field(RAM_BANK, 2), bank);
+        IS(field(RAM_BANK, RAM_BANK_WIDTH), bank);
         IS(field(ENABLED, 1), code != 0);
         IS(rd(0xA000), code == 0 ? 0xFF : save_mark(bank * SAVE_BANK_LEN));
         IS(wr(0xBFFF, 0x12), POUCH_DONE);
@@ -298,7 +298,7 @@ static void check_corners(void)
         IS(wr(0x0000, 0x0B), POUCH_DONE);
         IS(rd(0xBFFF), 0xFF);
         for (uint32_t at = 0; at < save.len; at++)
-            check(save.at[at], at == bank * SAVE_BANK_LEN + 0x1FFFu ? 0x12 : save_mark(at), "a byte of the save", "", __LINE__);
+            check(save.at[at], at == (uint32_t)bank * SAVE_BANK_LEN + 0x1FFF ? 0x12 : save_mark(at), "a byte of the save", "", __LINE__);
     }
 }
 
@@ -315,6 +315,9 @@ static void check_transfers(void)
     IS(memcmp(image.at, save.at + 2 * SAVE_BANK_LEN, POUCH_OAM_LEN), 0);
     IS(wr(0x0000, 0x00) | wr(0xFF46, 0xBF), POUCH_DONE);
     IS(all_are(image.at, POUCH_OAM_LEN, 0xFF), true);
+    start_marked(2, 4, 0);
+    IS(wr(0x0000, 0x0A) | wr(0x4000, 0x0D) | wr(0xFF46, 0xBF), POUCH_DONE);
+    IS(memcmp(image.at, save.at + 13 * SAVE_BANK_LEN + 0x1F00, POUCH_OAM_LEN), 0);
 }
 
 static void check_descriptions(void)
@@ -324,8 +327,21 @@ static void check_descriptions(void)
         start_marked(banks, banks % 3 == 1 ? 2 : 3, 0);
         REFUSED(fresh(4, banks, 2, true), POUCH_OUT_OF_RANGE);
         REFUSED(fresh(POUCH_MBC5, banks, 1, true), POUCH_OUT_OF_RANGE);
-        REFUSED(fresh(POUCH_MBC5, banks, 4, true), POUCH_OUT_OF_RANGE);
+        REFUSED(fresh(POUCH_MBC5, banks, 5, true), POUCH_OUT_OF_RANGE);
         REFUSED(fresh(POUCH_MBC5, banks, 0, true), POUCH_WRONG_LENGTH); /* there is a save */
+        REFUSED(fresh(POUCH_MBC5, banks, 4, true), POUCH_WRONG_LENGTH); /* of another length */
+        lay_out(POUCH_MBC5, banks, 4, true, 0);
+        for (uint8_t kind = POUCH_ROM_ONLY; kind < POUCH_MBC5; kind++)
+            REFUSED(fresh(kind, banks, 4, true), POUCH_OUT_OF_RANGE);
+        REFUSED(fresh(POUCH_MBC5, banks, 3, true), POUCH_WRONG_LENGTH);
+        IS(fresh(POUCH_MBC5, banks, 4, true), POUCH_DONE);
+        save.len--;
+        REFUSED(wr(0xC000, 1), POUCH_WRONG_LENGTH);
+        REFUSED(fresh(POUCH_MBC5, banks, 4, true), POUCH_WRONG_LENGTH);
+        save.len += 2;
+        REFUSED(wr(0xC000, 1), POUCH_WRONG_LENGTH);
+        save.len--;
+        IS(wr(0xC000, 1), POUCH_DONE);
     }
     for (unsigned i = 0; i < sizeof no_banks / sizeof *no_banks; i++) {
         lay_out(POUCH_MBC5, no_banks[i] <= 512 ? no_banks[i] : 512, 3, true, 0);
@@ -367,7 +383,7 @@ static void put_in(unsigned at, unsigned width, uint32_t to, bool taken)
     else {
         IS(ask(pouch_log_used), POUCH_RECORD_LEN * (save_banks() > 0));
         IS(rd(0x4000) << 8 | rd(0x4001), rom_mark(field(ROM_BANK, 9)));
-        IS(rd(0xA000), field(ENABLED, 1) ? save.at[field(RAM_BANK, 2) * SAVE_BANK_LEN] : 0xFF);
+        IS(rd(0xA000), field(ENABLED, 1) ? save.at[field(RAM_BANK, RAM_BANK_WIDTH) * SAVE_BANK_LEN] : 0xFF);
     }
     put_field(image.at, at, width, was);
 }
@@ -381,16 +397,17 @@ static void check_images(uint16_t banks, uint8_t code)
     for (unsigned past = banks; past < 512; past *= 2)
         put_in(ROM_BANK, 9, past, false);
     put_in(ROM_BANK, 9, 511, banks == 512);
-    for (unsigned bank = 0; bank < 4; bank++)
-        put_in(RAM_BANK, 2, bank, bank == 0 || bank < save_banks());
+    for (unsigned bank = 0; bank < SAVE_BANKS_MOST; bank++)
+        put_in(RAM_BANK, RAM_BANK_WIDTH, bank, bank == 0 || bank < save_banks());
     put_in(ENABLED, 1, 0, true);
     put_in(ENABLED, 1, 1, code != 0);
     put_in(BANKING, 1, 1, false);
     for (unsigned high = 1; high < 4; high++)
         put_in(HIGH, 2, high, false);
-    for (unsigned bit = 0; bit < 6; bit++)
+    for (unsigned bit = 0; bit < ZEROS_WIDTH; bit++)
         put_in(ZEROS + bit, 1, 1, false);
-    put_in(CODE, 2, 1, false);
+    for (unsigned other = 1; other < 8; other += other == 1 ? 4 : 1) /* codes 1, 5, 6, 7 */
+        put_in(CODE, CODE_WIDTH, other, false);
     put_in(LOG_BANKS, 4, 0, false);
     for (unsigned log = 10; log < 16; log++)
         put_in(LOG_BANKS, 4, log, false);
@@ -443,7 +460,7 @@ static void check_recovery(uint16_t banks, uint8_t code)
     for (size_t n = 0; n <= recorded; n++) {
         if (n > 0 && n % POUCH_RECORD_LEN == 0) {
             const uint8_t *last = records + n - POUCH_RECORD_LEN;
-            stood[(last[0] & 0x7F) << 8 | last[1]] = last[2];
+            stood[(last[0] & 0x7F) << 10 | last[1] << 2 | last[2] >> 6] = (uint8_t)(last[2] << 2 | last[3] >> 6);
         }
         memcpy(recovered, first, save.len);
         IS(pouch_recover(recovered, save.len, log_.at, n), POUCH_DONE);
@@ -455,15 +472,15 @@ static void check_recovery(uint16_t banks, uint8_t code)
 int main(void)
 {
     const uint16_t banks[] = {2, 8, 256, 512};
-    const uint8_t codes[] = {0, 2, 3};
+    const uint8_t codes[] = {0, 2, 3, 4};
     check_corners();
     check_transfers();
     check_descriptions();
     check_sizes();
-    for (unsigned i = 0; i < 12; i++) {
-        check_registers(banks[i / 3], codes[i % 3]);
-        check_images(banks[i / 3], codes[i % 3]);
-        check_recovery(banks[i / 3], codes[i % 3]);
+    for (unsigned i = 0; i < 16; i++) {
+        check_registers(banks[i / 4], codes[i % 4]);
+        check_images(banks[i / 4], codes[i % 4]);
+        check_recovery(banks[i / 4], codes[i % 4]);
     }
     return report("mbc5");
 }

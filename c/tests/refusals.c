@@ -212,7 +212,7 @@ static void check_entry(const struct entry *entry)
     start_one(false);
     IS(wr(0x0000, 0x0A), POUCH_DONE);
     IS(wr(0xA000, 1), POUCH_DONE);
-    log_.len = 2;
+    log_.len = POUCH_RECORD_LEN - 1;
     if (entry->lends & LOG)
         REFUSES(entry, POUCH_OUT_OF_RANGE);
     else
@@ -225,14 +225,14 @@ static bool is_described(uint8_t kind, uint16_t banks, uint8_t code)
     const uint16_t most[] = {2, 128, 16, 512};
     if (kind > POUCH_MBC5 || banks < 2 || banks > most[kind] || (banks & (banks - 1)) != 0)
         return false;
-    return code == 0 || (kind != POUCH_MBC2 && (code == 2 || code == 3));
+    return code == 0 || (kind != POUCH_MBC2 && (code == 2 || code == 3)) || (kind == POUCH_MBC5 && code == 4);
 }
 
 static void check_fresh(void)
 {
     /* what it zeroes, and what it keeps */
-    const struct cartridge largest[] = {{POUCH_MBC1, 128, 3}, {POUCH_MBC5, 512, 3}};
-    for (int i = 0; i < 4; i++) {
+    const struct cartridge largest[] = {{POUCH_MBC1, 128, 3}, {POUCH_MBC5, 512, 3}, {POUCH_MBC5, 512, 4}};
+    for (int i = 0; i < 6; i++) {
         const struct cartridge *c = &largest[i / 2];
         lay_out(c->kind, c->banks, c->code, i % 2, 100);
         memcpy(before, arena, arena_len);
@@ -248,14 +248,14 @@ static void check_fresh(void)
     unsigned taken = 0;
     for (uint8_t kind = 0; kind < 5; kind++)
         for (uint16_t banks = 2; banks <= 512; banks = (uint16_t)(banks * 2))
-            for (uint8_t code = 0; code < 4; code++)
+            for (uint8_t code = 0; code < 5; code++)
                 if (is_described(kind, banks, code)) {
                     start(kind, banks, code, banks % 3 == 1, 0);
                     taken++;
                 }
-    IS(taken, 3 * (1 + 7 + 9) + 4);
+    IS(taken, 3 * (1 + 7 + 9) + 4 + 9);
     /* any description, with a length that is wrong: 3 before 4 */
-    const uint8_t kinds[] = {0, 1, 2, 3, 4, 5, 255}, codes[] = {0, 1, 2, 3, 4, 255};
+    const uint8_t kinds[] = {0, 1, 2, 3, 4, 5, 255}, codes[] = {0, 1, 2, 3, 4, 5, 8, 255};
     unsigned wrong = 0;
     start_one(false);
     sound.len--;
@@ -277,15 +277,61 @@ static void check_fresh(void)
         for (int i = 0; i < 6; i++) { /* 4, and 3 before it */
             size_t len = lent[i]->len;
             lent[i]->len = lent[i] == &log_ ? 65536 : len - 1;
-            REFUSED(fresh(one->kind, one->banks, 2, false), POUCH_WRONG_LENGTH);
-            REFUSED(fresh(one->kind, 3, 2, false), POUCH_OUT_OF_RANGE);
+            REFUSED(fresh(one->kind, one->banks, one->code, false), POUCH_WRONG_LENGTH);
+            REFUSED(fresh(one->kind, 3, one->code, false), POUCH_OUT_OF_RANGE);
             lent[i]->len = len;
         }
         REFUSED(fresh(4, one->banks, 2, false), POUCH_OUT_OF_RANGE);
-        REFUSED(fresh(one->kind, one->banks, 2, true), POUCH_WRONG_LENGTH);
+        REFUSED(fresh(one->kind, one->banks, one->code, true), POUCH_WRONG_LENGTH);
         REFUSED(fresh(one->kind, one->banks, 0, false), POUCH_WRONG_LENGTH);
-        REFUSED(fresh(one->kind, one->banks == 2 ? 4 : 2, 2, false), POUCH_WRONG_LENGTH);
+        REFUSED(fresh(one->kind, one->banks, 3, false), POUCH_WRONG_LENGTH);
+        if (one->code != 4)
+            REFUSED(fresh(one->kind, one->banks, 4, false), one->kind == POUCH_MBC5 ? POUCH_WRONG_LENGTH : POUCH_OUT_OF_RANGE);
+        REFUSED(fresh(one->kind, one->banks == 2 ? 4 : 2, one->code, false), POUCH_WRONG_LENGTH);
     }
+}
+
+/* A save of another cartridge's length: 4, in each way in which a call tests the lengths. */
+static void check_saves(void)
+{
+    const size_t lens[] = {POUCH_SAVE_LEN_CODE_0, POUCH_SAVE_LEN_MBC2, POUCH_SAVE_LEN_CODE_2, POUCH_SAVE_LEN_CODE_3, POUCH_SAVE_LEN_CODE_4};
+    const uint16_t sizes[] = {2, 128, 512};
+    unsigned tried = 0;
+    for (uint8_t kind = POUCH_ROM_ONLY; kind <= POUCH_MBC5; kind++)
+        for (uint8_t code = 0; code < 5; code++)
+            for (size_t n = 0; n < 3; n++) {
+                if (!is_described(kind, sizes[n], code))
+                    continue;
+                start(kind, sizes[n], code, false, 100);
+                IS(wr(0x0000, 0x0A), POUCH_DONE);
+                const size_t own = save.len;
+                for (size_t i = 0; i < sizeof lens / sizeof *lens; i++) {
+                    if (lens[i] == own)
+                        continue;
+                    save.len = lens[i];
+                    tried++;
+                    uint8_t byte = 0xEE;
+                    uint16_t word = 0xEEEE;
+                    memcpy(before, arena, arena_len);
+                    IS(pouch_read_byte(READS, 0xC000, &byte), POUCH_WRONG_LENGTH);
+                    IS(byte, 0);
+                    byte = 0xEE;
+                    IS(pouch_read_byte(READS, 0xA000, &byte), POUCH_WRONG_LENGTH);
+                    IS(byte, 0);
+                    IS(pouch_read_word(READS, 0xA000, &word), POUCH_WRONG_LENGTH);
+                    IS(word, 0);
+                    byte = 0xEE;
+                    IS(pouch_mapper_read(LEND(image), LEND(rom), LEND(save), 0xA000, &byte), POUCH_WRONG_LENGTH);
+                    IS(byte, 0);
+                    IS(pouch_read_block(READS, 0xA000, wram.at, 1), POUCH_WRONG_LENGTH);
+                    IS(wr(0xC000, 1), POUCH_WRONG_LENGTH);
+                    IS(wr(0xA000, 1), POUCH_WRONG_LENGTH);
+                    IS(pouch_write_word(WRITES, 0xA000, 1), POUCH_WRONG_LENGTH);
+                    IS(pouch_do_dma_transfer(WRITES, 0xA0), POUCH_WRONG_LENGTH);
+                    IS(memcmp(before, arena, arena_len), 0);
+                }
+            }
+    IS(tried, 4 * (3 + 3 * 2 + 1 + 4 * 3)); /* RomOnly, Mbc1, Mbc2, Mbc5: codes by sizes */
 }
 
 static void check_numbers(void)
@@ -302,15 +348,15 @@ static void check_numbers(void)
     IS(pouch_write_word(WRITES, 0xFF3F, 0), POUCH_OWED);
     IS(pouch_write_word(WRITES, 0xFF40, 0), POUCH_DONE);
 
-    /* 2: by index alone, RAM off too; 4 before it */
-    start(one->kind, one->banks, one->code, false, POUCH_RECORD_LEN - 1);
+    /* 2: by index alone, RAM off too; 4 before it. A record has four bytes */
+    start(one->kind, one->banks, one->code, false, 3);
     REFUSED(wr(0xA000, 1), POUCH_NO_ROOM);
     REFUSED(wr(0xBFFF, 1), POUCH_NO_ROOM);
     IS(wr(0x9FFF, 1), POUCH_DONE);
     IS(wr(0xC000, 1), POUCH_DONE);
     sound.len--;
     REFUSED(wr(0xA000, 1), POUCH_WRONG_LENGTH);
-    start(one->kind, one->banks, one->code, false, 3 * POUCH_RECORD_LEN - 1);
+    start(one->kind, one->banks, one->code, false, 4 + 7);
     IS(wr(0x0000, 0x0A), POUCH_DONE);
     IS(wr(0xA000, 1), POUCH_DONE); /* a byte less than two records is left: room for a byte, not for a word */
     REFUSED(pouch_write_word(WRITES, 0xA000, 1), POUCH_NO_ROOM);
@@ -324,10 +370,26 @@ static void check_numbers(void)
 
     /* 3: a use of the log that is no whole records */
     start_one(false);
-    REFUSED(pouch_set_log_used(LEND(image), 1), POUCH_OUT_OF_RANGE);
-    REFUSED(pouch_set_log_used(LEND(image), POUCH_LOG_LEN_MAX - 1), POUCH_OUT_OF_RANGE);
-    IS(pouch_set_log_used(LEND(image), POUCH_LOG_LEN_MAX), POUCH_DONE);
+    memcpy(before, arena, arena_len);
+    unsigned wrong = 0;
+    for (unsigned used = 0; used <= POUCH_LOG_LEN_MAX; used++)
+        if (used % 4 != 0)
+            wrong += pouch_set_log_used(LEND(image), (uint16_t)used) != POUCH_OUT_OF_RANGE;
+    IS(wrong, 0);
+    IS(memcmp(before, arena, arena_len), 0);
+    for (unsigned used = 0; used <= POUCH_LOG_LEN_MAX; used += 4)
+        wrong += pouch_set_log_used(LEND(image), (uint16_t)used) != POUCH_DONE || ask(pouch_log_used) != used;
+    IS(wrong, 0);
     REFUSED(wr(0xC000, 1), POUCH_OUT_OF_RANGE); /* beyond the lent log */
+
+    /* the last bytes of the longest log: 65,535 is no multiple of 4 */
+    start(one->kind, one->banks, one->code, false, POUCH_LOG_LEN_MAX);
+    IS(wr(0x0000, 0x0A), POUCH_DONE);
+    IS(pouch_set_log_used(LEND(image), 65528), POUCH_DONE);
+    REFUSED(pouch_write_word(WRITES, 0xA000, 1), POUCH_NO_ROOM);
+    IS(wr(0xA000, 1), POUCH_DONE);
+    IS(ask(pouch_log_used), 65532);
+    REFUSED(wr(0xA000, 1), POUCH_NO_ROOM);
 
     /* 4: of the colours, into memory between guards; 3 before it */
     start_one(true);
@@ -363,9 +425,16 @@ static void check_numbers(void)
     REFUSED(pouch_update_timer(LEND(image), 65537), POUCH_OUT_OF_RANGE);
 
     /* 6; 4 before it; a cut record is ignored */
-    const uint8_t sound_records[] = {0x80, 0x00, 0x11, 0x9F, 0xFF, 0x22, 0x80, 0x00}, no_bit[] = {0x80, 0x00, 0x11, 0x00, 0x00, 0x22},
-                  outside[] = {0x80, 0x00, 0x11, 0xA0, 0x00, 0x22};
+    const uint8_t sound_records[] = {0x80, 0x00, 0x04, 0x40, 0x87, 0xFF, 0xC8, 0x80, 0x80, 0x00, 0x00},
+                  no_bit[] = {0x80, 0x00, 0x04, 0x40, 0x00, 0x00, 0x08, 0x80}, outside[] = {0x80, 0x00, 0x04, 0x40, 0x88, 0x00, 0x08, 0x80};
     start_one(false);
+    const uint8_t behind = save.at[8192]; /* the guard, or what else there is of a longer save */
+    save.len = POUCH_SAVE_LEN_CODE_2;
+    for (unsigned bit = 0; bit < 6; bit++) { /* the six last bits of a record */
+        const uint8_t last[] = {0x80, 0x00, 0x04, 0x40, 0x80, 0x00, 0x08, (uint8_t)(0x80 | 1u << bit)};
+        REFUSED(pouch_recover(LEND(save), last, sizeof last), POUCH_DAMAGED);
+        REFUSED(pouch_recover(save.at, 513, last, sizeof last), POUCH_WRONG_LENGTH);
+    }
     REFUSED(pouch_recover(LEND(save), no_bit, sizeof no_bit), POUCH_DAMAGED);
     REFUSED(pouch_recover(LEND(save), outside, sizeof outside), POUCH_DAMAGED);
     REFUSED(pouch_recover(save.at, 8191, outside, sizeof outside), POUCH_WRONG_LENGTH);
@@ -378,7 +447,12 @@ static void check_numbers(void)
     IS(pouch_recover(LEND(save), sound_records, sizeof sound_records), POUCH_DONE);
     IS(save.at[0], 0x11);
     IS(save.at[8191], 0x22);
-    IS(all_are(save.at + 1, 8190, FILL) && all_are(save.at + 8192, GUARD_LEN, GUARD), true);
+    IS(all_are(save.at + 1, 8190, FILL) && all_are(save.at + 8192, GUARD_LEN, behind), true);
+    for (size_t len = 0; len <= 2 * POUCH_SAVE_LEN_CODE_4; len++) { /* a save's lengths, and no others */
+        const bool is = len == 0 || len == 512 || len == 8192 || len == 32768 || len == 131072;
+        wrong += pouch_recover(arena, len, no_bit, 0) != (is ? POUCH_DONE : POUCH_WRONG_LENGTH);
+    }
+    IS(wrong, 0);
 
     /* 7; a length by 4 before it */
     start_one(false);
@@ -409,6 +483,7 @@ static void check_numbers(void)
 int main(void)
 {
     check_fresh();
+    check_saves();
     for (size_t k = 0; k < sizeof with_save / sizeof *with_save; k++) {
         one = &with_save[k];
         for (size_t i = 0; i < sizeof entries / sizeof entries[0]; i++)

@@ -9,6 +9,7 @@ mod edges;
 mod excepted;
 mod host;
 mod list;
+mod reached;
 
 use std::io::{self, Write};
 

@@ -24,6 +24,8 @@ pub struct Letter {
     pub random: fn(&mut Random) -> Bytes,
     /// The Rust's answer, from the input's bytes as they are printed.
     pub answer: fn(&mut Machine, &[u8]) -> Bytes,
+    /// What the recorded sample has besides, whole.
+    pub always: fn() -> Vec<Bytes>,
     /// How many edges, and how many random inputs, the recorded sample takes.
     pub recorded: (usize, usize),
 }
@@ -52,12 +54,13 @@ pub fn print(seed: u64, count: usize, out: &mut dyn Write) -> io::Result<()> {
     Ok(())
 }
 
-/// Corners, some edges and some random inputs of every letter.
+/// Corners, what is always there, some edges and some random inputs of every letter.
 pub fn record(out: &mut dyn Write) -> io::Result<()> {
     let mut machine = Machine::new();
     for letter in &LETTERS {
         let (some, count) = letter.recorded;
-        let edges = sample((letter.edges)(), some, letter.name);
+        let mut edges = (letter.always)();
+        edges.extend(sample((letter.edges)(), some, letter.name));
         letter.list(&mut machine, &edges, RECORDED_SEED, count, out)?;
     }
     Ok(())

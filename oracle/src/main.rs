@@ -13,6 +13,7 @@ mod hex;
 mod leaves;
 mod machine;
 mod random;
+mod record;
 mod unseen;
 
 use std::io::{self, BufWriter, Write};

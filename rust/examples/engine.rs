@@ -5,7 +5,7 @@
 //! It brings FOLDER/hero.sav up to date from FOLDER/hero.journal, however the session before ended, and plays so many frames of a made-up game. Each line
 //! that it prints says how many of the game's save writes are safe. tests/engine.rs cuts its journal at every byte.
 
-use pouchrattle::{mmu, recover_journal, Button, Cartridge, Controller, Interrupt, Journal, MbcType, Memory, Refusal, Timer};
+use pouchrattle::{mmu, recover_journal, recover_old_journal, Button, Cartridge, Controller, Interrupt, Journal, MbcType, Memory, Refusal, Timer};
 use std::error::Error;
 use std::fs::{self, File};
 use std::io::{ErrorKind, Write};
@@ -106,14 +106,19 @@ fn read(path: &Path) -> Outcome<Option<Vec<u8>>> {
     }
 }
 
-/// The save as the session before left it. Only when its file holds all of the journal is that removed; played over the new file, it changes nothing.
+/// The save as the session before left it, which may have been one of a version before 3.0. Only when the save's file holds all of the journal is that removed;
+/// played over the new file, it changes nothing.
 fn take_up(folder: &Path, cartridge: &Cartridge) -> Outcome<Vec<u8>> {
     let journal = folder.join("hero.journal");
     let mut save = match read(&folder.join("hero.sav"))? {
         Some(file) => cartridge.save_from_gameboy_core(&file)?.to_vec(),
         None => vec![0; cartridge.save_len()],
     };
-    recover_journal(&mut save, &read(&journal)?.unwrap_or_default())?;
+    let bytes = read(&journal)?.unwrap_or_default();
+    match recover_journal(&mut save, &bytes) {
+        Err(Refusal::Unmarked) => recover_old_journal(&mut save, &bytes)?,
+        other => other?,
+    };
     replace(folder, "hero.sav", &save)?;
     if journal.exists() {
         fs::remove_file(&journal)?;

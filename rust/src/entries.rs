@@ -49,6 +49,10 @@ macro_rules! entries {
 }
 
 entries! {
+    // src/convert.rt
+    fn pouch_log_to_new(old: &[u8], log: &mut [u8]; value: &mut u16);
+    fn pouch_log_to_old(log: &[u8], old: &mut [u8]; value: &mut u16);
+
     // src/lent.rt
     fn pouch_fresh(image: &mut [u8]; kind: u8, banks: u16, code: u8, colour: bool;
         rom: &[u8], vram: &mut [u8], wram: &mut [u8], save: &[u8], log: &[u8], sound: &[u8]);

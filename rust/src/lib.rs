@@ -30,23 +30,27 @@
 #![deny(unsafe_code, missing_docs)]
 
 pub mod button;
+mod convert;
 #[allow(unsafe_code)]
 mod entries;
 mod journal;
 pub mod joypad;
 pub mod mmu;
+mod recovery;
 mod refusal;
 pub mod timer;
 mod version;
 
 pub use button::Button;
-pub use journal::{journal_len, recover, recover_journal, Journal};
+pub use convert::{log_to_new, log_to_old, LONGEST_OLD_LOG, OLD_RECORD_LEN};
+pub use journal::{Journal, JOURNAL_MARK};
 pub use joypad::Controller;
 pub use mmu::cartridge::{Cartridge, MbcType, NotCut};
 pub use mmu::gpu_cycles::GpuCycles;
 pub use mmu::image::{CGBColor, HostNumbers, Image, IMAGE_LEN, OAM_LEN};
 pub use mmu::interrupt::Interrupt;
 pub use mmu::{Memory, LONGEST_BLOCK, LONGEST_LOG, RECORD_LEN};
-pub use refusal::{Damaged, Expected, OutOfRange, Refusal, Which, Written, WrongLength};
+pub use recovery::{journal_len, recover, recover_journal, recover_old_journal};
+pub use refusal::{BeyondOld, Damaged, Expected, OutOfRange, RecordBytes, Refusal, Which, Written, WrongLength};
 pub use timer::Timer;
 pub use version::{version, Version};

@@ -1,7 +1,7 @@
 //! What the number of a call says.
 
 use crate::mmu::cartridge::{MbcType, BANK_LEN, GAMEBOY_CORE_LEN, GAMEBOY_CORE_LEN_MBC5};
-use crate::RECORD_LEN;
+use crate::{JOURNAL_MARK, OLD_RECORD_LEN, RECORD_LEN};
 use std::error::Error;
 use std::fmt;
 
@@ -17,8 +17,14 @@ pub enum Refusal {
     WrongLength(WrongLength),
     /// More than 65,536 cycles in one update.
     TooManyCycles,
-    /// The log has a whole record that is damaged.
+    /// The log or the journal has a whole record that is damaged.
     Damaged(Damaged),
+    /// The log has a record that the form of versions before 3.0 has no room for.
+    BeyondOld(BeyondOld),
+    /// What `recover_journal` was given does not begin with `JOURNAL_MARK`: a journal of a version before 3.0, for `recover_old_journal`, or no journal.
+    Unmarked,
+    /// What `recover_old_journal` was given begins with `JOURNAL_MARK`: a journal for `recover_journal`.
+    Marked,
     /// A raw load or store below FF00; a bank or an index outside video memory.
     Outside,
 }
@@ -31,8 +37,16 @@ impl Refusal {
             Refusal::OutOfRange(_) => 3,
             Refusal::WrongLength(_) => 4,
             Refusal::TooManyCycles => 5,
-            Refusal::Damaged(_) => 6,
+            Refusal::Damaged(_) | Refusal::BeyondOld(_) | Refusal::Unmarked | Refusal::Marked => 6,
             Refusal::Outside => 7,
+        }
+    }
+
+    /// The same of a log behind so many other records.
+    pub(crate) fn behind(self, records: usize) -> Refusal {
+        match self {
+            Refusal::Damaged(Damaged { record, bytes }) => Refusal::Damaged(Damaged { record: records + record, bytes }),
+            other => other,
         }
     }
 }
@@ -45,6 +59,12 @@ impl fmt::Display for Refusal {
             Refusal::WrongLength(what) => what.fmt(f),
             Refusal::TooManyCycles => f.write_str("more than 65,536 cycles in one update"),
             Refusal::Damaged(what) => what.fmt(f),
+            Refusal::BeyondOld(what) => what.fmt(f),
+            Refusal::Unmarked => {
+                let mark = Hex(&JOURNAL_MARK);
+                write!(f, "the journal does not begin with the mark of version 3,{mark}; if an older version wrote it: recover_old_journal")
+            }
+            Refusal::Marked => write!(f, "the journal begins with the mark of version 3,{}: recover_journal takes it", Hex(&JOURNAL_MARK)),
             Refusal::Outside => f.write_str("an index below FF00, or a bank or an index outside video memory"),
         }
     }
@@ -86,7 +106,11 @@ impl fmt::Display for OutOfRange {
                 write!(f, "the ROM has {} bytes, and {mbc_type:?} takes {banks} banks of {}", Grouped(found), Grouped(BANK_LEN))
             }
             OutOfRange::RamSize { mbc_type, found } => {
-                let codes = if mbc_type == MbcType::Mbc2 { "0" } else { "0, 2 or 3" };
+                let codes = match mbc_type {
+                    MbcType::RomOnly | MbcType::Mbc1 => "0, 2 or 3",
+                    MbcType::Mbc2 => "0",
+                    MbcType::Mbc5 => "0, 2, 3 or 4",
+                };
                 write!(f, "the RAM code is {found}, and {mbc_type:?} takes {codes}")
             }
             OutOfRange::Image => f.write_str("the image holds no state of a bus"),
@@ -166,7 +190,7 @@ pub enum Expected {
     Exactly(usize),
     /// So many or fewer.
     AtMost(usize),
-    /// As many as a save of some cartridge: 0, 512, 8,192 or 32,768.
+    /// As many as a save of some cartridge: 0, 512, 8,192, 32,768 or 131,072.
     AnySave,
 }
 
@@ -175,7 +199,7 @@ impl fmt::Display for Expected {
         match *self {
             Expected::Exactly(bytes) => Grouped(bytes).fmt(f),
             Expected::AtMost(bytes) => write!(f, "at most {}", Grouped(bytes)),
-            Expected::AnySave => f.write_str("0, 512, 8,192 or 32,768"),
+            Expected::AnySave => f.write_str("0, 512, 8,192, 32,768 or 131,072"),
         }
     }
 }
@@ -186,13 +210,54 @@ pub struct Damaged {
     /// Its number, from 0.
     pub record: usize,
     /// Its bytes.
-    pub bytes: [u8; RECORD_LEN],
+    pub bytes: RecordBytes,
 }
 
 impl fmt::Display for Damaged {
     fn fmt(&self, f: &mut fmt::Formatter) -> fmt::Result {
-        write!(f, "record {} is damaged:", Grouped(self.record))?;
-        self.bytes.iter().try_for_each(|byte| write!(f, " {byte:02X}"))
+        write!(f, "record {} is damaged:{}", Grouped(self.record), Hex(self.bytes.as_ref()))
+    }
+}
+
+/// The bytes of a record, in either form.
+#[derive(Clone, Copy, Debug, PartialEq, Eq)]
+pub enum RecordBytes {
+    /// Of a log or a journal of a version before 3.0.
+    Old([u8; OLD_RECORD_LEN]),
+    /// Of any other.
+    New([u8; RECORD_LEN]),
+}
+
+impl AsRef<[u8]> for RecordBytes {
+    fn as_ref(&self) -> &[u8] {
+        match self {
+            RecordBytes::Old(bytes) => bytes,
+            RecordBytes::New(bytes) => bytes,
+        }
+    }
+}
+
+/// Which record the form of versions before 3.0 has no room for, as its address is 32,768 or more: the first one.
+#[derive(Clone, Copy, Debug, PartialEq, Eq)]
+pub struct BeyondOld {
+    /// Its number, from 0.
+    pub record: usize,
+    /// Its bytes.
+    pub bytes: [u8; RECORD_LEN],
+}
+
+impl fmt::Display for BeyondOld {
+    fn fmt(&self, f: &mut fmt::Formatter) -> fmt::Result {
+        write!(f, "record {} has an address of 32,768 or more, which an old record does not hold:{}", Grouped(self.record), Hex(&self.bytes))
+    }
+}
+
+/// Bytes as people read them, each behind a blank.
+struct Hex<'a>(&'a [u8]);
+
+impl fmt::Display for Hex<'_> {
+    fn fmt(&self, f: &mut fmt::Formatter) -> fmt::Result {
+        self.0.iter().try_for_each(|byte| write!(f, " {byte:02X}"))
     }
 }
 

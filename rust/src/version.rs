@@ -3,7 +3,7 @@
 use crate::entries;
 use std::fmt;
 
-/// A version of the library, and what it says of what is stored: pouch_version, taken apart. Shown as 2.0.0.
+/// A version of the library, and what it says of what is stored: pouch_version, taken apart. Shown as 3.0.0.
 #[derive(Clone, Copy, Debug, PartialEq, Eq)]
 pub struct Version {
     /// The first number.
@@ -24,7 +24,8 @@ impl fmt::Display for Version {
     }
 }
 
-/// The version of the library that is linked. To be stored beside images, which do not say of which version they are.
+/// The version of the library that is linked. To be stored beside images, which do not say of which version they are: those of 2.0 and 3.0 have one length
+/// and two layouts. A journal says it by its mark.
 pub fn version() -> Version {
     let number = entries::version();
     Version {

@@ -1,6 +1,6 @@
 //! The public constants and the paths of the Rust's modules, by which an engine names them.
 
-use pouchrattle::MbcType;
+use pouchrattle::{Cartridge, MbcType, IMAGE_LEN, LONGEST_BLOCK, LONGEST_LOG, LONGEST_OLD_LOG, OAM_LEN, OLD_RECORD_LEN, RECORD_LEN};
 use std::collections::BTreeMap;
 use std::io::Write;
 use std::{env, fs, io};
@@ -31,6 +31,35 @@ fn the_rusts() {
         }
     }
     assert_eq!(constants(&ours).len(), 24);
+}
+
+/// Lengths, by the names that C has for them.
+#[test]
+fn the_headers() {
+    let header = fs::read_to_string(format!("{HERE}/../c/pouchrattle.h")).unwrap();
+    let defined = |name: &str| {
+        let value = header.lines().find_map(|line| line.strip_prefix("#define ")?.strip_prefix(name)?.strip_prefix(' ')).expect(name);
+        value.split(' ').next().unwrap().parse::<usize>().unwrap()
+    };
+    let save = |mbc_type, ram_size| Cartridge { rom: vec![], mbc_type, ram_size }.save_len();
+    for (name, len) in [
+        ("POUCH_IMAGE_LEN", IMAGE_LEN),
+        ("POUCH_RECORD_LEN", RECORD_LEN),
+        ("POUCH_OLD_RECORD_LEN", OLD_RECORD_LEN),
+        ("POUCH_LOG_LEN_MAX", LONGEST_LOG),
+        ("POUCH_BLOCK_LEN_MAX", LONGEST_BLOCK),
+        ("POUCH_OAM_LEN", OAM_LEN),
+        ("POUCH_SAVE_LEN_CODE_0", save(MbcType::Mbc1, 0)),
+        ("POUCH_SAVE_LEN_CODE_2", save(MbcType::RomOnly, 2)),
+        ("POUCH_SAVE_LEN_CODE_3", save(MbcType::Mbc5, 3)),
+        ("POUCH_SAVE_LEN_CODE_4", save(MbcType::Mbc5, 4)),
+        ("POUCH_SAVE_LEN_MBC2", save(MbcType::Mbc2, 0)),
+    ] {
+        assert_eq!(len, defined(name), "{name}");
+    }
+    let version = ["MAJOR", "MINOR", "PATCH"].map(|part| defined(&format!("POUCH_VERSION_{part}")).to_string()).join(".");
+    assert_eq!((version.as_str(), LONGEST_OLD_LOG), (env!("CARGO_PKG_VERSION"), 49151));
+    assert_eq!([MbcType::RomOnly, MbcType::Mbc1].map(|mbc_type| save(mbc_type, 4)), [0, 0]);
 }
 
 /// An engine that has `use pouchrattle::{button, joypad, mmu, timer};` at its root, in place of modules of its own.

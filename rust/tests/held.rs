@@ -44,7 +44,7 @@ fn debug_is_short() {
     let mut memory = with_save(true);
     write(&mut memory, &[(0xA000, 1)]);
     let shown = format!("{memory:?}");
-    let memories = "Memory { rom: 32768 bytes, vram: 16384 bytes, wram: 32768 bytes, save: 8192 bytes, log: 3 of 65535 bytes, kept: 0, ";
+    let memories = "Memory { rom: 32768 bytes, vram: 16384 bytes, wram: 32768 bytes, save: 8192 bytes, log: 4 of 65535 bytes, kept: 0, ";
     assert!(shown.starts_with(memories) && shown.contains("scan_line: 144") && shown.len() < 400, "{shown}");
     let shown = format!("{:?}", cartridge(MbcType::Mbc2, 16, 0));
     assert_eq!(shown, "Cartridge { rom: 262144 bytes, mbc_type: Mbc2, ram_size: 0 }");
@@ -184,6 +184,15 @@ fn what_is_not_cut() {
             // Its words do not send the host here again.
             assert!(cut.save_from_gameboy_core(&ram).unwrap_err().to_string().ends_with("must have 8,192"));
         }
+    }
+    // Code 4 of Mbc5 has all of it, whatever is in it; code 3 has not.
+    let all: Vec<u8> = (0..131_072).map(|at| (at / 512) as u8).collect();
+    assert_eq!(cartridge(MbcType::Mbc5, 2, 4).save_from_gameboy_core(&all), Ok(&all[..]));
+    assert!(Memory::new(cartridge(MbcType::Mbc5, 2, 4), false, &all).unwrap().save() == all);
+    assert_eq!(cartridge(MbcType::Mbc5, 2, 3).save_from_gameboy_core(&all), Err(NotCut::Used { at: 32768, byte: 64 }));
+    for found in [0, 8192, 32768, 131_071, 131_073] {
+        let ram = vec![0xFF; found];
+        assert_eq!(cartridge(MbcType::Mbc5, 2, 4).save_from_gameboy_core(&ram), not_cut(found, 131_072));
     }
     // Code 3 of Mbc1 has all of it, and Mbc2 512 bytes in gameboy_core too.
     let all = vec![0x11; 32768];

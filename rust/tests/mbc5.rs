@@ -5,6 +5,7 @@ mod common;
 #[path = "common/mbc5.rs"]
 mod model;
 
+use common::record;
 use model::{cartridges, Both, Random, CODES, ROM_BANKS};
 
 #[test]
@@ -71,7 +72,7 @@ fn ram_banks() {
     for (banks, code) in cartridges() {
         let mut both = Both::new(banks, code, false);
         both.writes(&[(0x0000, 0x0A)]);
-        for value in (0..=0xFF).chain([3, 4]) {
+        for value in (0..=0xFF).chain([3, 4, 15, 16]) {
             both.writes(&[(0x4000, value), (0xA000, value / 2), (0xBFFF, value / 3)]);
             both.alike();
         }
@@ -81,7 +82,25 @@ fn ram_banks() {
     let mut both = Both::new(2, 3, false);
     both.writes(&[(0x0000, 0x0A), (0x4000, 3), (0xA000, 0x77), (0x5FFF, 4), (0xA000, 0x88)]);
     assert_eq!((both.memory.save()[0x6000], both.memory.save()[0x0000]), (0x77, 0x88));
-    assert_eq!(both.memory.log(), [0xE0, 0x00, 0x77, 0x80, 0x00, 0x88]);
+    assert_eq!(both.memory.log(), [record(0x6000, 0x77), record(0, 0x88)].concat());
+    // Of 16 banks it is the fifth, 15 is the last, and 16 is 0 again.
+    let mut both = Both::new(2, 4, false);
+    both.writes(&[(0x0000, 0x0A), (0x4000, 4), (0xA000, 0x77), (0x4000, 15), (0xBFFF, 0x88), (0x5FFF, 16), (0xA000, 0x99)]);
+    assert_eq!([0x8000, 0x1FFFF, 0].map(|at| both.memory.save()[at]), [0x77, 0x88, 0x99]);
+    assert_eq!(both.memory.log(), [record(0x8000, 0x77), record(0x1FFFF, 0x88), record(0, 0x99)].concat());
+}
+
+/// Every bank of 16, seen through every value of the register, with its own bytes.
+#[test]
+fn every_ram_bank() {
+    let mut both = Both::new(8, 4, false);
+    both.write(0x0000, 0x0A);
+    for value in 0..=0xFF {
+        both.write(0x4000, value);
+        let bank = usize::from(value % 16);
+        assert_eq!(both.model.ram_bank(), bank);
+        assert!((0..0x2000).all(|at| both.memory.read_byte(0xA000 + at) == both.model.save[bank * 0x2000 + usize::from(at)]), "{value}");
+    }
 }
 
 /// RAM that is off or absent reads FF and stores nothing, whichever value switched it off.

@@ -13,14 +13,14 @@ type Field = (usize, usize);
 
 const MAPPER: Field = (5283, 2);
 const LOG2_N: Field = (5285, 4);
-const CODE: Field = (5289, 2);
-const ROM: Field = (5291, 9);
-const RAM: Field = (5300, 2);
-const MODE: Field = (5302, 1);
-const ENABLED: Field = (5303, 1);
-const HIGH: Field = (5304, 2);
-const USED: Field = (5306, 16);
-const ZEROS: Field = (5322, 6);
+const CODE: Field = (5289, 3);
+const ROM: Field = (5292, 9);
+const RAM: Field = (5301, 4);
+const MODE: Field = (5305, 1);
+const ENABLED: Field = (5306, 1);
+const HIGH: Field = (5307, 2);
+const USED: Field = (5309, 16);
+const ZEROS: Field = (5325, 3);
 
 fn get(image: &Image, (at, width): Field) -> usize {
     (at..at + width).fold(0, |value, bit| value * 2 + usize::from(image[bit / 8] >> (7 - bit % 8) & 1))
@@ -47,7 +47,7 @@ const NO_STATE: Result<(), Refusal> = Err(Refusal::OutOfRange(OutOfRange::Image)
 #[test]
 fn lengths() {
     assert_eq!((IMAGE_LEN, version().image_len, ZEROS.0 + ZEROS.1), (666, 666, 8 * 666));
-    // What a version before has stored is no image.
+    // What a version before 2.0 has stored is no image.
     let both = Both::new(2, 0, false);
     assert!(Image::try_from(&both.memory.image()[..665]).is_err() && Image::try_from(&both.memory.image()[..]).is_ok());
 }
@@ -62,7 +62,7 @@ fn fields() {
             let model = &both.model;
             let fields = [MAPPER, LOG2_N, CODE, ROM, RAM, MODE, ENABLED, HIGH, USED, ZEROS].map(|field| get(both.memory.image(), field));
             let log2 = banks.ilog2() as usize;
-            let expected = [3, log2, code.into(), model.bank(), model.ram_bank(), 0, model.is_on().into(), 0, 3 * model.stored.len(), 0];
+            let expected = [3, log2, code.into(), model.bank(), model.ram_bank(), 0, model.is_on().into(), 0, 4 * model.stored.len(), 0];
             assert_eq!(fields, expected);
             again.memory.set_image(both.memory.image()).unwrap();
             assert!(again.memory.image() == &with(both.memory.image(), &[(USED, 0)]));
@@ -87,21 +87,43 @@ fn a_rom_bank_is_below_n() {
     }
 }
 
+/// A RAM bank is below those present, 0 with none; and it is the one that a game sees.
+#[test]
+fn a_ram_bank_is_below_those_present() {
+    for (code, banks) in CODES {
+        let mut both = Both::new(8, code, false);
+        let fresh = *both.memory.image();
+        for (bank, enabled) in (0..16).flat_map(|bank| [(bank, 0), (bank, 1)]) {
+            let is_taken = bank < banks || banks == 0 && (bank, enabled) == (0, 0);
+            let image = with(&fresh, &[(RAM, bank), (ENABLED, enabled)]);
+            assert_eq!(both.memory.set_image(&image), if is_taken { Ok(()) } else { NO_STATE }, "{bank} of {banks}");
+            if is_taken {
+                let expected = if enabled == 1 { both.model.save[bank * 8192 + 0x1FFF] } else { 0xFF };
+                assert_eq!((both.memory.read_byte(0xBFFF), both.memory.image()), (expected, &image));
+            }
+        }
+    }
+}
+
 /// Every value of every field but the ROM bank, which is at its limits: taken, or refused by 3, or of a cartridge of other lengths.
 #[test]
 fn ranges() {
-    for (banks, code) in [(2, 0), (8, 2), (512, 3)] {
+    for (banks, code) in [(2, 0), (8, 2), (512, 3), (4, 4)] {
         let mut both = Both::new(banks, code, false);
         let fresh = *both.memory.image();
-        // The fields before the ROM bank and those behind it, six bits each.
-        for (before, behind) in (0..64).flat_map(|before| (0..64).map(move |behind| (before, behind))) {
-            let n = 1 << (before >> 2);
+        let mut taken = 0;
+        // The fields before the ROM bank and those behind it, seven bits and eight.
+        for (before, behind) in (0..128).flat_map(|before| (0..256).map(move |behind| (before, behind))) {
+            let n = 1 << (before >> 3);
             for rom in [0, 1, n - 1, n, n + 1, 255, 256, 511].into_iter().filter(|rom| *rom < 512) {
-                let image = with(&fresh, &[((LOG2_N.0, 6), before), (ROM, rom), ((RAM.0, 6), behind)]);
+                let image = with(&fresh, &[((LOG2_N.0, 7), before), (ROM, rom), ((RAM.0, 8), behind)]);
                 let expected = if in_range(&image) { of_lengths(&image, banks, both.model.save.len()) } else { NO_STATE };
-                assert_eq!(both.memory.set_image(&image), expected, "{before:06b} {rom} {behind:06b}");
+                let answer = both.memory.set_image(&image);
+                assert_eq!(answer, expected, "{before:07b} {rom} {behind:08b}");
+                taken += usize::from(answer.is_ok());
             }
         }
+        assert!(taken > 0);
     }
 }
 
@@ -128,11 +150,11 @@ fn of_lengths(image: &Image, banks: usize, save: usize) -> Result<(), Refusal> {
 }
 
 #[test]
-fn the_last_six_bits_are_0() {
-    for banks in ROM_BANKS {
-        let mut both = Both::new(banks, 3, true);
+fn the_last_three_bits_are_0() {
+    for (banks, code) in cartridges() {
+        let mut both = Both::new(banks, code, true);
         let fresh = *both.memory.image();
-        for zeros in 0..64 {
+        for zeros in 0..8 {
             assert_eq!(both.memory.set_image(&with(&fresh, &[(ZEROS, zeros)])), if zeros == 0 { Ok(()) } else { NO_STATE });
         }
     }
@@ -140,10 +162,10 @@ fn the_last_six_bits_are_0() {
 
 #[test]
 fn log_use_is_whole_records() {
-    let mut both = Both::new(512, 3, false);
+    let mut both = Both::new(512, 4, false);
     let fresh = *both.memory.image();
     for used in 0..=0xFFFF {
-        assert_eq!(both.memory.set_image(&with(&fresh, &[(USED, used)])), if used % 3 == 0 { Ok(()) } else { NO_STATE }, "{used}");
+        assert_eq!(both.memory.set_image(&with(&fresh, &[(USED, used)])), if used % 4 == 0 { Ok(()) } else { NO_STATE }, "{used}");
     }
 }
 
@@ -163,6 +185,10 @@ fn other_mappers() {
                 _ => Ok(()),
             };
             assert_eq!(both.memory.set_image(&with(&fresh, &[(MAPPER, mapper)])), expected, "{mapper} {banks}");
+            // RAM code 4 is of MBC5 alone, and 1, 5, 6 and 7 are of none.
+            for code in [1, 4, 5, 6, 7] {
+                assert_eq!(both.memory.set_image(&with(&fresh, &[(MAPPER, mapper), (CODE, code)])), NO_STATE, "{mapper} {code}");
+            }
         }
     }
     for (mbc_type, number) in [(MbcType::RomOnly, 0), (MbcType::Mbc1, 1), (MbcType::Mbc2, 2), (MbcType::Mbc5, 3)] {

@@ -5,15 +5,16 @@ mod common;
 mod model;
 
 use model::{cartridges, Both, Random, ROM_BANKS};
-use pouchrattle::{recover, recover_journal, Journal, RECORD_LEN};
+use pouchrattle::{recover, recover_journal, Journal, JOURNAL_MARK, RECORD_LEN};
 
 /// The records of a log: address and value of each.
 fn records(log: &[u8]) -> Vec<(usize, u8)> {
     let record = |bytes: &[u8]| {
-        assert!(bytes[0] >= 0x80);
-        (usize::from(bytes[0] & 0x7F) * 256 + usize::from(bytes[1]), bytes[2])
+        let number = u32::from_be_bytes(bytes.try_into().unwrap());
+        assert!(number >> 31 == 1 && number & 0x3F == 0, "{bytes:02X?}");
+        (number as usize >> 14 & 0x1FFFF, (number >> 6) as u8)
     };
-    log.chunks(RECORD_LEN).map(record).collect()
+    log.chunks(4).map(record).collect()
 }
 
 /// List after list: each finds the registers as the one before has left them.
@@ -62,25 +63,35 @@ fn recovery_over_each_prefix() {
 /// RAM banks up to the last byte of the last, whatever ROM there is.
 #[test]
 fn all_ram_banks() {
-    for banks in ROM_BANKS {
-        let mut both = Both::new(banks, 3, false);
+    for (banks, (code, ram_banks)) in ROM_BANKS.into_iter().flat_map(|banks| [(3, 4), (4, 16)].map(|of| (banks, of))) {
+        let mut both = Both::new(banks, code, false);
+        let start = both.model.save.clone();
         both.write(0x0000, 0x0A);
-        for bank in [3, 2, 1, 0] {
+        let mut kept = Vec::new();
+        for bank in (0..ram_banks).rev() {
             both.write(0x4000, bank);
-            // Every second byte: the log holds 21,845 records.
-            (0..0x2000).step_by(2).for_each(|at| both.write(0xA000 + at, at as u8 ^ bank));
+            // The log holds the 8,192 records of one bank, and nearly those of two.
+            (0..0x1FFF).for_each(|at| both.write(0xA000 + at, at as u8 ^ bank));
             both.write(0xBFFF, 0xE0 + bank);
+            kept.push(both.memory.take_log());
         }
-        assert_eq!(records(both.memory.log()), both.model.stored);
+        assert!(records(&kept.concat()) == both.model.stored && kept.concat().len() == both.model.save.len() * 4);
         assert!(both.memory.save() == both.model.save);
-        assert_eq!([0x1FFF, 0x3FFF, 0x5FFF, 0x7FFF].map(|at| both.memory.save()[at]), [0xE0, 0xE1, 0xE2, 0xE3]);
+        let ends: Vec<u8> = both.memory.save().chunks(0x2000).map(|bank| bank[0x1FFF]).collect();
+        assert_eq!(ends, (0xE0..0xE0 + ram_banks).collect::<Vec<_>>());
+        // And recovery gives every byte of it.
+        let mut save = start;
+        kept.iter().for_each(|log| recover(&mut save, log).unwrap());
+        assert!(save == both.model.save);
     }
 }
 
 /// Byte and word writes on logs that fill up: what is refused changes nothing, and done again on a log that was taken off it is the same write.
 #[test]
 fn a_full_log() {
-    for (log, (banks, code)) in [0, 2, 3, 5, 6, 8, 30, 31].into_iter().flat_map(|log| [(2, 0), (2, 2), (8, 3), (256, 3), (512, 3)].map(|of| (log, of))) {
+    for (log, (banks, code)) in
+        [0, 3, 4, 7, 8, 11, 40, 41, 43].into_iter().flat_map(|log| [(2, 0), (2, 2), (8, 3), (512, 3), (2, 4), (512, 4)].map(|of| (log, of)))
+    {
         let (mut both, mut random) = (Both::with_log(banks, code, false, log), Random(log as u64));
         let start = both.model.save.clone();
         let mut kept = Vec::new();
@@ -109,19 +120,24 @@ fn a_full_log() {
 
 #[test]
 fn a_journal_of_all_banks() {
-    let (mut both, mut random) = (Both::with_log(512, 3, true, 300), Random(300));
-    let start = both.model.save.clone();
-    let mut journal = Journal::new(Vec::new());
-    for _ in 0..60_000 {
-        let (index, value) = random.write();
-        if !both.try_write(index, u16::from(value), false) {
-            journal.keep(&mut both.memory).unwrap();
-            both.write(index, value);
+    for code in [3, 4] {
+        let (mut both, mut random) = (Both::with_log(512, code, true, 300), Random(300));
+        let start = both.model.save.clone();
+        let mut journal = Journal::new(Vec::new());
+        for _ in 0..60_000 {
+            let (index, value) = random.write();
+            if !both.try_write(index, u16::from(value), false) {
+                journal.keep(&mut both.memory).unwrap();
+                both.write(index, value);
+            }
         }
+        journal.keep(&mut both.memory).unwrap();
+        assert!(*journal.get_ref() == [&JOURNAL_MARK[..], &both.model.log()].concat());
+        let mut save = start;
+        assert_eq!(recover_journal(&mut save, journal.get_ref()), Ok(both.model.stored.len()));
+        assert!(save == both.memory.save() && save == both.model.save);
+        // Every bank was written.
+        let banks = both.model.ram_banks;
+        assert!((0..banks).all(|bank| both.model.stored.iter().any(|(at, _)| at / 8192 == bank)));
     }
-    journal.keep(&mut both.memory).unwrap();
-    assert!(*journal.get_ref() == both.model.log());
-    let mut save = start;
-    assert_eq!(recover_journal(&mut save, journal.get_ref()), Ok(both.model.stored.len()));
-    assert!(save == both.memory.save() && save == both.model.save);
 }

@@ -36,8 +36,9 @@ fn fresh(input: &[u8]) -> Memory {
     let mbc_type = [MbcType::RomOnly, MbcType::Mbc1, MbcType::Mbc2, MbcType::Mbc5][usize::from(input[0])];
     let cartridge = cartridge(mbc_type, 1 << input[1], input[2]);
     let save: Vec<u8> = (0..cartridge.save_len()).map(|at| (at * 5 + at / 8192 * 11 + 17) as u8).collect();
-    let mut memory = Memory::new(cartridge, input[3] == 1, &save).unwrap();
-    memory.sound_mut().copy_from_slice(&input[4..]);
+    let log = u16::from_be_bytes([input[4], input[5]]);
+    let mut memory = Memory::with_log(cartridge, input[3] == 1, &save, log.into()).unwrap();
+    memory.sound_mut().copy_from_slice(&input[6..]);
     memory
 }
 
@@ -96,7 +97,7 @@ fn answer(memory: &mut Memory, letter: &str, input: &[u8]) -> Vec<u8> {
 }
 
 fn written(outcome: Result<Written, Refusal>) -> Vec<u8> {
-    vec![outcome.unwrap().owes_sound.into()]
+    vec![outcome.map_or_else(|refusal| refusal.number(), |written| written.owes_sound.into())]
 }
 
 fn button(number: u8) -> Button {
@@ -120,7 +121,7 @@ fn memories(memory: &Memory) -> Vec<u8> {
 }
 
 /// The widths of the image's fields behind the colours, in document 01's order, up to the log's use.
-const WIDTHS: [usize; 28] = [1, 1, 1, 1, 3, 1, 1, 8, 8, 8, 8, 8, 8, 10, 16, 16, 32, 32, 32, 32, 2, 4, 2, 9, 2, 1, 1, 2];
+const WIDTHS: [usize; 28] = [1, 1, 1, 1, 3, 1, 1, 8, 8, 8, 8, 8, 8, 10, 16, 16, 32, 32, 32, 32, 2, 4, 3, 9, 4, 1, 1, 2];
 const LOG2_N: usize = 21;
 
 fn state(image: &Image) -> Vec<u8> {

@@ -2,8 +2,10 @@
 
 mod common;
 
-use common::{bus, cartridge, colour, monochrome, with_save, write};
-use pouchrattle::{recover, Cartridge, Expected, MbcType, Memory, OutOfRange, Refusal, Timer, Which, WrongLength, IMAGE_LEN, LONGEST_LOG, RECORD_LEN};
+use common::{bus, cartridge, colour, monochrome, record, with_save, write};
+use pouchrattle::{
+    log_to_new, log_to_old, recover, Cartridge, Expected, MbcType, Memory, OutOfRange, Refusal, Timer, Which, WrongLength, IMAGE_LEN, LONGEST_LOG, RECORD_LEN,
+};
 
 /// A fresh bus over a save of so many bytes: its refusal, if any.
 fn built(mbc_type: MbcType, banks: usize, ram_size: u8, save: usize) -> Option<Refusal> {
@@ -22,7 +24,9 @@ fn descriptions_out_of_range() {
         }
     }
     for code in 0..=255 {
-        for (mbc_type, banks, codes) in [(RomOnly, 2, &[0, 2, 3][..]), (Mbc1, 2, &[0, 2, 3]), (Mbc2, 2, &[0]), (Mbc5, 2, &[0, 2, 3]), (Mbc5, 512, &[0, 2, 3])] {
+        for (mbc_type, banks, codes) in
+            [(RomOnly, 2, &[0, 2, 3][..]), (Mbc1, 2, &[0, 2, 3]), (Mbc2, 2, &[0]), (Mbc5, 2, &[0, 2, 3, 4]), (Mbc5, 512, &[0, 2, 3, 4])]
+        {
             let save = cartridge(mbc_type, 0, code).save_len();
             let expected = (!codes.contains(&code)).then_some(Refusal::OutOfRange(OutOfRange::RamSize { mbc_type, found: code }));
             assert_eq!(built(mbc_type, banks, code, save), expected, "{mbc_type:?} {code}");
@@ -37,9 +41,10 @@ fn wrong(memory: Which, found: usize, expected: Expected) -> Refusal {
 #[test]
 fn wrong_lengths() {
     use MbcType::*;
-    let lengths = [(RomOnly, 0, 0), (RomOnly, 2, 8192), (Mbc1, 2, 8192), (Mbc1, 3, 32768), (Mbc2, 0, 512), (Mbc5, 0, 0), (Mbc5, 2, 8192), (Mbc5, 3, 32768)];
+    let with_mbc5 = [(Mbc5, 0, 0), (Mbc5, 2, 8192), (Mbc5, 3, 32768), (Mbc5, 4, 131_072)];
+    let lengths = [(RomOnly, 0, 0), (RomOnly, 2, 8192), (Mbc1, 2, 8192), (Mbc1, 3, 32768), (Mbc2, 0, 512)].into_iter().chain(with_mbc5);
     for (mbc_type, code, right) in lengths {
-        for save in [0, 1, 511, 512, 513, 8191, 8192, 8193, 32767, 32768, 32769, 131_072] {
+        for save in [0, 1, 511, 512, 513, 8191, 8192, 8193, 32767, 32768, 32769, 65536, 131_071, 131_072, 131_073] {
             let expected = (save != right).then_some(wrong(Which::Save, save, Expected::Exactly(right)));
             assert_eq!(built(mbc_type, 2, code, save), expected, "{mbc_type:?} {save}");
         }
@@ -75,15 +80,23 @@ fn words() {
     says(built(Mbc2, 0, 0, 512), 3, "the ROM has 0 bytes, and Mbc2 takes 2, 4, 8 or 16 banks of 16,384");
     says(built(Mbc5, 1024, 0, 0), 3, "the ROM has 16,777,216 bytes, and Mbc5 takes 2, 4, 8, 16, 32, 64, 128, 256 or 512 banks of 16,384");
     says(built(Mbc1, 2, 5, 0), 3, "the RAM code is 5, and Mbc1 takes 0, 2 or 3");
-    says(built(Mbc5, 512, 4, 131_072), 3, "the RAM code is 4, and Mbc5 takes 0, 2 or 3");
+    says(built(Mbc5, 512, 5, 65536), 3, "the RAM code is 5, and Mbc5 takes 0, 2, 3 or 4");
+    says(built(Mbc1, 128, 4, 131_072), 3, "the RAM code is 4, and Mbc1 takes 0, 2 or 3");
+    says(built(RomOnly, 2, 4, 131_072), 3, "the RAM code is 4, and RomOnly takes 0, 2 or 3");
+    says(built(Mbc2, 2, 4, 512), 3, "the RAM code is 4, and Mbc2 takes 0");
     says(built(Mbc2, 2, 2, 512), 3, "the RAM code is 2, and Mbc2 takes 0");
     says(built(Mbc1, 2, 3, 8192), 4, "the save has 8,192 bytes, and must have 32,768");
     says(built(Mbc1, 2, 2, 8191), 4, "the save has 8,191 bytes, and must have 8,192");
     says(built(Mbc2, 2, 0, 32768), 4, "the save has 32,768 bytes, and must have 512");
     says(built(Mbc5, 512, 3, 8192), 4, "the save has 8,192 bytes, and must have 32,768");
+    says(built(Mbc5, 512, 4, 32768), 4, "the save has 32,768 bytes, and must have 131,072");
     says(Memory::with_log(cartridge(RomOnly, 2, 0), false, &[], 1_000_000).err(), 4, "the log has 1,000,000 bytes, and must have at most 65,535");
-    says(recover(&mut [0; 513], &[]).err(), 4, "the save has 513 bytes, and must have 0, 512, 8,192 or 32,768");
-    says(recover(&mut [0; 512], &[0x82, 0x00, 0x0F]).err(), 6, "record 0 is damaged: 82 00 0F");
+    says(recover(&mut [0; 513], &[]).err(), 4, "the save has 513 bytes, and must have 0, 512, 8,192, 32,768 or 131,072");
+    says(recover(&mut [0; 512], &record(512, 0x0F)).err(), 6, "record 0 is damaged: 80 80 03 C0");
+    says(log_to_new(&[0x80, 0x00, 0x0F, 0x7F, 0xFF, 0x01]).err(), 6, "record 1 is damaged: 7F FF 01");
+    says(log_to_new(&[0; 49152]).err(), 4, "the log has 49,152 bytes, and must have at most 49,151");
+    says(log_to_old(&[0x80, 0x00, 0x00, 0x01]).err(), 6, "record 0 is damaged: 80 00 00 01");
+    says(log_to_old(&[0; 65536]).err(), 4, "the log has 65,536 bytes, and must have at most 65,535");
     let mut memory = monochrome();
     says(memory.read_block(0, &mut vec![0; 70_000]).err(), 4, "the block has 70,000 bytes, and must have at most 65,536");
     says(memory.set_image(&[0; IMAGE_LEN]).err(), 3, "the image holds no state of a bus");
@@ -127,13 +140,14 @@ fn cycles() {
 
 #[test]
 fn full_log() {
-    for (mbc_type, banks) in [(MbcType::Mbc1, 2), (MbcType::Mbc5, 2), (MbcType::Mbc5, 512)] {
-        no_room(cartridge(mbc_type, banks, 2));
+    for (mbc_type, banks, code) in [(MbcType::Mbc1, 2, 2), (MbcType::Mbc5, 2, 2), (MbcType::Mbc5, 512, 2), (MbcType::Mbc5, 2, 4), (MbcType::Mbc5, 512, 4)] {
+        no_room(cartridge(mbc_type, banks, code));
     }
 }
 
 fn no_room(cartridge: Cartridge) {
-    let mut memory = Memory::with_log(cartridge, false, &[0; 8192], 3 * RECORD_LEN - 1).unwrap();
+    let save = vec![0; cartridge.save_len()];
+    let mut memory = Memory::with_log(cartridge, false, &save, 3 * RECORD_LEN - 1).unwrap();
     write(&mut memory, &[(0x0000, 0x0A), (0xA000, 1)]);
     let before = memory.clone();
     for index in [0x9FFF, 0xA000, 0xBFFF] {
@@ -148,7 +162,7 @@ fn no_room(cartridge: Cartridge) {
     }
     assert!(memory == before);
     write(&mut memory, &[(0x9FFF, 3), (0xC000, 3)]);
-    assert_eq!(memory.take_log(), [0x80, 0x00, 1, 0x9F, 0xFF, 2]);
+    assert_eq!(memory.take_log(), [record(0, 1), record(0x1FFF, 2)].concat());
     write(&mut memory, &[(0xA000, 3)]);
     assert_eq!(memory.save()[0], 3);
 }
@@ -160,8 +174,8 @@ fn images() {
     let before = memory.clone();
     let no_state = Err(Refusal::OutOfRange(OutOfRange::Image));
     assert_eq!(memory.set_image(&[0; IMAGE_LEN]), no_state);
-    // The last six bits.
-    for bit in 0..6 {
+    // The last three bits.
+    for bit in 0..3 {
         let mut image = *memory.image();
         image[IMAGE_LEN - 1] |= 1 << bit;
         assert_eq!(memory.set_image(&image), no_state);
@@ -178,6 +192,7 @@ fn images() {
         (bus(MbcType::Mbc5, 512, 2, true), Which::Rom, 32768, 8_388_608),
         (bus(MbcType::Mbc5, 2, 2, true), Which::Vram, 8192, 16384),
         (bus(MbcType::Mbc5, 2, 3, false), Which::Save, 8192, 32768),
+        (bus(MbcType::Mbc5, 2, 4, false), Which::Save, 8192, 131_072),
         (bus(MbcType::Mbc5, 2, 0, false), Which::Save, 8192, 0),
     ] {
         assert_eq!(memory.set_image(other.image()), Err(wrong(which, found, Expected::Exactly(expected))));

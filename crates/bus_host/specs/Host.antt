@@ -16,7 +16,7 @@ use Rattle.bus_host.specs.declared.host.Lengths.{Lengths}
 unfoldable pub smaller : ℕ → ℕ → ℕ
 smaller a b = cond (ltb a b) a b
 
--- the lengths that a bus needs ("The whole bus": the save has document 01's length)
+-- the lengths that a bus needs ("The whole bus": the save has the length of documents 01 and 02)
 abbrev pub lengthsOf : Cartridge → Mapper → Bool → Lengths
 lengthsOf c m colour = record { rom = romLen c; vram = vramLen colour; wram = wramLen colour; save = ramLen c m }
 

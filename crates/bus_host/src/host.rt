@@ -101,8 +101,8 @@ pub fn perform(
 }
 
 // Takes the 48 bytes of the sound window that stand from `from` on.
-pub fn hear(given: &[u8; 52], from: usize, sound: &mut [u8])
-    requires { ⌜ from ≤ 4 ⌝ }
+pub fn hear(given: &[u8; 54], from: usize, sound: &mut [u8])
+    requires { ⌜ from ≤ 6 ⌝ }
 {
     let n = least(48, sound.len());
     let mut i = 0;
@@ -112,7 +112,7 @@ pub fn hear(given: &[u8; 52], from: usize, sound: &mut [u8])
     }
 }
 
-// What N says of a bus: mapper, log2 N, RAM code, colour.
+// What N says of a bus: mapper, log2 N, RAM code, colour. The log's length stands between these and the sound window.
 struct Description {
     kind: u8,
     banks: u16,
@@ -120,7 +120,7 @@ struct Description {
     colour: bool,
 }
 
-fn described(given: &[u8; 52]) -> Description {
+fn described(given: &[u8; 54]) -> Description {
     Description {
         kind: given[0],
         banks: Cartridge::banks_of(given[1]),
@@ -163,7 +163,7 @@ fn begin(
 
 // A fresh bus as N describes it, with save and sound window as the list says. Colour is a flag.
 pub fn fresh(
-    given: &[u8; 52],
+    given: &[u8; 54],
     rom: &[u8],
     vram: &mut [u8],
     wram: &mut [u8],
@@ -178,7 +178,7 @@ pub fn fresh(
         };
     }
     let d = described(given);
-    hear(given, 4, sound);
+    hear(given, 6, sound);
     pattern::fill_save(save);
     begin(d, rom, vram, wram, save, log, sound)
 }

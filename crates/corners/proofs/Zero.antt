@@ -1,5 +1,5 @@
--- Every call refuses the all-zero state.
-use mathlib.Core.Path.{_≡_}
+-- Every call refuses the all-zero state; and who refuses RAM code 4.
+use mathlib.Core.Path.{_≡_, refl}
 use Prim.Native.Nat.{ℕ}
 use Rattle.bus.specs.Calls.{unless}
 use Rattle.dispatch.specs.Step.{performed, performedDone, stateStep, step}
@@ -10,6 +10,7 @@ use Rattle.interrupt.specs.Flags.{named}
 use Rattle.interrupt.specs.declared.Interrupt.{Interrupt}
 use Rattle.interrupt.specs.declared.Pending.{Pending}
 use Rattle.interrupt.specs.declared.Pending.the-variants.{Some, None}
+use Rattle.mbc.specs.Mbc as mbc
 use Rattle.memory.proofs.Laws.{zero-refused}
 use Rattle.memory.specs.Start.{zeroed}
 use Rattle.memory.specs.World.{World, Fixed}
@@ -20,7 +21,7 @@ use Rattle.refusals.specs.Refusal.{orElse, stateRefused, readRefused, lentRefus
 use Rattle.registers.specs.State.{requestedIn, removedIn}
 use Rattle.savelog.specs.Log.{logLimit}
 use Rattle.state_calls.specs.State.{onInterrupt}
-use Rattle.corners.specs.Laws.{ZeroRefused}
+use Rattle.corners.specs.Laws.{ZeroRefused, CodeFour}
 
 state-closed : (m : Memory) → m ≡ zeroed → (limit : ℕ) → stateRefused m limit ≡ outOfRange
 unfolding stateRefused
@@ -77,3 +78,8 @@ zero-closed x w (call.WriteWord i v) e = rw (write-closed x w e)
 zero-closed x w (call.DoDmaTransfer page) e = rw (write-closed x w e)
 zero-closed x w call.DoHdma e = rw (write-closed x w e)
 zero-closed x w (call.State c) e = rw (calls-closed (w .state) (state-closed (w .state) e logLimit) c)
+
+-- RAM code 4, mapper by mapper: computed
+pub code-four : CodeFour
+unfolding mbc.fresh mbc.described mbc.start mbc.hasBanks mbc.hasCode mbc.ramBanks mbc.ramLen
+code-four = (refl, refl, refl, refl, refl, refl)

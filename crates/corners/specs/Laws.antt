@@ -30,6 +30,16 @@ FreshAccepted =
     → mbc.described c (mbc.start kind) ≡ true
     → inRange (started c (mbc.start kind) colour) limit ≡ true
 
+-- "RAM code 4 means 131,072 bytes in 16 banks, with MBC5 only" (document 02, wish 3): with another mapper 3
+abbrev pub CodeFour : Type 0
+CodeFour =
+    (mbc.fresh 0 2 4 .number ≡ outOfRange)
+    × (mbc.fresh 1 2 4 .number ≡ outOfRange)
+    × (mbc.fresh 2 2 4 .number ≡ outOfRange)
+    × (mbc.fresh 3 2 4 .number ≡ done)
+    × (mbc.ramBanks 4 ≡ 16)
+    × (mbc.ramLen (mbc.cartridgeOf 2 4) (mbc.start 3) ≡ 131072)
+
 -- A and Up pressed, and then all eight as an update leaves them
 abbrev pub pressed : Controller
 pressed = joypad.pressCall (joypad.pressCall joypad.fresh 4 .controller) 0 .controller

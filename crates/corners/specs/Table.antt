@@ -192,10 +192,10 @@ abbrev pub corner11 : Lent → List Row
 corner11 lent =
     row 11 either mbc2 (given 0x0000 0x0A ∷ given 0xA000 0xAB ∷ saveIs (set (bytes (lent .save) 0 512) 0 0x0B) ∷ []) ∷ []
 
--- 12. * Address 1234, value 56: bytes 92 34 56. (Address 1234 of the save is at B234.)
+-- 12. * Address 1234, value 56: bytes 84 8D 15 80, as document 02 has it. (Address 1234 of the save is at B234.)
 abbrev pub corner12 : List Row
 corner12 =
-    row 12 either romOnly (given 0xB234 0x56 ∷ reads 0xB234 0x56 ∷ logIs (0x92 ∷ 0x34 ∷ 0x56 ∷ []) ∷ []) ∷ []
+    row 12 either romOnly (given 0xB234 0x56 ∷ reads 0xB234 0x56 ∷ logIs (0x84 ∷ 0x8D ∷ 0x15 ∷ 0x80 ∷ []) ∷ []) ∷ []
 
 -- 13. * FF68 80, then FF69 1F, 7C: colour (31, 0, 31), FF68 reads C2.
 abbrev pub corner13 : List Row

@@ -1,9 +1,9 @@
 // Document 01's starred corners, as one table with one theorem about the public calls' definitions, and what is promised beside them.
 ghost use Rattle.mbc.specs.Mbc.{OneField};
 ghost use Rattle.corners.specs.Table.{Corners};
-ghost use Rattle.corners.specs.Laws.{ZeroRefused, FreshAccepted, Buttons, Sprites};
+ghost use Rattle.corners.specs.Laws.{ZeroRefused, FreshAccepted, CodeFour, Buttons, Sprites};
 
 // The theorem of specs/Table.antt, the laws of specs/Laws.antt and that of Mbc5's bank (crate mbc), as a contract: its proof hands them over.
 pub fn corners_hold()
-    ensures { λ _. ⌜ Corners × ZeroRefused × FreshAccepted × Buttons × Sprites × OneField ⌝ }
+    ensures { λ _. ⌜ Corners × ZeroRefused × FreshAccepted × CodeFour × Buttons × Sprites × OneField ⌝ }
 {}

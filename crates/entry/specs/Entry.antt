@@ -22,7 +22,8 @@ use Rattle.memory.specs.World.{World, world, Fixed, withMapper}
 use Rattle.memory.specs.declared.Memory.{Memory}
 use Rattle.numbers.specs.Numbers.{done, wrongLength}
 pub use Rattle.put_bytes.specs.Left.{Left, left, leftIn}
-use Rattle.savelog.specs.Log.{Four, addressEnd, recordNumber}
+use Rattle.savelog.specs.Log.{addressEnd, recordNumber}
+use Rattle.savelog.specs.declared.Form.the-variants.{Four}
 
 -- An entry that changes the state alone: the number, and the image as it is then
 

@@ -1,9 +1,10 @@
 -- Each part of a result is read off the outcome.
 use mathlib.Core.Path.{_≡_, ap, sym, _∙_}
+use Rattle.savelog.specs.Convert.{Conversion}
 use Rattle.image.specs.Load.{Stored}
 use Rattle.entry.specs.Entry.{Changed, Given, Left, Fresh, Mapped}
 use Rattle.entry.specs.Host.{Shown}
-use Rattle.host.specs.One.{OneChanged, OneGiven, OneLeft, OneFresh, OneMapped, OneShown, OneStored, OneNumber, OneEntry}
+use Rattle.host.specs.One.{OneChanged, OneGiven, OneLeft, OneFresh, OneMapped, OneShown, OneStored, OneConverted, OneNumber, OneEntry}
 
 -- two values that are both the same part of o
 part : {A B : Type 0} (f : A → B) {p q o : A} → p ≡ o → q ≡ o → f p ≡ f q
@@ -57,8 +58,15 @@ one-shown o n d l s m n′ d′ l′ s′ m′ y c a w y′ c′ a′ w′ e g =
 one-stored : OneStored
 one-stored o m n i j e g = (part (λ (r : Stored). r .number) e g, part (λ (r : Stored). r .bytes) e g)
 
+one-converted : OneConverted
+one-converted o m n v w t u e g = (
+  part (λ (r : Conversion). r .number) e g,
+  part (λ (r : Conversion). r .len) e g,
+  part (λ (r : Conversion). r .target) e g,
+)
+
 one-number : OneNumber
 one-number o m n e g = e ∙ sym g
 
 pub one-entry : OneEntry
-one-entry = (one-changed, one-given, one-left, one-fresh, one-mapped, one-shown, one-stored, one-number)
+one-entry = (one-changed, one-given, one-left, one-fresh, one-mapped, one-shown, one-stored, one-converted, one-number)

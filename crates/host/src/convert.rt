@@ -1,6 +1,6 @@
 // Entries for the converters of logs; they need no image.
 ghost use mathlib.Core.Path.{_≡_};
-ghost use Rattle.savelog.specs.Log.{Three, Four};
+ghost use Rattle.savelog.specs.declared.Form.the-variants.{Three, Four};
 ghost use Rattle.savelog.specs.Convert.{converted, conversion};
 
 // A log of old records, of three bytes, to one of the present form; `value` is how many bytes of `log` it takes.

@@ -45,8 +45,8 @@ pub fn common_save(n: u32) -> usize
     if Cartridge::banks_of(log as u8) <= rom {
         return NO_SAVE;
     }
-    // By the code's three bits. With four banks of RAM the RAM bank has two bits; with one it and the mode, five bits side by side, are 0; without RAM
-    // enabled behind them is too.
+    // By the RAM code, bit by bit. 3: the RAM bank has two bits. 2: it and the mode, five bits side by side, are 0. 4: with Mbc5 only, any of 16 banks. 0:
+    // enabled, behind those five, is 0 too. What else fails stands behind its last test, so that both are one mask.
     if n / layout::CODE_UNIT % 2 != 0 {
         if n / layout::CODE_UNIT / 2 % 4 != 1 {
             return NO_SAVE;

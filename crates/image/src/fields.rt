@@ -402,7 +402,7 @@ fn put_numbers(image: &mut [u8], r: Registers)
         + r.mode as u32 * layout::BANKING_UNIT
         + r.enabled as u32 * layout::ENABLED_UNIT
         + r.high as u32;
-    // Those behind the ROM bank are a byte: that the compiler knows of no carry spares it ten instructions.
+    // Those behind the ROM bank make a byte: told so, the compiler looks for no carry out of them, which takes ten instructions.
     let n = r.rom as u32 * layout::ROM_UNIT + low as u8 as u32;
     places::put_u24(image, layout::ROM_AT, layout::NUMBERS, n);
 }

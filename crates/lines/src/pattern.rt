@@ -6,6 +6,9 @@ ghost use Rattle.lines.specs.Contents.{romByte, saveByte, Filled};
 // The ROM that a program has, of 256 banks: it stands on the stack, and 512 would take all that a system usually gives.
 pub const ROM_LEN: usize = 0x400000;
 
+// The largest save.
+pub const SAVE_LEN: usize = 0x20000;
+
 pub fn rom_byte(a: usize) -> u8
     ensures { λ r. ⌜ r ≡ romByte a ⌝ }
 {

@@ -25,7 +25,7 @@ wrongLength = 4
 abbrev pub tooManyCycles : ℕ
 tooManyCycles = 5
 
--- refused: recovery met a whole record that is damaged
+-- refused: recovery or a converter met a whole record that is damaged, or a converter an address that does not fit
 abbrev pub damaged : ℕ
 damaged = 6
 

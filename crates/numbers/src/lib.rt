@@ -12,7 +12,7 @@ pub const OUT_OF_RANGE: u8 = 3;
 pub const WRONG_LENGTH: u8 = 4;
 // Refused: more than 65,536 cycles.
 pub const TOO_MANY_CYCLES: u8 = 5;
-// Refused: recovery met a whole record that is damaged.
+// Refused: recovery or a converter met a whole record that is damaged, or a converter an address that does not fit.
 pub const DAMAGED: u8 = 6;
 // Refused: a button, bit, interrupt, bank or index outside.
 pub const OUTSIDE: u8 = 7;

@@ -19,6 +19,7 @@ use Rattle.savelog.proofs.Laws.{stored-sound, records-none}
 use Rattle.savelog.proofs.Prefix.{records-append}
 use Rattle.savelog.proofs.Use.{record-first}
 use Rattle.savelog.specs.Laws.{Copies, none, more}
+use Rattle.savelog.specs.declared.Form.the-variants.{Four}
 use Rattle.savelog.specs.Log.{width, addressEnd, stored, records, soundRecord, allSound, joined, logLimit, saveLengths, oneOf}
 use Rattle.savelog.specs.declared.Rec.{Rec}
 use Rattle.promise.specs.Bus.{Call, inSave, refused, Kind, Reading, Clearing, Other, kindOf}
@@ -47,10 +48,10 @@ fit-sound ram (r ∷ rs) f =
 
 pub fit-read : (ram : ℕ) → ram ≤ addressEnd → (rs : List Rec) → Fit ram rs → records (recordsOf rs) ≡ rs
 unfolding recordsOf
-fit-read ram h [] f = records-none [] (omega arith)
+fit-read ram h [] f = records-none Four [] (omega arith)
 fit-read ram h (r ∷ rs) f =
     let a : r .address < addressEnd = omega (arith, f .0 .1) in
-    record-first (r .address) (r .value) (recordsOf rs) (f .0 .2) a
+    record-first Four (r .address) (r .value) (recordsOf rs) (f .0 .2) a
     ∙ ap (λ (l : List Rec). stored (r .address) (r .value) ∷ l) (fit-read ram h rs (f .1))
     ∙ ap (λ (q : Rec). q ∷ rs) (sym (f .0 .0))
 
@@ -87,7 +88,7 @@ granted-bytes (n ∷ ns) (c ∷ cs) t =
 
 pub ram-taken : (c : Cartridge) (m : Mapper) → oneOf (ramLen c m) saveLengths ≡ true
 unfolding oneOf saveLengths
-ram-taken c m = by-ram-len (λ (n : ℕ). oneOf n saveLengths ≡ true) refl refl refl refl c m
+ram-taken c m = by-ram-len (λ (n : ℕ). oneOf n saveLengths ≡ true) refl refl refl refl refl c m
 
 -- The copies are whole records, and short
 
@@ -131,5 +132,5 @@ pub copies-sound : (ram : ℕ) (ls : List (List ℕ)) → Wholes ls → allSound
 unfolding joined
 copies-sound ram [] h s = none
 copies-sound ram (l ∷ ls) h s =
-    let t = sound-split ram (records l) (records (joined ls)) (rw (records-append l (joined ls) (h .0 .0)) at s) in
+    let t = sound-split ram (records l) (records (joined ls)) (rw (records-append Four l (joined ls) (h .0 .0)) at s) in
     more (record { whole = h .0 .0; short = h .0 .1; sound = t .0 }) (copies-sound ram ls (h .1) (t .1))

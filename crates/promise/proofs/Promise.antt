@@ -20,7 +20,7 @@ use Rattle.savelog.specs.Log.{Outcome, width, records, allSound, applyAll, save
 use Rattle.savelog.specs.declared.Rec.{Rec}
 use Rattle.promise.specs.Bus.{inSave, Lent, start, begin}
 use Rattle.promise.specs.Admitted.{admittedBy, grantedAll, mapperAfter, letIn, letInAll, recordsOf}
-use Rattle.promise.specs.Promise.{Typed, Recovers, Promise, Example}
+use Rattle.promise.specs.Promise.{Typed, Recovers, Promise, Example, WideExample}
 use Rattle.promise.specs.Runs.{Turn, calls, made, run, after, numbers, admitted, copiesFrom, copies}
 use Rattle.promise.proofs.Cuts.{Fit, fit-sound, fit-read, let-fit, granted-bytes, ram-taken, copies-whole, copies-sound}
 use Rattle.promise.proofs.Room.{byte-number, word-number, clear-number}
@@ -119,6 +119,10 @@ promise l ts z =
       clears = clear-number (after l ts) h;
       within = good-use h;
     }
+
+pub wide-example : WideExample
+unfolding letInAll letIn mapperAfter inSave regionOf mbc.start mbc.after5 mbc.enable5 mbc.ram5 mbc.chosenRam mbc.ramBanks mbc.source mbc.ramSource mbc.ramLen mbc.mapped
+wide-example = refl
 
 pub example : Example
 unfolding letInAll letIn mapperAfter inSave regionOf mbc.start mbc.after2 mbc.enable2 mbc.source mbc.ramSource mbc.ramLen mbc.mapped

@@ -8,6 +8,7 @@ use Rattle.mbc.specs.declared.mbc.Mapper.{Mapper}
 use Rattle.mbc.specs.declared.mbc.Answer.{Answer}
 use Rattle.mbc.specs.declared.mbc.Answer.the-variants.{Stored, NotStored}
 use Rattle.savelog.specs.Log.{stored, recordBytes}
+use Rattle.savelog.specs.declared.Form.the-variants.{Four}
 use Rattle.savelog.specs.declared.Rec.{Rec}
 use Rattle.promise.specs.Bus.{Call, inSave, refused}
 use Rattle.promise.specs.Calls.{ByteWrite, writesOf}
@@ -45,4 +46,4 @@ admittedBy c m ns cs = letInAll c m (grantedAll ns cs)
 -- their records, byte by byte
 unfoldable pub recordsOf : List Rec → List ℕ
 recordsOf [] = []
-recordsOf (r ∷ rs) = recordBytes (r .address) (r .value) ++ recordsOf rs
+recordsOf (r ∷ rs) = recordBytes Four (r .address) (r .value) ++ recordsOf rs

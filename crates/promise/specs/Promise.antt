@@ -50,7 +50,7 @@ pub record Kept (l : Lent) (ts : List Turn) : Type 0 where
   -- for so it stood: if other calls follow, the writes of these come first among the admitted ones
   pub stood : (later : List Turn) → after l ts .save ≡ applyAll (l .image) (take (length (admitted l ts)) (admitted l (ts ++ later)))
   -- "that were not refused": whatever is lent for reading, 4 where its lengths are wrong; else no write is refused but for room, "byte write in
-  -- A000..BFFF, under 3 log bytes free; word write with either index there, under 6 free"; and no clearing at all
+  -- A000..BFFF", "word write with either index there" (document 01), which "now needs 4 free bytes, a word write 8" (document 02); and no clearing at all
   pub bytes : (x : Fixed) (i v : ℕ)
       → step x (after l ts) (call.WriteByte i v) .number
       ≡ cond (fits (cartridgeOf (l .banks) (l .code)) x) (cond (inSave i && ltb (free (after l ts)) width) noRoom (byteOwed i)) wrongLength
@@ -75,3 +75,9 @@ abbrev pub Example : Type 0
 Example =
     letInAll (cartridgeOf 2 0) (mapperOf 2) (byte 0xA000 0x55 ∷ byte 0x0000 0x0A ∷ byte 0xA000 0xAB ∷ byte 0xA200 0x12 ∷ [])
     ≡ stored 0 0x0B ∷ []
+
+-- and MBC5 with RAM code 4 (document 02, wish 3): the last byte of the last of 16 banks is at 131,071
+abbrev pub WideExample : Type 0
+WideExample =
+    letInAll (cartridgeOf 2 4) (mapperOf 3) (byte 0x0000 0x0A ∷ byte 0x4000 0x0F ∷ byte 0xBFFF 0xAB ∷ [])
+    ≡ stored 131071 0xAB ∷ []

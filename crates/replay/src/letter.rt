@@ -65,7 +65,7 @@ impl Letter {
             Letter::Release => 3,
             Letter::Poll => 6,
             Letter::Pad => 3,
-            Letter::Write => 10,
+            Letter::Write => 11,
             Letter::Read => 1,
             Letter::Interrupts => 3,
         }

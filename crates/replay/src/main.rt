@@ -94,7 +94,7 @@ fn replay(rom: &[u8], save: &[u8]) -> Tally {
 
 // With the largest save.
 fn run(rom: &[u8]) {
-    let mut save = [0u8; 32768];
+    let mut save = [0u8; pattern::SAVE_LEN];
     pattern::fill_save(&mut save);
     let tally = replay(rom, &save);
     tally.report(&letter::NAMES);

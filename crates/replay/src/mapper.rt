@@ -48,13 +48,14 @@ fn with_answer(number: u8, registers: [u8; 12], answer: Answer) -> Ours {
             bytes: bytes,
         };
     };
-    if 65535 < at {
+    if 16777215 < at {
         return refused();
     }
     bytes[6] = 1;
-    bytes[7] = (at / 256) as u8;
-    bytes[8] = (at % 256) as u8;
-    bytes[9] = value;
+    bytes[7] = (at / 65536) as u8;
+    bytes[8] = (at / 256 % 256) as u8;
+    bytes[9] = (at % 256) as u8;
+    bytes[10] = value;
     Ours {
         number: number,
         bytes: bytes,

@@ -63,7 +63,7 @@ fn of_index(letter: u8, index: u16, high: u8, low: u8) -> Made {
 }
 
 // The signed number of four bytes.
-fn signed_at(given: &[u8; 52], at: usize) -> i32
+fn signed_at(given: &[u8; 54], at: usize) -> i32
     requires { ⌜ at ≤ 48 ⌝ }
 {
     signed_of(long(
@@ -73,7 +73,7 @@ fn signed_at(given: &[u8; 52], at: usize) -> i32
 }
 
 // The host's eight numbers. The first is a flag.
-fn host(given: &[u8; 52]) -> Made {
+fn host(given: &[u8; 54]) -> Made {
     if 1 < given[0] {
         return Made::None;
     }

@@ -22,10 +22,10 @@ fn some(takes: usize, gives: usize) -> Shape
 }
 
 pub fn shape_of(letter: u8) -> Shape
-    ensures { λ r. ⌜ (r .takes ≤ 52) × (r .gives ≤ 8) ⌝ }
+    ensures { λ r. ⌜ (r .takes ≤ 54) × (r .gives ≤ 8) ⌝ }
 {
     match letter {
-        b'N' => some(52, 1),
+        b'N' => some(54, 1),
         b'R' | b'O' => some(2, 1),
         b'M' => some(2, 2),
         b'W' | b'S' | b'B' => some(3, 1),

@@ -9,7 +9,7 @@ pub struct Line {
     pub letter: u8,
     pub takes: usize,
     pub gives: usize,
-    pub given: [u8; 52],
+    pub given: [u8; 54],
     pub answer: [u8; 12],
 }
 
@@ -21,7 +21,7 @@ pub fn none() -> Line
         letter: 0,
         takes: 0,
         gives: 0,
-        given: [0; 52],
+        given: [0; 54],
         answer: [0; 12],
     }
 }
@@ -36,7 +36,7 @@ pub fn of(s: &[u8]) -> Line
     if !shape.known {
         return none();
     }
-    let mut given = [0u8; 52];
+    let mut given = [0u8; 54];
     let mut answer = [0u8; 12];
     if !parse(s, shape.takes, shape.gives, &mut given, &mut answer) {
         return none();

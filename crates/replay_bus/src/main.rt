@@ -6,8 +6,10 @@ ghost use Prim.Native.Nat.{_≤_};
 ghost use lib.ListN.{length};
 ghost use Rattle.lines.specs.Reader.{Inside};
 use answer::Given;
+use bus_host::host::least;
 use line::Line;
 use lines::answer::same;
+use lines::number::word;
 use lines::pattern;
 use lines::reader;
 use lines::reader::Found;
@@ -27,9 +29,10 @@ struct Taken {
     next: Reader,
 }
 
-// The bus, what is counted, where the reader stands, and whether there may be more lines.
+// The bus, its log's length, what is counted, where the reader stands, and whether there may be more lines.
 struct State {
     memory: Memory,
+    room: u16,
     tally: Tally,
     reader: Reader,
     more: bool,
@@ -61,7 +64,7 @@ fn take(buf: &mut [u8], reader: Reader) -> Taken
 }
 
 // Where no call is made. A line of no known form, or one that is too long, is counted as such.
-fn passed(memory: Memory, tally: Tally, taken: Taken) -> State
+fn passed(memory: Memory, room: u16, tally: Tally, taken: Taken) -> State
     ensures { λ r. ⌜ r .reader ≡ taken .next ⌝ }
 {
     let found = taken.found;
@@ -69,18 +72,21 @@ fn passed(memory: Memory, tally: Tally, taken: Taken) -> State
     match found {
         Found::Line | Found::Long => State {
             memory: memory,
+            room: room,
             tally: tally.strange(),
             reader: next,
             more: true,
         },
         Found::Read => State {
             memory: memory,
+            room: room,
             tally: tally,
             reader: next,
             more: true,
         },
         Found::End => State {
             memory: memory,
+            room: room,
             tally: tally,
             reader: next,
             more: false,
@@ -89,7 +95,7 @@ fn passed(memory: Memory, tally: Tally, taken: Taken) -> State
 }
 
 // Where a call is made: its answer is compared with the line's.
-fn compared(given: Given, tally: Tally, taken: Taken) -> State
+fn compared(given: Given, room: u16, tally: Tally, taken: Taken) -> State
     requires { ⌜ taken .line .gives ≤ 12 ⌝ }
     ensures { λ r. ⌜ r .reader ≡ taken .next ⌝ }
 {
@@ -100,9 +106,20 @@ fn compared(given: Given, tally: Tally, taken: Taken) -> State
     let next = taken.next;
     State {
         memory: memory,
+        room: room,
         tally: tally.counted(line.letter, same(ours, answer, line.gives)),
         reader: next,
         more: true,
+    }
+}
+
+// The log's length: a fresh bus brings one.
+fn room_of(line: Line, before: u16) -> u16 {
+    let letter = line.letter;
+    let given = line.given;
+    match letter {
+        b'N' => word(given[4], given[5]),
+        _ => before,
     }
 }
 
@@ -123,10 +140,12 @@ fn step(
     let tally = state.tally;
     let line = taken.line;
     if !line.known {
-        return passed(memory, tally, taken);
+        return passed(memory, state.room, tally, taken);
     }
-    let given = answer::give(memory, line, rom, vram, wram, save, log, sound);
-    compared(given, tally, taken)
+    let room = room_of(line, state.room);
+    let n = least(room as usize, log.len());
+    let given = answer::give(memory, line, rom, vram, wram, save, &mut log[..n], sound);
+    compared(given, room, tally, taken)
 }
 
 // Before the first fresh bus: the state that every call refuses.
@@ -135,6 +154,7 @@ fn start() -> State
 {
     State {
         memory: memory::zero(),
+        room: 0,
         tally: Tally::new(),
         reader: reader::new(),
         more: true,

@@ -5,17 +5,18 @@ use mathlib.Core.List.{List, [], _∷_, _++_, append-assoc, append-nil}
 use Prim.Native.Nat.{ℕ, zero, suc, _+_, _-_, _*_, _/_, _%_, _≤_, _<_}
 use native.Mathlib.Omega.{arith}
 use lib.Dec.{eqb, ltb, leb}
-use lib.ListN.{length, take, drop, length-append, length-drop}
+use lib.ListN.{length, take, drop, length-append, length-drop, take-append-drop}
 use lib.Seq.{take-at, take-all, take-add, drop-at, length-take-le}
 use borrow.Author.Tests.{ltb-true, lt-ltb, eqb-true, ne-eqb, le-leb}
 use Rattle.numbers.specs.Numbers.{done, wrongLength, damaged}
 use Rattle.rules.proofs.Tests.{both-true}
 use Rattle.savelog.specs.Log.{Form, Three, Four, Rec, widthOf, endOf, spareOf, logLimit, saveLimit, saveLengths, bytesOf, numberFrom, recordNumber, recordBytes, fieldsOf, recordOf, stored, firstRecords, recordsBy, soundRecord, allSound, applyAll, oneOf, lengthsFit, outcome, recovery}
 use Rattle.savelog.specs.Convert.{Conversion, undamaged, below, bytesBy, lengthBy, room, converted, conversion, oldSaveLengths, oldRecovery}
-use Rattle.savelog.specs.ConvertLaws.{Bytes, none, more, newLog, OldCorner, SameRecords, ThereAndBack, BackExactly, LastDropped, PastStays, RecoversAsBefore}
+use Rattle.savelog.specs.ConvertLaws.{Bytes, none, more, newLog, OldCorner, SameRecords, ThereAndBack, BackExactly, LastDropped, InParts, PastStays, RecoversAsBefore}
 use Rattle.savelog.proofs.Laws.{some-width, record-length, records-none, records-cons}
 use Rattle.savelog.proofs.Use.{record-first}
-use Rattle.savelog.proofs.Prefix.{length-records, records-take}
+use Rattle.savelog.specs.Laws.{LastIgnored}
+use Rattle.savelog.proofs.Prefix.{length-records, records-take, records-append}
 use Rattle.savelog.proofs.Converts.{length-bound, Roomy, roomy, sound-parts, result, by-sound}
 
 -- records of stores, with addresses below an end and bytes as values
@@ -170,6 +171,23 @@ last-dropped f t l o h =
     let k : lengthBy f t n ≡ lengthBy f t (length l) = ap (λ (q : ℕ). q * widthOf t) (whole-count f (length l)) in
     let m : leb n logLimit ≡ true = le-leb n logLimit (omega (arith, whole-within f (length l))) in
     rw (whole-records f l, e, k, m, le-leb (length l) logLimit h)
+
+pub last-ignored : LastIgnored
+unfolding recovery lengthsFit
+last-ignored s l h =
+    let n = lengthBy Four Four (length l) in
+    let e : length (take n l) ≡ n = length-take-le n l (whole-within Four (length l)) in
+    let m : leb n logLimit ≡ true = le-leb n logLimit (omega (arith, whole-within Four (length l))) in
+    rw (whole-records Four l, e, m, le-leb (length l) logLimit h)
+
+whole-times : (f : Form) (k : ℕ) → k * widthOf f % widthOf f ≡ 0
+whole-times Three k = omega arith
+whole-times Four k = omega arith
+
+pub in-parts : InParts
+in-parts f l k h =
+    let n = k * widthOf f in
+    sym (records-append f (take n l) (drop n l) (rw (length-take-le n l h) (whole-times f k))) ∙ ap (recordsBy f) (take-append-drop n l)
 
 -- recovery: the same records, and lengths that both rules take or refuse
 old-lengths : (n : ℕ) → (n ≡ saveLimit → ⊥) → oneOf n oldSaveLengths ≡ oneOf n saveLengths

@@ -2,7 +2,7 @@
 use mathlib.Core.Bool.{true}
 use mathlib.Core.Path.{_≡_}
 use mathlib.Core.List.{List, [], _∷_, _++_}
-use Prim.Native.Nat.{ℕ, _/_, _≤_, _<_}
+use Prim.Native.Nat.{ℕ, _*_, _/_, _≤_, _<_}
 use lib.ListN.{length, take, drop}
 use Rattle.numbers.specs.Numbers.{done}
 use Rattle.savelog.specs.Log.{Form, Three, Four, widthOf, endOf, logLimit, saveLimit, recordsBy, recovery}
@@ -57,6 +57,13 @@ LastDropped =
     (f t : Form) (log target : List ℕ)
     → length log ≤ logLimit
     → conversion f t (take (lengthBy f f (length log)) log) target ≡ conversion f t log target
+
+-- A log that is too long to be converted at once is converted in parts: the parts' records are the log's.
+abbrev pub InParts : Type 0
+InParts =
+    (f : Form) (log : List ℕ) (k : ℕ)
+    → k * widthOf f ≤ length log
+    → recordsBy f (take (k * widthOf f) log) ++ recordsBy f (drop (k * widthOf f) log) ≡ recordsBy f log
 
 -- "Target bytes past the result stay"; and a refusal changes nothing, and writes no byte.
 abbrev pub PastStays : Type 0

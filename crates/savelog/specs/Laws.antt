@@ -2,7 +2,7 @@
 use mathlib.Core.Bool.{true}
 use mathlib.Core.Path.{_≡_}
 use mathlib.Core.List.{List, [], _∷_, _++_}
-use Prim.Native.Nat.{ℕ, _+_, _/_, _%_, _≤_, _<_}
+use Prim.Native.Nat.{ℕ, _+_, _*_, _/_, _%_, _≤_, _<_}
 use lib.ListN.{length, take}
 use Rattle.numbers.specs.Numbers.{done}
 use Rattle.savelog.specs.Log.{Four, width, addressEnd, recordBytes, stored, records, allSound, applyAll, saveLengths, logLimit, oneOf, outcome, recovery, appended, recoverAll, joined, cutCopies}
@@ -28,6 +28,10 @@ PrefixLaw =
     (save log : List ℕ) (n : ℕ)
     → recovery save log .number ≡ done
     → recovery save (take n log) ≡ outcome done (applyAll save (take (n / width) (records log)))
+
+-- "Recovery ignores up to three" last bytes: the whole records alone give the same, number and save.
+abbrev pub LastIgnored : Type 0
+LastIgnored = (save log : List ℕ) → length log ≤ logLimit → recovery save (take (length log / width * width) log) ≡ recovery save log
 
 -- A copy of a used log: whole records, all sound for a save of `ram` bytes, and no more bytes than recovery takes.
 pub record Copy (ram : ℕ) (copy : List ℕ) : Type 0 where

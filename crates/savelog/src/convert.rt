@@ -10,7 +10,7 @@ ghost use Prim.Native.Nat.{_*_, _+_, _/_, _<_, _≤_};
 ghost use lib.ListN.{length, drop};
 ghost use Rattle.savelog.specs.Log.{Three, Four, widthOf, endOf, logLimit, recordNumber, recordBytes, recordsBy, allSound};
 ghost use Rattle.savelog.specs.Convert.{bytesBy, lengthBy, room, converted, conversion};
-ghost use Rattle.savelog.specs.ConvertLaws.{OldCorner, SameRecords, ThereAndBack, BackExactly, LastDropped, PastStays, RecoversAsBefore};
+ghost use Rattle.savelog.specs.ConvertLaws.{OldCorner, SameRecords, ThereAndBack, BackExactly, LastDropped, InParts, PastStays, RecoversAsBefore};
 
 // The number, and how many bytes of the target are the new log.
 pub struct Converted {
@@ -106,5 +106,5 @@ pub fn to_old(new: &[u8], old: &mut [u8]) -> Converted
 
 // The laws of specs/ConvertLaws.antt, as a contract: its proof hands them over.
 pub fn converters_hold()
-    ensures { λ _. ⌜ OldCorner × SameRecords × ThereAndBack × BackExactly × LastDropped × PastStays × RecoversAsBefore ⌝ }
+    ensures { λ _. ⌜ OldCorner × SameRecords × ThereAndBack × BackExactly × LastDropped × InParts × PastStays × RecoversAsBefore ⌝ }
 {}

@@ -6,7 +6,7 @@ ghost use mathlib.Core.Path.{_≡_};
 ghost use Prim.Native.Nat.{_+_, _<_, _≤_};
 ghost use lib.ListN.{length, take, drop};
 ghost use Rattle.savelog.specs.Log.{Three, Four, width, addressEnd, widthOf, endOf, logLimit, bytesOf, numberFrom, recordNumber, fieldsOf, recordOf, recordsBy, records, soundRecord, allSound, applyAll, lengthsFit, outcome, recovery, appended, clearedUse, useInRange, full};
-ghost use Rattle.savelog.specs.Laws.{Corner, AppendLaw, PrefixLaw, CopiesLaw};
+ghost use Rattle.savelog.specs.Laws.{Corner, AppendLaw, PrefixLaw, LastIgnored, CopiesLaw};
 
 mod convert;
 
@@ -264,5 +264,5 @@ pub fn whole_records(log: &[u8]) -> usize
 
 // The laws of specs/Laws.antt, as a contract: its proof hands them over.
 pub fn laws_hold()
-    ensures { λ _. ⌜ Corner × AppendLaw × PrefixLaw × CopiesLaw ⌝ }
+    ensures { λ _. ⌜ Corner × AppendLaw × PrefixLaw × LastIgnored × CopiesLaw ⌝ }
 {}

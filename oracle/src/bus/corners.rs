@@ -1,7 +1,7 @@
 //! Corners on a whole bus, with the answers that we expect, by hand from
-//! document 01 ("Corners that decide" and the rules), for Mbc5 from document
-//! 02. If the Rust gives another, no list is printed. An N here leaves the sound
-//! window out.
+//! document 01 ("Corners that decide" and the rules), for Mbc5, RAM code 4 and the
+//! record from document 02. If the Rust gives another, no list is printed. An N here
+//! leaves the sound window out, and the log's length where it is the longest.
 //!
 //! Not here: corner 9 with RAM enabled (there the Rust is not to be followed).
 //! Corner 12 shows in the digest of the memories alone; `record_bytes` says it
@@ -12,9 +12,10 @@ use std::io::{self, Error};
 use super::list::List;
 use crate::hex;
 use crate::leaves;
+use crate::machine::Shape;
 
 /// One list each, lines parted by semicolons.
-const CORNERS: [&str; 51] = [
+const CORNERS: [&str; 55] = [
     // 1. Fresh: FF44 reads 90, FF00 reads C0.
     "N 00010000; R FF44 90; R FF00 C0; O FF00 CF; A - 01; E - 01",
     "N 00010001; R FF44 90; R FF00 C0; O FF00 CF; R FF04 44; R FF02 7C",
@@ -70,6 +71,18 @@ const CORNERS: [&str; 51] = [
     "N 03030300; R 4000 C7; W 200000 00; R 4000 00; W 2FFF07 00; R 4000 71; W 300001 00; R 4000 71; \
      W 6000FF 00; R 4000 71; W 200008 00; R 4000 00; R A000 FF; W 40000E 00; W 1FFF0A 00; R A000 27; \
      W A00055 00; R A000 55; W 400003 00; R A000 32; W 5FFF06 00; R A000 55",
+    // RAM code 4: sixteen RAM banks, and 6000 is no register.
+    "N 03010400; R A000 FF; W 00000A 00; R A000 11; W 40000F 00; R A000 B6; W A00055 00; R A000 55; \
+     W 400007 00; R A000 5E; W 600001 00; R A000 5E; W 40000B 00; R A000 8A; W 5FFF1F 00; R A000 55; \
+     V BFFF3412 00; R BFFF 12; R C000 34; W 400003 00; R BFFF 2D; W 400010 00; R A000 11",
+    // A log of 7 bytes: no word, one byte. Nothing of a refused word is stored.
+    "N 010102000007; W 00000A 00; V A0001234 02; R A000 11; W A00056 00; R A000 56; W A00178 02; R A001 16; \
+     V 9FFF1234 02; R 9FFF 00; V BFFF1234 02; R C000 00; k - 00; W A00178 00; R A001 78",
+    // Of 8 bytes: a word, or two bytes. What RAM that is off does not store takes no room, but must find it.
+    "N 010102000008; V A0001234 00; W 00000A 00; V A0001234 00; M A000 1234; W A00256 02; W 9FFF01 00; \
+     W 000000 00; W A00256 02; k - 00; W 00000A 00; W A00256 00; W A00356 00; W A00456 02",
+    // Of 3 bytes: nothing, even where there is no RAM.
+    "N 010100000003; W A00012 02; V BFFF1234 02; R C000 00; W C00034 00; R C000 34; W 00000A 00",
     // N 256, no RAM: nothing enables it.
     "N 03080000; W 2000FF 00; R 4000 39; W 00000A 00; R A000 FF; W A00012 00; R A000 FF; W 400003 00; \
      R BFFF FF",
@@ -147,7 +160,11 @@ fn list(corner: &str) -> io::Result<String> {
     let head = lines.next().and_then(|line| line.strip_prefix("N "));
     let mut list = match hex::bytes(head.expect("an N first"))[..] {
         [kind, log, code, colour] => List::new(kind, log, code, colour == 1),
-        _ => panic!("an N of four bytes"),
+        [kind, log, code, colour, high, low] => {
+            let room = u16::from_be_bytes([high, low]);
+            List::with_log(Shape { kind, log, code }, colour == 1, room)
+        }
+        _ => panic!("an N of four bytes, or of six"),
     };
     for line in lines {
         let letter = line.chars().next().expect("a letter");
@@ -163,11 +180,11 @@ fn list(corner: &str) -> io::Result<String> {
     Ok(list.finish())
 }
 
-/// Corner 12: address 1234, value 56 is the record 92 34 56.
+/// Corner 12: address 1234, value 56 is the record 84 8D 15 80.
 fn record_bytes() -> io::Result<()> {
     let mut list = List::new(1, 1, 2, false);
     list.write_all(&[(0x0000, 0x0A), (0xB234, 0x56)]);
-    if *list.host.log.borrow() == [0x92, 0x34, 0x56] {
+    if *list.host.log.borrow() == [0x84, 0x8D, 0x15, 0x80] {
         Ok(())
     } else {
         Err(Error::other("corner 12: another record"))

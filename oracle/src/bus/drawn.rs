@@ -2,7 +2,9 @@
 
 use super::edges::{ENDS, SEAMS, SHAPES};
 use super::list::List;
+use crate::machine::Shape;
 use crate::random::Random;
+use crate::record::LOG_LENGTH;
 
 /// Registers that do more than store.
 const REGISTERS: [u16; 44] = [
@@ -23,7 +25,13 @@ const SOURCES: [u8; 14] = [
 pub fn list(random: &mut Random) -> String {
     let (kind, log, code) = random.pick(&SHAPES);
     let colour = !random.once_in(3);
-    let mut list = List::new(kind, log, code, colour);
+    // A third of the logs are so short that they fill up.
+    let room = if random.once_in(3) {
+        random.below(48) as u16
+    } else {
+        LOG_LENGTH as u16
+    };
+    let mut list = List::with_log(Shape { kind, log, code }, colour, room);
     let calls = 60 + random.below(300) as usize;
     while list.calls < calls {
         step(&mut list, random);
@@ -145,6 +153,10 @@ fn cartridge(list: &mut List, random: &mut Random) {
 }
 
 fn save(list: &mut List, random: &mut Random) {
+    // Sixteen RAM banks are many: often another is selected first, and RAM is on.
+    if list.host.shape.code == 4 && random.once_in(2) {
+        list.write_all(&[(0x0000, 0x0A), (0x4000, random.any_byte())]);
+    }
     let length = random.pick(&[0x200, 0x2000]);
     let index = 0xA000 + offset(random, length);
     if random.once_in(3) {

@@ -1,8 +1,9 @@
-//! Lists at the ends of ranges: registers, regions, words, mappers, transfers,
-//! LCD, palettes, timer, buttons. Always the same.
+//! Lists at the ends of ranges: registers, regions, words, mappers, the log's room,
+//! transfers, LCD, palettes, timer, buttons. Always the same.
 
 use super::list::List;
-use crate::machine::MBC5;
+use crate::machine::{Shape, MBC5};
+use crate::record;
 
 /// The recorded sample takes fewer of what differs in a number only.
 #[derive(Clone, Copy, PartialEq)]
@@ -15,7 +16,7 @@ const KINDS: [bool; 2] = [false, true];
 
 /// Kind, log2 N, RAM code: all that these lists have. Our program's memory has room
 /// for 256 banks.
-pub const SHAPES: [(u8, u8, u8); 29] = [
+pub const SHAPES: [(u8, u8, u8); 33] = [
     (0, 1, 0),
     (0, 1, 2),
     (0, 1, 3),
@@ -37,14 +38,18 @@ pub const SHAPES: [(u8, u8, u8); 29] = [
     (3, 1, 0),
     (3, 1, 2),
     (3, 1, 3),
+    (3, 1, 4),
     (3, 2, 0),
     (3, 2, 2),
     (3, 2, 3),
+    (3, 2, 4),
     (3, 3, 0),
     (3, 3, 3),
+    (3, 3, 4),
     (3, 8, 0),
     (3, 8, 2),
     (3, 8, 3),
+    (3, 8, 4),
 ];
 
 /// The first and last byte of every region, and of parts that a rule names.
@@ -74,6 +79,8 @@ pub fn lists(size: Size) -> Vec<String> {
         lists.push(words((1, 2, 3), colour));
         if whole {
             lists.push(words((3, 8, 3), colour));
+            lists.push(words((3, 1, 4), colour));
+            lists.push(regions((3, 2, 4), colour));
         }
         for shape in [(0, 1, 2), (1, 2, 3), (2, 1, 0), (3, 2, 2)] {
             if whole || colour == (shape.0 == 1) {
@@ -99,6 +106,21 @@ pub fn lists(size: Size) -> Vec<String> {
             lists.push(mapper(shape, at % 2 == 1));
         }
     }
+    lists.push(ram_banks((3, 1, 4), true));
+    if whole {
+        lists.push(ram_banks((3, 8, 4), false));
+        lists.push(ram_banks((3, 2, 3), true));
+        for shape in FILLING_SHAPES {
+            for room in ROOMS {
+                lists.push(filling(shape, room));
+            }
+        }
+        lists.push(longest_log((3, 1, 4)));
+    } else {
+        for room in [3, 4, 7, 8] {
+            lists.push(filling((3, 1, 4), room));
+        }
+    }
     for shape in [(0, 1, 0), (1, 3, 2), (2, 3, 0), (3, 3, 3)] {
         lists.push(sprites(shape, shape.0 == 1));
     }
@@ -110,6 +132,8 @@ pub fn lists(size: Size) -> Vec<String> {
         lists.push(past_the_end((0, 1, 0)));
         lists.push(past_the_end((3, 2, 3)));
         lists.push(up_to_the_end((3, 2, 3)));
+        lists.push(past_the_end((3, 1, 4)));
+        lists.push(up_to_the_end((3, 1, 4)));
     }
     lists.push(up_to_the_end((0, 1, 2)));
     lists.push(up_to_the_end((1, 1, 3)));
@@ -271,11 +295,11 @@ fn mapper(shape: (u8, u8, u8), colour: bool) -> String {
     list.digest();
     for mode in [0, 1, 0xFE, 0xFF] {
         list.write(0x6000, mode);
-        for bank in [0, 1, 2, 3, 4, 0xFF] {
+        for bank in [0, 1, 2, 3, 4, 0x0C, 0xFF] {
             list.write(0x4000 + u16::from(bank & 1) * 0x1FFF, bank);
             list.read_all(&[0x4000, 0xA000]);
-            list.both(0xA001, 0x70 + (bank & 7));
-            list.both(0xBFFE, 0x60 + (bank & 7));
+            list.both(0xA001, 0x70 + (bank & 0x0F));
+            list.both(0xBFFE, 0x60 + (bank & 0x0F));
         }
         list.digest();
         list.write(0x2000, 0x00);
@@ -291,6 +315,88 @@ fn mapper(shape: (u8, u8, u8), colour: bool) -> String {
     list.digest();
     list.write_all(&[(0x7FFF, 0x00), (0x0000, 0x00), (0xA010, 0x11)]);
     list.read_all(&window);
+    list.finish()
+}
+
+/// Every RAM bank that four bits name: read, stored in, by a word too, and copied from.
+/// Then all are read once more.
+fn ram_banks(shape: (u8, u8, u8), colour: bool) -> String {
+    let mut list = new(shape, colour);
+    list.write(0x0000, 0x0A);
+    for bank in 0..16 {
+        list.write(0x4000 + u16::from(bank) * 0x111, bank);
+        list.read(0xA000);
+        list.both(0xA000, 0xB0 + bank);
+        list.write_word(0xBFFE, u16::from_be_bytes([0xC0 + bank, 0xD0 + bank]));
+        list.call('D', &[0xA0]);
+        list.read_all(&[0xFE00, 0xFE01]);
+    }
+    list.digest();
+    // RAM that is off keeps its bank.
+    list.write(0x0000, 0x00);
+    list.both(0xA000, 0x55);
+    list.write(0x0000, 0x0A);
+    list.read(0xA000);
+    // The upper half of the value does not count.
+    for bank in 0..16 {
+        list.write(0x5FFF, 0xF0 - 0x10 * bank + bank);
+        list.read_all(&[0xA000, 0xBFFE, 0xBFFF]);
+    }
+    list.finish()
+}
+
+/// What the shorter logs hold: so many bytes that 3 or 4, 7 or 8 are free at the start,
+/// and those lengths with a record or two behind it.
+const ROOMS: [u16; 9] = [0, 3, 4, 7, 8, 11, 12, 15, 16];
+
+/// Stores always, when enabled, half bytes, in sixteen banks, never.
+const FILLING_SHAPES: [(u8, u8, u8); 5] = [(0, 1, 2), (1, 2, 3), (2, 1, 0), (3, 1, 4), (3, 2, 0)];
+
+/// A log that fills up: with RAM off, where a write takes no room but must find it, then
+/// on, words first; cleared, bytes first.
+fn filling((kind, log, code): (u8, u8, u8), room: u16) -> String {
+    let shape = Shape { kind, log, code };
+    let mut list = List::with_log(shape, false, room);
+    list.write(0x4000, 0x0D);
+    for enable in [0x00, 0x0A] {
+        list.write(0x0000, enable);
+        for (at, index) in (1..).zip([0xA010, 0x9FFF, 0xBFFF]) {
+            list.write_word(index, 0x1357 * at);
+            list.read_word(index);
+        }
+        for (at, index) in (1..).zip([0xA000, 0xBFFF, 0x9FFF, 0xC000]) {
+            list.both(index, 0x13 * at);
+        }
+        list.digest();
+    }
+    list.call('k', &[]);
+    list.digest();
+    for at in 0..3 {
+        list.both(0xA020 + at, 0x21 + at as u8);
+        list.write_word(0xA030 + 2 * at, 0x4243 + at);
+        list.read_word(0xA030 + 2 * at);
+    }
+    list.finish()
+}
+
+/// The longest log, filled by words: 7 bytes are left, then 3.
+fn longest_log(shape: (u8, u8, u8)) -> String {
+    let mut list = new(shape, false);
+    list.write(0x0000, 0x0A);
+    let words = record::LOG_LENGTH / (2 * record::LENGTH);
+    for at in 0..words as u16 {
+        if at % 0x400 == 0 {
+            list.write(0x4000, 15 - (at / 0x400) as u8);
+        }
+        list.write_word(0xA000 + at * 2 % 0x2000, at ^ 0x5AA5);
+    }
+    for _ in 0..2 {
+        list.write_word(0xA000, 0x1234);
+        list.both(0xA000, 0x56);
+        list.digest();
+    }
+    list.call('k', &[]);
+    list.write_word(0xA000, 0x789A);
     list.finish()
 }
 

@@ -1,5 +1,5 @@
 //! A whole bus of the Rust's with what stands around it: timer, controller and
-//! a log of the save bytes that it tells of. Answers one call after the other.
+//! a log of the save bytes that it tells of, as long as the list says. Answers one call after the other.
 
 use std::cell::RefCell;
 use std::rc::Rc;
@@ -18,11 +18,12 @@ use crate::leaves::joypad::BUTTONS_IN_ORDER;
 use crate::leaves::timer::MOST_CYCLES;
 use crate::leaves::Bytes;
 use crate::machine::{save_byte, NoClock, Shape, MBC1, MBC2, MBC5, ROM_ONLY};
+use crate::record::record;
 use crate::unseen;
 
 /// Every letter and the number of its input's bytes.
 const LETTERS: [(char, usize); 33] = [
-    ('N', 52),
+    ('N', 54),
     ('R', 2),
     ('M', 2),
     ('W', 3),
@@ -57,42 +58,40 @@ const LETTERS: [(char, usize); 33] = [
     ('Z', 0),
 ];
 
+/// The number of a write that finds no room in the log.
+pub const NO_ROOM: u8 = 2;
+
 /// What FF10..FF3F read.
 pub const SOUND: std::ops::RangeInclusive<u16> = 0xFF10..=0xFF3F;
-
-/// The most that a log holds.
-const LOG_LENGTH: usize = 65_535;
-
-/// What one stored byte takes of it.
-const RECORD_LENGTH: usize = 3;
 
 pub struct Host {
     pub bus: Memory,
     pub controller: Controller,
     pub shape: Shape,
     pub log: Rc<RefCell<Bytes>>,
+    /// The log's length.
+    pub room: u16,
     timer: Timer,
 }
 
 impl Host {
     /// A fresh bus over the contents of machine.rs; the save is as long as
     /// documents 01 and 02 say, so that the Rust can reach no byte beyond.
-    pub fn new(shape: Shape, colour: bool) -> Host {
+    pub fn new(shape: Shape, colour: bool, room: u16) -> Host {
         let mut bus = Memory::from_cartridge(shape.cartridge(), Box::new(NoClock), colour);
         let save = (0..save_length(shape)).map(save_byte).collect();
         bus.get_cartridge_mut().set_ram(save);
         let log = Rc::new(RefCell::new(Vec::new()));
         let told = Rc::clone(&log);
         bus.set_ram_change_callback(Box::new(move |address, value| {
-            let [.., high, low] = address.to_be_bytes();
-            let record: [u8; RECORD_LENGTH] = [0x80 | high, low, value];
-            told.borrow_mut().extend(record);
+            told.borrow_mut().extend(record(address, value));
         }));
         Host {
             bus,
             controller: Controller::new(),
             shape,
             log,
+            room,
             timer: Timer::new(),
         }
     }
@@ -114,6 +113,9 @@ impl Host {
     /// The answer to any letter but N: the Rust's, and where it is excepted, the
     /// Rust's with what is due instead.
     pub fn answer(&mut self, letter: char, input: &[u8]) -> Bytes {
+        if excepted::no_room(letter, input, self.free()) {
+            return vec![NO_ROOM];
+        }
         match (letter, excepted::page(letter, input)) {
             ('D' | 'W' | 'V', Some(page)) => {
                 excepted::copy(&mut self.bus, page, |bus| written(bus, letter, input))
@@ -183,13 +185,13 @@ impl Host {
     }
 
     /// Does a write at A000 store?
-    fn stores(&self) -> bool {
+    pub fn stores(&self) -> bool {
         self.banks().enabled || (self.shape.kind == ROM_ONLY && self.shape.code > 0)
     }
 
-    /// Has the log room for any call?
-    pub fn has_room(&self) -> bool {
-        self.log.borrow().len() + 2 * RECORD_LENGTH <= LOG_LENGTH
+    /// How many bytes of the log are free.
+    pub fn free(&self) -> usize {
+        usize::from(self.room) - self.log.borrow().len()
     }
 
     /// May a list hold this call? Within the ranges of documents 01 and 02, and off document 01's one
@@ -201,7 +203,7 @@ impl Host {
         }
         match letter {
             'N' => false,
-            'W' | 'V' => self.has_room() && self.blocks_past(letter, input) == 0,
+            'W' | 'V' => self.blocks_past(letter, input) == 0,
             'T' => number(input) as u32 <= MOST_CYCLES,
             'P' | 'L' => input[0] < 8,
             'Q' | 'X' => input[0] < 5,
@@ -234,13 +236,14 @@ fn written(bus: &mut Memory, letter: char, input: &[u8]) -> Bytes {
     vec![owed.into()]
 }
 
-/// 0, 8,192 or 32,768 by the code; Mbc2 has 512.
+/// 0, 8,192 or 32,768 by the code, with Mbc5 131,072 too; Mbc2 has 512.
 fn save_length(shape: Shape) -> usize {
     match (shape.kind, shape.code) {
         (MBC2, 0) => 0x200,
         (ROM_ONLY | MBC1 | MBC5, 0) => 0,
         (ROM_ONLY | MBC1 | MBC5, 2) => 0x2000,
         (ROM_ONLY | MBC1 | MBC5, 3) => 0x8000,
+        (MBC5, 4) => 0x20000,
         _ => panic!("no such cartridge"),
     }
 }

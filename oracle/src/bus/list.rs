@@ -5,6 +5,7 @@ use super::host::{Host, SOUND};
 use crate::hex;
 use crate::leaves::Bytes;
 use crate::machine::Shape;
+use crate::record::LOG_LENGTH;
 
 /// A digest follows at the latest after so many calls.
 const DIGEST_AFTER: usize = 20;
@@ -18,10 +19,16 @@ pub struct List {
 }
 
 impl List {
-    /// Starts with a fresh bus.
+    /// Starts with a fresh bus and the longest log, which no such list fills.
     pub fn new(kind: u8, log: u8, code: u8, colour: bool) -> List {
-        let host = Host::new(Shape { kind, log, code }, colour);
-        let mut input = vec![kind, log, code, colour.into()];
+        List::with_log(Shape { kind, log, code }, colour, LOG_LENGTH as u16)
+    }
+
+    /// The same with a log of so many bytes.
+    pub fn with_log(shape: Shape, colour: bool, room: u16) -> List {
+        let host = Host::new(shape, colour, room);
+        let mut input = vec![shape.kind, shape.log, shape.code, colour.into()];
+        input.extend(room.to_be_bytes());
         input.extend(host.sound());
         let mut list = List {
             host,
@@ -49,9 +56,6 @@ impl List {
             0 => (),
             past if letter == 'V' && input[1] == 0x54 => input[2] -= past,
             past => *input.last_mut().unwrap() -= past,
-        }
-        if !self.host.has_room() {
-            self.plain('k', &[]);
         }
         let answer = self.plain(letter, &input);
         self.calls += 1;

@@ -12,6 +12,7 @@ pub const BIT: Letter = Letter {
     },
     random: |random| vec![random.any_byte(), random.below(8) as u8],
     answer: |_, input| answer(input[0], input[1]),
+    always: Vec::new,
     recorded: (224, 64),
 };
 

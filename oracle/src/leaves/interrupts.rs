@@ -23,6 +23,7 @@ pub const INTERRUPTS: Letter = Letter {
     edges,
     random: |random| vec![random.byte(), random.byte(), random.below(5) as u8],
     answer,
+    always: Vec::new,
     recorded: (256, 64),
 };
 

@@ -29,6 +29,7 @@ pub const PRESS: Letter = Letter {
     edges: every_press,
     random: any_press,
     answer: |machine, input| button_answer(machine, input, Controller::press),
+    always: Vec::new,
     recorded: (224, 64),
 };
 
@@ -37,6 +38,7 @@ pub const RELEASE: Letter = Letter {
     edges: every_press,
     random: any_press,
     answer: |machine, input| button_answer(machine, input, Controller::release),
+    always: Vec::new,
     recorded: (192, 64),
 };
 
@@ -45,6 +47,7 @@ pub const UPDATE: Letter = Letter {
     edges: update_edges,
     random: any_update,
     answer: update_answer,
+    always: Vec::new,
     recorded: (256, 128),
 };
 
@@ -56,6 +59,7 @@ pub const READ: Letter = Letter {
     },
     random: |random| vec![random.byte(), random.byte()],
     answer: read_answer,
+    always: Vec::new,
     recorded: (256, 64),
 };
 

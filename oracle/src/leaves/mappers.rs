@@ -1,6 +1,6 @@
 //! W: kind, log2 N, RAM code, ROM bank (2 bytes), RAM bank, mode, enabled, high
 //! bits, index (2), value. Gives the five in the middle after the write, whether
-//! a save byte was stored, its address (2) and value (0 and 0 if none was).
+//! a save byte was stored, its address (3) and value (0 and 0 if none was).
 //! R: the same without the value. Gives the byte read, over the contents of
 //! machine.rs.
 //!
@@ -23,7 +23,15 @@ pub const WRITE: Letter = Letter {
         state.write(index, random_value(random))
     },
     answer: write_answer,
-    recorded: (520, 460),
+    always: || {
+        let mut list = Vec::new();
+        for state in sixteen_banks() {
+            list.push(state.write(0x4000, 0xF0 - 0x10 * state.ram + 15 - state.ram));
+            list.push(state.write(0xA000 + 0x222 * u16::from(state.ram), 0x5A));
+        }
+        list
+    },
+    recorded: (500, 440),
 };
 
 pub const READ: Letter = Letter {
@@ -34,7 +42,11 @@ pub const READ: Letter = Letter {
         state.read(random_index(random))
     },
     answer: read_answer,
-    recorded: (420, 180),
+    always: || {
+        let read = |state: State| state.read(0xBFFF - 0x222 * u16::from(state.ram));
+        sixteen_banks().map(read).collect()
+    },
+    recorded: (420, 170),
 };
 
 /// The ends of every window, and of the pages that Mbc2 tells apart.
@@ -100,10 +112,11 @@ fn write(held: &mut Held, input: &[u8]) -> Bytes {
     ]);
     let stored = held.stored.take();
     match stored[..] {
-        [] => output.extend([0; 4]),
+        [] => output.extend([0; 5]),
         [(address, value)] => {
-            let [.., high, low] = address.to_be_bytes();
-            output.extend([1, high, low, value]);
+            let [top @ .., high, middle, low] = address.to_be_bytes();
+            assert_eq!(top, [0; 5], "an address of three bytes");
+            output.extend([1, high, middle, low, value]);
             // The byte must be in the save; then the contents are put back.
             let byte = &mut held.mapper.ram_mut()[address];
             assert_eq!(*byte, value, "told of another byte than was stored");
@@ -166,6 +179,7 @@ impl State {
         }
         let code = match kind {
             MBC2 => 0,
+            MBC5 => random.pick(&[0, 2, 3, 3, 4, 4, 4]),
             _ => random.pick(&[0, 2, 3, 3, 3]),
         };
         let mut state = State::start(kind, log, code);
@@ -179,9 +193,9 @@ impl State {
         if kind == MBC1 {
             state.high = random.below(4) as u8;
         }
-        if code == 3 {
+        if code >= 3 {
             state.mode = if kind == MBC1 { random.flag() } else { 0 };
-            state.ram = random.below(4) as u8;
+            state.ram = random.below(ram_banks(code).into()) as u8;
         }
         state
     }
@@ -190,6 +204,20 @@ impl State {
 /// N at most: 2, 128, 16, 512.
 fn most_log(kind: u8) -> u8 {
     [1, 7, 4, 9][usize::from(kind)]
+}
+
+/// Mbc5 with RAM code 4, each bank selected and enabled.
+fn sixteen_banks() -> impl Iterator<Item = State> {
+    (0..ram_banks(4)).map(|ram| State {
+        ram,
+        enabled: 1,
+        ..State::start(MBC5, 1, 4)
+    })
+}
+
+/// By the RAM code.
+fn ram_banks(code: u8) -> u8 {
+    [0, 0, 1, 4, 16][usize::from(code)]
 }
 
 /// All states, but of the ROM banks only first, second, middle and last.
@@ -229,16 +257,14 @@ fn states() -> Vec<State> {
     }
     for log in 1..=most_log(MBC5) {
         for rom in bank_edges(log) {
-            for (code, ram, mode, enabled) in rams() {
+            for (code, ram, enabled) in rams5() {
                 let start = State::start(MBC5, log, code);
-                if mode == 0 {
-                    list.push(State {
-                        rom,
-                        ram,
-                        enabled,
-                        ..start
-                    });
-                }
+                list.push(State {
+                    rom,
+                    ram,
+                    enabled,
+                    ..start
+                });
             }
         }
     }
@@ -252,12 +278,23 @@ fn bank_edges(log: u8) -> Vec<u16> {
     list
 }
 
-/// RAM code, RAM bank, mode, enabled.
+/// Mbc1's RAM code, RAM bank, mode, enabled.
 fn rams() -> Vec<(u8, u8, u8, u8)> {
     let mut list = vec![(0, 0, 0, 0), (2, 0, 0, 0), (2, 0, 0, 1)];
-    for ram in 0..4 {
+    for ram in 0..ram_banks(3) {
         for flags in 0..4 {
             list.push((3, ram, flags / 2, flags % 2));
+        }
+    }
+    list
+}
+
+/// Mbc5's RAM code, RAM bank, enabled.
+fn rams5() -> Vec<(u8, u8, u8)> {
+    let mut list = vec![(0, 0, 0)];
+    for code in [2, 3, 4] {
+        for ram in 0..ram_banks(code) {
+            list.extend([(code, ram, 0), (code, ram, 1)]);
         }
     }
     list
@@ -319,7 +356,7 @@ fn write_edges() -> Vec<Bytes> {
         // Some of the low eight bits count, all of them, and the ninth.
         for log in [1, 3, 8, 9] {
             for rom in bank_edges(log) {
-                for (code, enabled) in [(0, 0), (2, 1), (3, 1)] {
+                for (code, enabled) in [(0, 0), (2, 1), (3, 1), (4, 1)] {
                     let start = State::start(MBC5, log, code);
                     let state = State {
                         rom,

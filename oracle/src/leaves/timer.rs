@@ -16,6 +16,7 @@ pub const UPDATE: Letter = Letter {
     edges,
     random,
     answer,
+    always: Vec::new,
     recorded: (480, 320),
 };
 

@@ -22,7 +22,7 @@ pub enum MbcType {
     Mbc1 = 1,
     /// The second: up to 16 ROM banks, and 512 half bytes of RAM within the mapper.
     Mbc2 = 2,
-    /// The fifth: up to 512 ROM banks, of which the first too can stand at 4000, and up to 4 banks of RAM.
+    /// The fifth: up to 512 ROM banks, of which the first too can stand at 4000, and up to 16 banks of RAM.
     Mbc5 = 3,
 }
 
@@ -34,7 +34,7 @@ pub struct Cartridge {
     pub rom: Vec<u8>,
     /// The mapper.
     pub mbc_type: MbcType,
-    /// The header's RAM code: 0, 2 or 3; 0 with Mbc2.
+    /// The header's RAM code: 0, 2 or 3, with Mbc5 4 too; 0 with Mbc2.
     pub ram_size: u8,
 }
 
@@ -45,13 +45,14 @@ impl Cartridge {
             (MbcType::Mbc2, _) => 512,
             (_, 2) => 8192,
             (_, 3) => 32768,
+            (MbcType::Mbc5, 4) => 131_072,
             _ => 0,
         }
     }
 
     /// The save within what gameboy_core keeps for this cartridge, for `Memory::new`. That crate keeps 32,768 bytes for every RomOnly and
     /// Mbc1 cartridge, 131,072 for every Mbc5 one, and makes them FF; with RAM code 2 a game reaches the first 8,192, with code 3 the first
-    /// 32,768, with code 0 none. What is behind them is cut. A save that has the cartridge's own length is given as it is.
+    /// 32,768, with code 4 of Mbc5 all, with code 0 none. What is behind them is cut. A save that has the cartridge's own length is given as it is.
     ///
     /// Refused, and nothing cut, by `NotCut::WrongLength` for any other length; and by `NotCut::Used` where a byte behind them is not as it was
     /// made: that is no save of this cartridge, and cutting it would lose a player's bytes. Hosts make them FF as gameboy_core does, or 00.

@@ -3,7 +3,8 @@
 /// The bytes of an image: POUCH_IMAGE_LEN.
 pub const IMAGE_LEN: usize = 666;
 
-/// A state of the bus, as documents 01 and 02 lay it out. Plain data: a host may store it and put it back by `Memory::set_image`, which checks it.
+/// A state of the bus, as documents 01 and 02 lay it out. Plain data: a host may store it, with the `version` beside it, and put it back by
+/// `Memory::set_image`, which checks it. Images of version 2.0 have this length too, and another layout: only the version tells.
 pub type Image = [u8; IMAGE_LEN];
 
 /// The numbers of the screen that the bus and the host's drawing part share. The first four are fields of the Rust's `Memory`, the others

@@ -5,18 +5,21 @@ use crate::refusal::{done, never, Expected, OutOfRange, Refusal, Which, WrongLen
 use crate::version::version;
 use std::fmt;
 
-/// The longest log, in bytes: room for 21,845 records.
+/// The longest log, in bytes: room for 16,383 records.
 pub const LONGEST_LOG: usize = 65535;
 
 /// The longest block of bytes that is read at once: all there is to read.
 pub const LONGEST_BLOCK: usize = 65536;
 
-/// The bytes of one record in the log.
-pub const RECORD_LEN: usize = 3;
+/// The bytes of one record in the log: bit 1, address 17 bits, value 8 bits, six 0 bits.
+pub const RECORD_LEN: usize = 4;
 
 /// The lengths of video and work memory.
 const MONOCHROME: (usize, usize) = (8192, 8192);
 const COLOUR: (usize, usize) = (16384, 32768);
+
+/// The lengths that a save can have.
+const SAVE_LENS: [usize; 5] = [0, 512, 8192, 32768, 131_072];
 
 /// The bus with all that it stands on: its state as an image, and the memories that the library is lent for each call. Each has the length
 /// that the cartridge's description asks for, from `new` on, so that no call is refused by its lengths or its state.
@@ -194,7 +197,12 @@ impl Memory {
 
     /// A journal has so many more bytes, of those that it was given.
     pub(crate) fn has_kept(&mut self, bytes: usize) {
-        self.kept += bytes.min(self.unkept().len());
+        self.kept += bytes;
+    }
+
+    /// A journal begins: of the record that another has in part, it gets all.
+    pub(crate) fn unkeep_part(&mut self) {
+        self.kept -= self.kept % RECORD_LEN;
     }
 
     pub(crate) fn clear_log(&mut self) {
@@ -232,13 +240,16 @@ impl Memory {
         &mut self.wram
     }
 
-    /// The state. With it, video and work memory and the save, a session is whole.
+    /// The state. With it, video and work memory and the save, a session is whole. Who stores it stores the `version` beside it.
     pub fn image(&self) -> &Image {
         &self.image
     }
 
     /// Goes on from a state. Refused by `OutOfRange`, or by `WrongLength` if it is of a cartridge with other lengths, which says what the image
     /// expects of this bus. The log's use stays as it is now: it belongs to the log's bytes, which no image holds.
+    ///
+    /// An image of version 2.0 has as many bytes and another layout, and nothing in it tells: it may be taken for a state that it is not. A host compares the
+    /// `version` that it stored beside it.
     pub fn set_image(&mut self, image: &Image) -> Result<(), Refusal> {
         match pouch_read_byte(image, &self.rom, &self.vram, &self.wram, &self.save, &self.sound, 0, &mut 0) {
             0 => {}
@@ -257,7 +268,7 @@ impl Memory {
     fn of_other_lengths(&self, image: &Image) -> Refusal {
         let zeros = vec![0; 512 * BANK_LEN];
         for banks in [2, 4, 8, 16, 32, 64, 128, 256, 512] {
-            for save in [0, 512, 8192, 32768] {
+            for save in SAVE_LENS {
                 for (vram, wram) in [MONOCHROME, COLOUR] {
                     let rom = banks * BANK_LEN;
                     if pouch_read_byte(image, &zeros[..rom], &zeros[..vram], &zeros[..wram], &zeros[..save], &self.sound, 0, &mut 0) == 0 {
@@ -300,7 +311,7 @@ pub(crate) fn first_wrong(lengths: &[(Which, usize, Expected)]) -> Refusal {
     let wrong = lengths.iter().find(|(_, found, expected)| match *expected {
         Expected::Exactly(bytes) => *found != bytes,
         Expected::AtMost(bytes) => *found > bytes,
-        Expected::AnySave => ![0, 512, 8192, 32768].contains(found),
+        Expected::AnySave => !SAVE_LENS.contains(found),
     });
     match wrong {
         Some(&(memory, found, expected)) => Refusal::WrongLength(WrongLength { memory, found, expected }),

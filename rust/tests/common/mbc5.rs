@@ -3,14 +3,16 @@
 // Each test takes its part.
 #![allow(dead_code)]
 
-use crate::common::cartridge;
+use crate::common::{cartridge, record};
 use pouchrattle::{MbcType, Memory, Refusal, Written, RECORD_LEN};
+
+pub use crate::common::Random;
 
 /// ROM banks.
 pub const ROM_BANKS: [usize; 4] = [2, 8, 256, 512];
 
 /// RAM codes, and the RAM banks of each.
-pub const CODES: [(u8, usize); 3] = [(0, 0), (2, 1), (3, 4)];
+pub const CODES: [(u8, usize); 4] = [(0, 0), (2, 1), (3, 4), (4, 16)];
 
 /// Every cartridge of the two.
 pub fn cartridges() -> impl Iterator<Item = (usize, u8)> {
@@ -33,8 +35,8 @@ pub struct Model {
 impl Model {
     pub fn new(rom_banks: usize, code: u8) -> Model {
         let (_, ram_banks) = CODES.into_iter().find(|known| known.0 == code).unwrap();
-        // No byte is FF, which RAM that is off reads.
-        let save = (0..ram_banks * 8192).map(|at| (at / 8192 * 0x40 + at % 61) as u8).collect();
+        // No byte is FF, which RAM that is off reads; no two banks have the same at one place.
+        let save = (0..ram_banks * 8192).map(|at| (at / 8192 * 12 + at % 8192 % 61) as u8).collect();
         Model { rom_banks, ram_banks, enable: 0, low: 1, ninth: 0, ram: 0, save, stored: Vec::new() }
     }
 
@@ -75,7 +77,7 @@ impl Model {
 
     /// The log's bytes after all that is stored.
     pub fn log(&self) -> Vec<u8> {
-        self.stored.iter().flat_map(|&(at, value)| [0x80 | (at >> 8) as u8, at as u8, value]).collect()
+        self.stored.iter().flat_map(|&(at, value)| record(at, value)).collect()
     }
 }
 
@@ -137,33 +139,5 @@ impl Both {
             let expected = self.model.place(index).map_or(0xFF, |at| self.model.save[at]);
             assert_eq!(self.memory.read_byte(index), expected, "{index:04X} with {} RAM banks", self.model.ram_banks);
         }
-    }
-}
-
-/// Numbers that come the same each time.
-pub struct Random(pub u64);
-
-impl Random {
-    pub fn below(&mut self, limit: u16) -> u16 {
-        self.0 = self.0.wrapping_mul(6_364_136_223_846_793_005).wrapping_add(1_442_695_040_888_963_407);
-        ((self.0 >> 40) % u64::from(limit)) as u16
-    }
-
-    pub fn pick<T: Copy>(&mut self, of: &[T]) -> T {
-        of[usize::from(self.below(of.len() as u16))]
-    }
-
-    /// A write that the mapper answers for, often at the end of a register's window; mostly it leaves RAM on.
-    pub fn write(&mut self) -> (u16, u8) {
-        let windows = [(0x0000, 0x2000), (0x2000, 0x1000), (0x3000, 0x1000), (0x4000, 0x2000), (0x6000, 0x2000), (0xA000, 0x2000), (0xA000, 0x2000)];
-        let (start, len) = self.pick(&windows);
-        let offset = match self.below(4) {
-            0 => 0,
-            1 => len - 1,
-            _ => self.below(len),
-        };
-        let any = self.below(256) as u8;
-        let value = if start == 0 { self.pick(&[0x0A, 0x5A, 0xFA, any]) } else { any };
-        (start + offset, value)
     }
 }

@@ -52,10 +52,47 @@ pub fn with_saves(is_cgb: bool) -> impl Iterator<Item = Memory> {
     cartridges.into_iter().map(move |(mbc_type, banks)| enabled(mbc_type, banks, is_cgb))
 }
 
+/// A record as document 02 has it: bit 1, address 17 bits, value 8 bits, six 0 bits.
+#[allow(dead_code)]
+pub fn record(at: usize, value: u8) -> [u8; 4] {
+    let bits = format!("1{at:017b}{value:08b}000000");
+    u32::from_str_radix(&bits, 2).unwrap().to_be_bytes()
+}
+
 /// Writes that are done, and owe no sound.
 #[allow(dead_code)]
 pub fn write(memory: &mut Memory, writes: &[(u16, u8)]) {
     for &(index, value) in writes {
         assert_eq!(memory.write_byte(index, value), Ok(Written { owes_sound: false }), "{index:04X}");
+    }
+}
+
+/// Numbers that come the same each time.
+#[allow(dead_code)]
+pub struct Random(pub u64);
+
+#[allow(dead_code)]
+impl Random {
+    pub fn below(&mut self, limit: u16) -> u16 {
+        self.0 = self.0.wrapping_mul(6_364_136_223_846_793_005).wrapping_add(1_442_695_040_888_963_407);
+        ((self.0 >> 40) % u64::from(limit)) as u16
+    }
+
+    pub fn pick<T: Copy>(&mut self, of: &[T]) -> T {
+        of[usize::from(self.below(of.len() as u16))]
+    }
+
+    /// A write that Mbc5 answers for, often at the end of a register's window; mostly it leaves RAM on.
+    pub fn write(&mut self) -> (u16, u8) {
+        let windows = [(0x0000, 0x2000), (0x2000, 0x1000), (0x3000, 0x1000), (0x4000, 0x2000), (0x6000, 0x2000), (0xA000, 0x2000), (0xA000, 0x2000)];
+        let (start, len) = self.pick(&windows);
+        let offset = match self.below(4) {
+            0 => 0,
+            1 => len - 1,
+            _ => self.below(len),
+        };
+        let any = self.below(256) as u8;
+        let value = if start == 0 { self.pick(&[0x0A, 0x5A, 0xFA, any]) } else { any };
+        (start + offset, value)
     }
 }

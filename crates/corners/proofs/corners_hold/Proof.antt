@@ -4,7 +4,7 @@ use Rattle.mbc.proofs.Cases.Mbc5Exact.{one-field}
 use Rattle.memory.proofs.Laws.{fresh-in-range}
 use Rattle.corners.proofs.Rows.{corners}
 use Rattle.corners.proofs.Sprites.{sprites}
-use Rattle.corners.proofs.Zero.{zero-closed}
+use Rattle.corners.proofs.Zero.{zero-closed, code-four}
 use Rattle.corners.proofs.corners_hold.Statement.{statement}
 use Rattle.corners.proofs.corners_hold.Tie as tie
 
@@ -13,6 +13,7 @@ returns c = (
   corners,
   zero-closed,
   fresh-in-range,
+  code-four,
   record {
     second-press = second-press;
     directions = directions-selected;

@@ -20,7 +20,7 @@ kindMbc1 = 1
 unfoldable pub suits : Registers1 → ℕ → Bool
 suits m code = implies (m .mode || ltb 0 (m .ram)) (eqb code 3) && implies (m .enabled) (oneOf (2 ∷ 3 ∷ []) code)
 
--- the selected ROM bank is below N. The RAM bank and the high bits are two bits wide ("State image")
+-- the selected ROM bank is below N, the RAM bank one of code 3's four; the high bits are two bits wide ("State image")
 abbrev pub held1 : Cartridge → Registers1 → Bool
 held1 c m = ltb (m .rom) (c .banks) && (leb (m .ram) 3 && (leb (m .high) 3 && suits m (c .code)))
 

@@ -1,10 +1,11 @@
 -- The laws are those of proofs/Prefix.antt.
 use Rattle.savelog.proofs.Prefix.{corner, append-adds, prefix, copies}
+use Rattle.savelog.proofs.ConvertLaws.{last-ignored}
 use Rattle.savelog.proofs.laws_hold.Statement.{statement}
 use Rattle.savelog.proofs.laws_hold.Tie as tie
 
 returns : tie.Need-returns
-returns c = (corner, append-adds, prefix, copies)
+returns c = (corner, append-adds, prefix, last-ignored, copies)
 
 pub laws-hold-spec : {M : Type 1} → statement M
 laws-hold-spec = tie.close (tie.spec returns)

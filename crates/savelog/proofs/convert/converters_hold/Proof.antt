@@ -1,10 +1,10 @@
 -- The laws are those of proofs/ConvertLaws.antt.
-use Rattle.savelog.proofs.ConvertLaws.{old-corner, same-records, there-and-back, back-exactly, last-dropped, past-stays, recovers-as-before}
+use Rattle.savelog.proofs.ConvertLaws.{old-corner, same-records, there-and-back, back-exactly, last-dropped, in-parts, past-stays, recovers-as-before}
 use Rattle.savelog.proofs.convert.converters_hold.Statement.{statement}
 use Rattle.savelog.proofs.convert.converters_hold.Tie as tie
 
 returns : tie.Need-returns
-returns c = (old-corner, same-records, there-and-back, back-exactly, last-dropped, past-stays, recovers-as-before)
+returns c = (old-corner, same-records, there-and-back, back-exactly, last-dropped, in-parts, past-stays, recovers-as-before)
 
 pub converters-hold-spec : {M : Type 1} → statement M
 converters-hold-spec = tie.close (tie.spec returns)
