@@ -137,12 +137,14 @@ fn finish(
     settle(asked, sources, old, &name[..n], path, place, log, scan);
 }
 
-// What is left out at the end of the log, or of all of it.
+// What is left out at the end of the log; all of it, where its mark is torn and nothing but zeros is behind.
 fn say_end(log: Log, scan: Scan) -> bool
     requires { ⌜ Bounded scan × (scan .len ≤ journalLimit) ⌝ }
 {
     if log.torn {
-        return say::torn_mark(log.name, log.len);
+        if scan.end == 0 {
+            return say::torn_mark(log.name, log.len);
+        }
     }
     let form = log.form;
     say::end(log.name, form, log.before as usize, scan)
@@ -175,7 +177,7 @@ fn recover(
     finish(asked, sources, &old[..n], path, place, save, log, scan);
 }
 
-// Whether the scan is of all the log's records, of which there are `len` bytes, and what the mark promises. If not, it is told.
+// Whether the scan is of all the log's records, of which there are `len` bytes. If not, it is told.
 fn scan_holds(log: Log, scan: Scan, len: usize) -> bool
     ensures { λ r. ⌜ (r ≡ true → scan .len ≤ journalLimit) ⌝ }
 {
@@ -187,11 +189,6 @@ fn scan_holds(log: Log, scan: Scan, len: usize) -> bool
     }
     if scan.len > LIMIT {
         return say::failed_so(Why::Unread, log.name, log.len);
-    }
-    if log.torn {
-        if scan.end > 0 {
-            return say::failed_so(Why::Unmarked, log.name, log.len);
-        }
     }
     say::ends(log.fd, log.name, log.len)
 }

@@ -20,28 +20,12 @@ failed-so-requires-2 c κs = search needs
 returns-3 : tie.Need-returns-3
 returns-3 c = λ h. untrue (sym (c .failed-so2 .ensures) ∙ h)
 
-failed-so-requires-3 : tie.Need-failed-so-requires-3
-failed-so-requires-3 c κs = search needs
+ends-requires : tie.Need-ends-requires
+ends-requires c κs = search needs
 
 returns-4 : tie.Need-returns-4
 returns-4 c = search needs
 
-ends-requires : tie.Need-ends-requires
-ends-requires c κs = search needs
-
-returns-5 : tie.Need-returns-5
-returns-5 c = search needs
-
 pub scan-holds-spec : {M : Type 1} → statement M
 scan-holds-spec =
-    tie.close
-    (tie.spec
-    returns
-    failed-so-requires
-    returns-2
-    failed-so-requires-2
-    returns-3
-    failed-so-requires-3
-    returns-4
-    ends-requires
-    returns-5)
+    tie.close (tie.spec returns failed-so-requires returns-2 failed-so-requires-2 returns-3 ends-requires returns-4)
