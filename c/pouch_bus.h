@@ -138,8 +138,8 @@ static inline uint16_t pouch_bus_do_hdma(struct pouch_bus *bus)
 #define POUCH_JOURNAL_MARK "PL4\n"
 #define POUCH_JOURNAL_MARK_LEN 4
 
-/* Whether the file begins with the mark, by its first bytes: an empty one gets it, and one that ends within it, as a host killed there leaves it, the rest. The
- * file's end is then where it is written. */
+/* Sees that the file begins with the mark: an empty file gets it, one that ends within it, as a host killed there leaves it, gets the rest. Afterwards the
+ * file's offset is at its end. */
 static inline bool pouch_bus_begin(struct pouch_bus *bus, int journal)
 {
     uint8_t there[POUCH_JOURNAL_MARK_LEN];
@@ -249,7 +249,8 @@ static inline uint8_t pouch_bus_recover(uint8_t *save, size_t save_len, const ui
 }
 
 /* The same from a journal that a version before 3.0 wrote: no mark, and records of three bytes. Its parts are converted on the way, and each is short, as it
- * stands on the stack. A journal of this version is refused by 6, as the mark is no record. */
+ * stands on the stack. A journal of this version is refused by 6, as the mark is no record. After 6 the save holds the parts before, of 1,024 records each:
+ * recover on a copy. */
 static inline uint8_t pouch_bus_recover_old(uint8_t *save, size_t save_len, const uint8_t *journal, size_t journal_len)
 {
     uint8_t log[1024 * POUCH_RECORD_LEN];

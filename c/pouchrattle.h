@@ -33,7 +33,7 @@
  *   4  another lent length is not what it must be
  *   5  too many cycles
  *   7  a button, an interrupt, an index or a bank outside
- *   6  a damaged record
+ *   6  a damaged record; from pouch_log_to_old also an address that does not fit
  *   2  no room in the log
  *
  * An image that pouch_fresh made and these calls changed is always in range. An image of zero bytes is not: it is refused by 3.
@@ -178,7 +178,8 @@ uint8_t pouch_recover(uint8_t *save, size_t save_len, const uint8_t *log, size_t
  *
  * An undamaged old log of at most 16,383 records goes to the new form and back unchanged. A longer one is converted in parts of whole records, as each part is
  * a log: 49,149 old bytes make 65,532 new ones. An undamaged new log goes back where every address is below 32,768.
- * 0; 4 the source is over POUCH_LOG_LEN_MAX, its records would be in the target's form, or the target is too short for them (it may be longer than any log);
+ * 0; 4 the source is over POUCH_LOG_LEN_MAX bytes, or its records would be in the target's form, or the target is too short for them (it may be longer than any
+ * log);
  * 6 a whole record begins with a 0 bit, a new one does not end in six 0 bits, or, to the old form, has an address of 32,768 or more. */
 uint8_t pouch_log_to_new(const uint8_t *old, size_t old_len, uint8_t *log, size_t log_len, uint16_t *value);
 uint8_t pouch_log_to_old(const uint8_t *log, size_t log_len, uint8_t *old, size_t old_len, uint16_t *value);

@@ -5,8 +5,8 @@ use std::fs::{File, OpenOptions};
 use std::io::{Error, ErrorKind, Result as IoResult, Write};
 use std::path::Path;
 
-/// With what a journal begins: "PL4" and a line feed. Journals of versions before 3.0 have no mark, and records of three bytes: they begin with a byte of 80
-/// or more. So neither is taken for the other, here or by an older version, for which the mark is a damaged record.
+/// With what a journal begins: "PL4" and a line feed. Journals of versions before 3.0 have no mark, and records of three bytes: they begin with a byte of
+/// 0x80 or more. So neither is taken for the other, here or by an older version, for which the mark is a damaged record.
 pub const JOURNAL_MARK: [u8; 4] = *b"PL4\n";
 
 /// Keeps the log of a bus in a file, or in whatever takes bytes: `JOURNAL_MARK`, and then every record once and in order. With the save as it was when the
