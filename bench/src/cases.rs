@@ -197,12 +197,13 @@ fn save_write(ours: &mut Ours) {
 
 /// The Rust has no recovery: what an engine would write by hand.
 fn plain_recovery(save: &mut [u8], log: &[u8]) -> bool {
-    let whole = || log.chunks_exact(RECORD_LEN).map(|record| (usize::from(record[0] & 0x7F) << 8 | usize::from(record[1]), record));
-    if whole().any(|(address, record)| record[0] < 0x80 || save.len() <= address) {
+    let whole = || log.chunks_exact(RECORD_LEN).map(|record| u32::from_be_bytes([record[0], record[1], record[2], record[3]]));
+    let address = |record: u32| (record >> 14 & 0x1FFFF) as usize;
+    if whole().any(|record| record & 0x8000_003F != 0x8000_0000 || save.len() <= address(record)) {
         return false;
     }
-    for (address, record) in whole() {
-        save[address] = record[2];
+    for record in whole() {
+        save[address(record)] = (record >> 6) as u8;
     }
     true
 }

@@ -18,7 +18,7 @@ pub const RECORD_LEN: usize = pouchrattle::RECORD_LEN;
 
 /// The record of one stored byte.
 fn record(address: usize, value: u8) -> [u8; RECORD_LEN] {
-    [0x80 | (address >> 8) as u8, address as u8, value]
+    (1 << 31 | (address as u32) << 14 | u32::from(value) << 6).to_be_bytes()
 }
 
 pub struct Ours {
