@@ -15,14 +15,14 @@ use Rattle.savelog.specs.Log.{widthOf, endOf, logLimit, saveLengths, oneOf, rec
 use Rattle.savelog.specs.declared.Form.{Form}
 use Rattle.savelog.specs.declared.Form.the-variants.{Three, Four}
 use Rattle.savelog.specs.declared.Rec.{Rec}
-use Rattle.savelog.specs.Convert.{Conversion, converted, conversion, room, lengthBy}
+use Rattle.savelog.specs.Convert.{Conversion, converted, conversion, room, lengthBy, oldRecovery}
 use Rattle.savelog.specs.ConvertLaws.{newLog}
 use Rattle.savelog.proofs.Laws.{some-width, records-none, save-within}
 use Rattle.savelog.proofs.Converts.{result, by-sound}
-use Rattle.savelog.proofs.ConvertLaws.{same-records, past-stays}
+use Rattle.savelog.proofs.ConvertLaws.{same-records, past-stays, old-lengths}
 use Rattle.savelog.proofs.Prefix.{take-append, records-append, length-applyAll, applyAll-append, allSound-append}
 use Rattle.recover_messages.specs.declared.journal.Scan.{Scan}
-use Rattle.recover_messages.specs.Journal.{scan, unread, scanned, recoveryBy, PresentLaw, partLimit, Played, PlayedPart}
+use Rattle.recover_messages.specs.Journal.{scan, unread, scanned, recoveryBy, PresentLaw, OldLaw, partLimit, Played, PlayedPart}
 use Rattle.recover_messages.proofs.Scans.{parts, whole}
 
 -- recovery that is done found every record sound, and applied them
@@ -86,6 +86,12 @@ log-length n (no h) = rw (le-leb (lengthBy Four Four n) logLimit (omega (arith, 
 pub present : PresentLaw
 unfolding recoveryBy recovery lengthsFit
 present save log = rw (log-length (length log) (decLt logLimit (length log)))
+
+pub old-law : OldLaw
+unfolding recoveryBy oldRecovery lengthsFit
+old-law save log h k =
+    let n : length log ≤ logLimit = omega arith in
+    rw (old-lengths (length save) h, le-leb (lengthBy Three Four (length log)) logLimit k, le-leb (length log) logLimit n)
 
 -- sound for a save is sound for a longer one
 sound-longer : (ram end : ℕ) → ram ≤ end → (rs : List Rec) → allSound ram rs ≡ true → allSound end rs ≡ true

@@ -7,10 +7,10 @@ use Prim.Native.Nat.{ℕ, suc, _+_, _-_, _*_, _/_, _%_, _≤_, _<_}
 use lib.Dec.{ltb, eqb}
 use lib.ListN.{length, getD, take}
 use Rattle.numbers.specs.Numbers.{done, wrongLength, damaged}
-use Rattle.savelog.specs.Log.{widthOf, recordsBy, soundRecord, allSound, applyAll, lengthsFit, Outcome, outcome, recovery}
+use Rattle.savelog.specs.Log.{widthOf, recordsBy, soundRecord, allSound, applyAll, saveLimit, logLimit, lengthsFit, Outcome, outcome, recovery}
 use Rattle.savelog.specs.declared.Form.{Form}
-use Rattle.savelog.specs.declared.Form.the-variants.{Four}
-use Rattle.savelog.specs.Convert.{lengthBy}
+use Rattle.savelog.specs.declared.Form.the-variants.{Three, Four}
+use Rattle.savelog.specs.Convert.{lengthBy, oldRecovery}
 use Rattle.savelog.specs.declared.Rec.{Rec}
 use Rattle.recover_messages.specs.declared.journal.Scan.{Scan}
 
@@ -90,6 +90,10 @@ recoveryBy f save log =
 -- so by the present form it is recovery
 abbrev pub PresentLaw : Type 0
 PresentLaw = (save log : List ℕ) → recoveryBy Four save log ≡ recovery save log
+
+-- and by the old form it is document 01's, of any save but one of 131,072 bytes, which that did not know, and a log whose records make one in the present form
+abbrev pub OldLaw : Type 0
+OldLaw = (save log : List ℕ) → (length save ≡ saveLimit → ⊥) → lengthBy Three Four (length log) ≤ logLimit → recoveryBy Three save log ≡ oldRecovery save log
 
 -- the most bytes of a part: their whole records make a log in the present form
 abbrev pub partRecords : ℕ

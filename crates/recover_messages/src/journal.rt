@@ -7,7 +7,7 @@ ghost use lib.ListN.{length};
 ghost use Rattle.savelog.specs.Log.{widthOf, recordsBy, saveLengths, oneOf, outcome};
 ghost use Rattle.savelog.specs.declared.Form.the-variants.{Three};
 ghost use Rattle.recover_messages.specs.Journal.{unread, scanned, Bounded, byteScanned, keptOf, soundFirst, journalLimit};
-ghost use Rattle.recover_messages.specs.Journal.{recoveryBy, partLimit, PartsLaw, WholeLaw, ZerosLaw, KeptLaw, PresentLaw};
+ghost use Rattle.recover_messages.specs.Journal.{recoveryBy, partLimit, PartsLaw, WholeLaw, ZerosLaw, KeptLaw, PresentLaw, OldLaw};
 use savelog::Form;
 use savelog::OLD_RECORD_LEN;
 use savelog::RECORD_LEN;
@@ -151,5 +151,5 @@ pub fn recover(form: Form, save: &mut [u8], part: &[u8]) -> u8
 
 // The laws of specs/Journal.antt, as a contract: its proof hands them over.
 pub fn laws_hold()
-    ensures { λ _. ⌜ PartsLaw × WholeLaw × ZerosLaw × KeptLaw × PresentLaw ⌝ }
+    ensures { λ _. ⌜ PartsLaw × WholeLaw × ZerosLaw × KeptLaw × PresentLaw × OldLaw ⌝ }
 {}

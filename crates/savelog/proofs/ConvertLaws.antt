@@ -190,7 +190,7 @@ in-parts f l k h =
     sym (records-append f (take n l) (drop n l) (rw (length-take-le n l h) (whole-times f k))) ∙ ap (recordsBy f) (take-append-drop n l)
 
 -- recovery: the same records, and lengths that both rules take or refuse
-old-lengths : (n : ℕ) → (n ≡ saveLimit → ⊥) → oneOf n oldSaveLengths ≡ oneOf n saveLengths
+pub old-lengths : (n : ℕ) → (n ≡ saveLimit → ⊥) → oneOf n oldSaveLengths ≡ oneOf n saveLengths
 unfolding oneOf saveLengths oldSaveLengths
 old-lengths n h = rw (ne-eqb n saveLimit h)
 
