@@ -1,2 +1,3 @@
 -- What the contracts of recover cite.
 pub mod Files
+pub mod Begin
