@@ -7,12 +7,13 @@ use mathlib.Core.List.{List, [], _∷_, _++_, append-assoc, append-nil}
 use Prim.Native.Nat.{ℕ, zero, suc, _+_, _-_, _*_, _/_, _%_, _≤_, _<_}
 use native.Mathlib.Decide.{decLt}
 use native.Mathlib.Omega.{arith}
+use lib.Arith.{digits-div, digits-mod}
 use lib.Dec.{eqb}
 use lib.ListN.{length, getD, take, drop, set, length-append, length-drop, length-set, take-append-drop}
 use lib.Seq.{drop-cons, drop-drop, take-set-le, drop-set-lt, getD-set-same}
 use borrow.Author.Tests.{lt-ltb, ltb-true, ne-eqb}
 use Rattle.rules.proofs.Tests.{both-true}
-use Rattle.savelog.specs.Log.{Form, Three, Four, Rec, addressEnd, spareEnd, widthOf, endOf, bytesOf, numberFrom, recordNumber, recordBytes, fieldsOf, recordOf, stored, firstRecords, recordsBy, soundRecord, allSound, applyAll, oneOf, saveLengths, saveLimit}
+use Rattle.savelog.specs.Log.{Form, Three, Four, Rec, addressEnd, widthOf, endOf, spareOf, bytesOf, numberFrom, recordNumber, recordBytes, fieldsOf, recordOf, stored, firstRecords, recordsBy, soundRecord, allSound, applyAll, oneOf, saveLengths, saveLimit}
 
 -- k bytes make the numbers below `bytesEnd k`
 abbrev pub bytesEnd : ℕ → ℕ
@@ -95,26 +96,20 @@ unfolding recordNumber
 number-below Three a v h k = omega arith
 number-below Four a v h k = omega arith
 
+some-spare : (f : Form) → 0 < spareOf f
+some-spare Three = omega arith
+some-spare Four = omega arith
+
 fields-number : (f : Form) (a v : ℕ) → v < 256 → a < endOf f → fieldsOf f (recordNumber f a v) ≡ stored a v
 unfolding recordNumber fieldsOf
-fields-number Three a v h k =
-    let b = (1 * endOf Three + a) * 256 + v in
-    let s : b * 1 / 1 ≡ b = omega arith in
-    let o : b * 1 % 1 ≡ 0 = omega arith in
-    let q : b / 256 ≡ endOf Three + a = omega arith in
+fields-number f a v h k =
+    let b = (1 * endOf f + a) * 256 + v in
+    let e : b * spareOf f + 0 ≡ b * spareOf f = omega arith in
+    let s : b * spareOf f / spareOf f ≡ b = rw e at (digits-div b {m = spareOf f} {r = 0} (some-spare f)) in
+    let o : b * spareOf f % spareOf f ≡ 0 = rw e at (digits-mod b {m = spareOf f} {r = 0} (some-spare f)) in
+    let q : b / 256 ≡ 1 * endOf f + a = omega arith in
     let z : b % 256 ≡ v = omega arith in
-    let m : (endOf Three + a) / endOf Three ≡ 1 = omega arith in
-    let d : (endOf Three + a) % endOf Three ≡ a = omega arith in
-    rw (s, o, q, z, m, d)
-fields-number Four a v h k =
-    let b = (1 * addressEnd + a) * 256 + v in
-    let s : b * spareEnd / spareEnd ≡ b = omega arith in
-    let o : b * spareEnd % spareEnd ≡ 0 = omega arith in
-    let q : b / 256 ≡ addressEnd + a = omega arith in
-    let z : b % 256 ≡ v = omega arith in
-    let m : (addressEnd + a) / addressEnd ≡ 1 = omega arith in
-    let d : (addressEnd + a) % addressEnd ≡ a = omega arith in
-    rw (s, o, q, z, m, d)
+    rw (s, o, q, z, digits-div 1 {m = endOf f} {r = a} k, digits-mod 1 {m = endOf f} {r = a} k)
 
 pub record-length : (f : Form) (a v : ℕ) → length (recordBytes f a v) ≡ widthOf f
 unfolding recordBytes
