@@ -16,8 +16,11 @@ use Rattle.savelog.specs.Log.{widthOf, saveLimit, saveLengths, oneOf, outcome}
 use Rattle.savelog.specs.declared.Form.{Form}
 use Rattle.savelog.specs.declared.Form.the-variants.{Three, Four}
 use Rattle.recover_text.specs.Text.{numbered}
-use Rattle.recover_text.specs.Rows.{rowBytes, Rows}
+use Rattle.recover_text.specs.Rows.{rowBytes, rowCount, Rows}
+use Rattle.recover_text.specs.Speak.{heardRoom}
 use Rattle.recover_text.proofs.Heard.{parts}
+use Rattle.recover_text.proofs.Whole.{hex-length, heard-length}
+use Rattle.recover.specs.Show.{linesOf, roomOf}
 use Rattle.recover_messages.specs.declared.journal.Scan.{Scan}
 use Rattle.recover_messages.specs.Journal.{scanned, recoveryBy, partLimit, Played, PlayedPart}
 use Rattle.recover_messages.proofs.Plays.{played-all}
@@ -98,3 +101,12 @@ after-part o l n h e =
     let q : length (take n o) ≡ n = length-take-le n o h in
     let r = length-drop (length o - n) (drop n o) in
     (rw (length-append (take n o) (l ++ drop (length o - n) (drop n o)), length-append l (drop (length o - n) (drop n o)), q) (omega arith), omega arith)
+
+-- a row's room, and all that is printed of one kind
+pub room-most : (heard : Bool) → roomOf heard ≤ heardRoom
+room-most true = omega arith
+room-most false = omega arith
+
+pub shown-length : (heard : Bool) (old new : List ℕ) → Rows old new 0 → length (numbered (linesOf heard old new) 0 (rowCount old)) ≤ heardRoom * rowCount old
+shown-length true old new rows = heard-length old new rows
+shown-length false old new rows = omega (arith, hex-length old new rows)

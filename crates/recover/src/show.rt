@@ -4,8 +4,10 @@ ghost use mathlib.Core.Path.{_≡_};
 ghost use Prim.Native.Nat.{_≤_};
 ghost use lib.ListN.{length, take};
 ghost use Rattle.savelog.specs.Log.{saveLimit, saveLengths, oneOf};
-ghost use Rattle.recover_text.specs.Rows.{Rows};
-ghost use Rattle.recover_text.specs.Report.{hexRows, heardRows, report};
+ghost use Rattle.recover_text.specs.Text.{numbered};
+ghost use Rattle.recover_text.specs.Rows.{Rows, Shows, rowCount};
+ghost use Rattle.recover_text.specs.Report.{report};
+ghost use Rattle.recover.specs.Show.{linesOf, roomOf};
 ghost use Rattle.recover_messages.specs.Journal.{Bounded, journalLimit, keptOf, Played};
 use crate::files;
 use crate::journal;
@@ -13,6 +15,7 @@ use crate::journal::Log;
 use crate::say;
 use recover_messages::journal::Scan;
 use recover_text::rows;
+use recover_text::rows::Part;
 use recover_text::speak;
 
 // The bytes of a part of the report.
@@ -34,43 +37,28 @@ pub fn changes(log: Log, scan: Scan, save: &mut [u8], old: &mut [u8]) -> bool
     journal::play_all(log, save, scan)
 }
 
-// The rows in hex, part by part.
-fn print_rows(old: &[u8], new: &[u8]) -> Printed
-    requires { ⌜ Rows (now old) (now new) 0 ⌝ }
-    ensures { λ r. ⌜ (r .good ≡ true → r .len ≡ length (hexRows (now (old .entry)) (now (new .entry)))) ⌝ }
+// The next part: of what is heard, or of the rows in hex.
+fn next_part(heard: bool, old: &[u8], new: &[u8], from: usize, out: &mut [u8]) -> Part
+    requires { ⌜ Rows (now old) (now new) from ⌝ }
+    ensures { λ r. ⌜ Shows (linesOf heard) (roomOf heard) (now (old .entry)) (now (new .entry)) from (now (out .entry)) (now (out .exit)) r ⌝ }
 {
-    let mut out = [0u8; ROOM];
-    let count = old.len() / rows::ROW;
-    let mut from = 0;
-    let mut len = 0;
-    while from < count {
-        let part = rows::rows(old, new, from, &mut out);
-        if !say::print(&out, part.len) {
-            return Printed {
-                good: false,
-                len: len,
-            };
-        }
-        len += part.len;
-        from = part.next;
+    if heard {
+        return speak::spoken(old, new, from, out);
     }
-    Printed {
-        good: true,
-        len: len,
-    }
+    rows::rows(old, new, from, out)
 }
 
-// What is heard of the rows, part by part.
-fn print_heard(old: &[u8], new: &[u8]) -> Printed
+// All of what is heard, or all rows in hex, part by part.
+fn print_parts(heard: bool, old: &[u8], new: &[u8]) -> Printed
     requires { ⌜ Rows (now old) (now new) 0 ⌝ }
-    ensures { λ r. ⌜ (r .good ≡ true → r .len ≡ length (heardRows (now (old .entry)) (now (new .entry)))) ⌝ }
+    ensures { λ r. ⌜ (r .good ≡ true → r .len ≡ length (numbered (linesOf heard (now (old .entry)) (now (new .entry))) 0 (rowCount (now (old .entry))))) ⌝ }
 {
     let mut out = [0u8; ROOM];
     let count = old.len() / rows::ROW;
     let mut from = 0;
     let mut len = 0;
     while from < count {
-        let part = speak::spoken(old, new, from, &mut out);
+        let part = next_part(heard, old, new, from, &mut out);
         if !say::print(&out, part.len) {
             return Printed {
                 good: false,
@@ -92,13 +80,13 @@ pub fn report(old: &[u8], new: &[u8], speak: bool) -> Printed
     ensures { λ r. ⌜ (r .good ≡ true → r .len ≡ length (report speak (now (old .entry)) (now (new .entry)))) ⌝ }
 {
     if speak {
-        return print_heard(old, new);
+        return print_parts(true, old, new);
     }
-    let front = print_rows(old, new);
+    let front = print_parts(false, old, new);
     if !front.good {
         return front;
     }
-    let back = print_heard(old, new);
+    let back = print_parts(true, old, new);
     if !back.good {
         return back;
     }
