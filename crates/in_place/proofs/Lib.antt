@@ -2,4 +2,4 @@ pub mod Fine
 pub mod Images
 pub mod Groups
 pub mod PaletteLaws
-pub mod Still
+pub mod Updates

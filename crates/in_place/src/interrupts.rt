@@ -5,11 +5,10 @@ use interrupt::Interrupt;
 use interrupt::Pending;
 use joypad::Controller;
 use memory::Clock;
-use timer::Rest;
-use timer::Timer;
 ghost use mathlib.Core.Path.{_≡_};
-ghost use Prim.Native.Nat.{_<_, _≤_};
-ghost use Rattle.image.specs.Layout.{imageOf};
+ghost use Prim.Native.Nat.{_≤_};
+ghost use lib.ListN.{length};
+ghost use Rattle.image.specs.Layout.{imageLen, imageOf};
 ghost use Rattle.image.specs.Load.{loadCall};
 ghost use Rattle.interrupt.specs.PanDocs.{firstOf};
 ghost use Rattle.joypad.specs.Joypad.{withState, actionsAnswer, directionsAnswer};
@@ -17,6 +16,7 @@ ghost use Rattle.registers.specs.State.{loaded, timerOf, withTimer, requestedIn
 ghost use Rattle.timer.specs.Overflow.{leftOf};
 ghost use Rattle.timer.specs.Timer.{updated};
 ghost use Rattle.in_place.specs.Held.{Held};
+ghost use Rattle.in_place.specs.Steps.{steppedIn};
 
 pub fn request_interrupt(image: &mut [u8], interrupt: Interrupt)
     requires { ⌜ Held (now image) ⌝ }
@@ -41,65 +41,33 @@ pub fn get_interrupts(image: &[u8]) -> Pending
     interrupt::get_interrupts(load(image, 0xFF), load(image, 0x0F))
 }
 
-pub fn timer_at(image: &[u8]) -> Timer
-    requires { ⌜ Held (now image) ⌝ }
-    ensures { λ r. ⌜ r ≡ timerOf (loadCall (now (image .entry)) .state) ⌝ }
-{
-    let clock = image::clock_at(image);
-    Timer {
-        div: image[0x104],
-        tima: image[0x105],
-        tma: image[0x106],
-        tac: image[0x107],
-        flags: image[0x10F],
-        div_cycles: clock.div,
-        tima_cycles: clock.tima,
-    }
-}
-
-// An update leaves TMA and TAC.
-pub fn put_timer(image: &mut [u8], timer: Timer)
-    requires { ⌜ Held (now image) × (timer .«tima_cycles» < 1024) ⌝ }
-    ensures { λ _. ⌜ now (image .exit) ≡ imageOf (withTimer (loadCall (now (image .entry)) .state) timer) ⌝ }
-{
-    image[0x104] = timer.div;
-    image[0x105] = timer.tima;
-    image[0x10F] = timer.flags;
-    let clock = Clock {
-        div: timer.div_cycles,
-        tima: timer.tima_cycles,
-    };
-    image::put_clock(image, clock);
-}
-
-// The Rust's Timer::update. Where no step of TIMA is due, DIV and the remainders are all that changes.
+// The Rust's Timer::update. It leaves TMA and TAC.
 pub fn update_timer(image: &mut [u8], cycles: u32)
     requires { ⌜ Held (now image) × (cycles ≤ 65536) ⌝ }
     ensures { λ _. ⌜ now (image .exit) ≡ imageOf (withTimer (loadCall (now (image .entry)) .state) (updated (timerOf (loadCall (now (image .entry)) .state)) cycles)) ⌝ }
 {
     let clock = image::clock_at(image);
-    let rest = timer::rest_after(image[0x107], clock.tima, cycles);
-    let Rest::Still(tima) = rest else {
-        update_all(image, cycles);
-        return;
-    };
-    let next = timer::count_div(image[0x104], clock.div, cycles);
-    image[0x104] = next.div;
+    let divided = timer::count_div(image[0x104], clock.div, cycles);
+    let periods = timer::periods_in(image[0x107], clock.tima, cycles);
+    image[0x104] = divided.div;
+    step_tima_by(image, periods.full);
     let after = Clock {
-        div: next.cycles,
-        tima: tima,
+        div: divided.cycles,
+        tima: periods.rest,
     };
     image::put_clock(image, after);
 }
 
-fn update_all(image: &mut [u8], cycles: u32)
-    requires { ⌜ Held (now image) × (cycles ≤ 65536) ⌝ }
-    ensures { λ _. ⌜ now (image .exit) ≡ imageOf (withTimer (loadCall (now (image .entry)) .state) (updated (timerOf (loadCall (now (image .entry)) .state)) cycles)) ⌝ }
+// TIMA and FF0F after so many steps. Most updates make none.
+fn step_tima_by(image: &mut [u8], count: u32)
+    requires { ⌜ length (now image) ≡ imageLen ⌝ }
+    ensures { λ _. ⌜ now (image .exit) ≡ steppedIn (now (image .entry)) count ⌝ }
 {
-    let timer = timer_at(image);
-    let updated = timer::update(timer, cycles);
-    let after = updated.timer;
-    put_timer(image, after);
+    if 0 < count {
+        let next = timer::step_tima_by(image[0x105], image[0x106], image[0x10F], count);
+        image[0x105] = next.tima;
+        image[0x10F] = next.flags;
+    }
 }
 
 // How many cycles are left until TIMA overflows.

@@ -3,8 +3,7 @@ use mathlib.Core.Bool.{Bool, true, false, cond}
 use mathlib.Core.Path.{_≡_, refl, ap, _∙_}
 use mathlib.Core.List.{List, [], _∷_}
 use Prim.Native.Nat.{ℕ, zero, suc, _+_, _*_, _/_, _%_, _<_, _≤_}
-use native.Mathlib.Nat.{mod-lt, div-eq-of-lt, mod-eq-of-lt, add-zero, add-suc}
-use native.Mathlib.Numerals.{add-one}
+use native.Mathlib.Nat.{mod-lt, add-zero, add-suc}
 use native.Mathlib.Omega.{arith}
 use lib.Dec.{leb, ltb}
 use lib.ListN.{getD}
@@ -14,9 +13,8 @@ use Rattle.bit_utils.specs.Bits.{isSet, setBit}
 use Rattle.interrupt.specs.Flags.{requested}
 use Rattle.interrupt.specs.declared.Interrupt.the-variants as Interrupt
 use Rattle.timer.specs.PanDocs.{period, counting, with-tima, stepTima, steps}
-use Rattle.timer.specs.Timer.{with-rest, divided, restAfter, counted, updated, timerInRange, gives, updateCall}
+use Rattle.timer.specs.Timer.{with-rest, divided, counted, updated, timerInRange, gives, updateCall}
 use Rattle.timer.specs.Promises.{ClockRises, TmaTacStay, StepsCompose, Ready, StaysInRange, Corner2, Corner3, StepsAtNoCycles}
-use Rattle.timer.specs.declared.Rest.the-variants.{Still, Due}
 use Rattle.timer.specs.declared.Timer.{Timer}
 use Rattle.timer.specs.declared.Updated.{Updated}
 
@@ -68,32 +66,10 @@ pub steps-none : (t : Timer) → steps 0 t ≡ t
 unfolding steps
 steps-none t = refl
 
-pub steps-more : (n : ℕ) (t u v : Timer) → v ≡ stepTima u → u ≡ steps n t → v ≡ steps (n + 1) t
-unfolding steps
-steps-more n t u v e h = simp (add-one, e, h)
-
 pub steps-compose : StepsCompose
 unfolding steps
 steps-compose m zero t = rw add-zero
 steps-compose m (suc n) t = rw add-suc (ap stepTima (steps-compose m n t))
-
--- an update that steps TIMA not at all
-still-by : (t : Timer) (c k : ℕ) (b d : Bool) → counting (t .tac) ≡ b → ltb (t .«tima_cycles» + c) (period (t .tac)) ≡ d
-    → cond b (cond d (Still (t .«tima_cycles» + c)) Due) (Still (t .«tima_cycles»)) ≡ Still k → counted t c ≡ with-rest t k
-unfolding counted
-still-by t c k true true e f g =
-    let l = ltb-true (t .«tima_cycles» + c) (period (t .tac)) f in
-    let m : t .«tima_cycles» + c ≡ k = cc in
-    rw (e, div-eq-of-lt l, mod-eq-of-lt l, steps-none t, m)
-still-by t c k true false e f g = let z : _≡_ {A = ℕ} 0 1 = cc in absurd (omega arith)
-still-by t c k false d e f g =
-    let m : t .«tima_cycles» ≡ k = cc in
-    rw (e, ← m)
-
-pub still-updated : (t : Timer) (c k : ℕ) → restAfter (t .tac) (t .«tima_cycles») c ≡ Still k → updated t c ≡ with-rest (divided t c) k
-unfolding restAfter divided
-still-updated t c k e =
-    still-by (divided t c) c k (counting (t .tac)) (ltb (t .«tima_cycles» + c) (period (t .tac))) refl refl e
 
 -- what no step of TIMA touches
 pub record Kept (t u : Timer) : Type 0 where

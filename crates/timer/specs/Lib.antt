@@ -1,4 +1,5 @@
 pub mod PanDocs
+pub mod AtOnce
 pub mod Timer
 pub mod Overflow
 pub mod Promises

@@ -4,6 +4,7 @@ use Prim.Native.Nat.{ℕ, _+_, _%_, _<_, _≤_}
 use Rattle.interrupt.specs.Flags.{requested}
 use Rattle.interrupt.specs.declared.Interrupt.the-variants as Interrupt
 use Rattle.timer.specs.PanDocs.{steps}
+use Rattle.timer.specs.AtOnce.{atOnce}
 use Rattle.timer.specs.Overflow.{leftOf}
 use Rattle.timer.specs.Timer.{clock, updated, updateCall}
 use Rattle.timer.specs.declared.Timer.{Timer}
@@ -19,6 +20,10 @@ TmaTacStay = (t : Timer) (c : ℕ) → (updated t c .tma ≡ t .tma) × (updated
 -- steps of TIMA come together
 abbrev pub StepsCompose : Type 0
 StepsCompose = (m n : ℕ) (t : Timer) → steps (m + n) t ≡ steps n (steps m t)
+
+-- all steps at once are the steps one by one, for every TIMA and TMA and any number of steps
+abbrev pub AtOnce : Type 0
+AtOnce = (n : ℕ) (t : Timer) → t .tima < 256 → t .tma < 256 → atOnce n t ≡ steps n t
 
 -- registers are bytes, and tima_cycles is in its range
 pub record Ready (t : Timer) : Type 0 where
@@ -74,6 +79,7 @@ pub record Promises : Type 0 where
   pub clock-rises : ClockRises
   pub tma-tac-stay : TmaTacStay
   pub steps-compose : StepsCompose
+  pub at-once : AtOnce
   pub stays-in-range : StaysInRange
   pub calm-before : CalmBefore
   pub asked-from : AskedFrom

@@ -5,8 +5,6 @@ use lib.Dec.{leb, ltb}
 use Rattle.numbers.specs.Numbers.{done, outOfRange, tooManyCycles}
 use Rattle.timer.specs.PanDocs.{period, counting, steps}
 use Rattle.timer.specs.declared.Divided.{Divided}
-use Rattle.timer.specs.declared.Rest.{Rest}
-use Rattle.timer.specs.declared.Rest.the-variants.{Still, Due}
 use Rattle.timer.specs.declared.Timer.{Timer}
 use Rattle.timer.specs.declared.Updated.{Updated}
 
@@ -38,10 +36,6 @@ counted t c =
     cond (counting (t .tac))
     (with-rest (steps ((t .«tima_cycles» + c) / period (t .tac)) t) ((t .«tima_cycles» + c) % period (t .tac)))
     t
-
--- so it is with no step of TIMA, or one is due
-unfoldable pub restAfter : ℕ → ℕ → ℕ → Rest
-restAfter tac rest c = cond (counting tac) (cond (ltb (rest + c) (period tac)) (Still (rest + c)) Due) (Still rest)
 
 -- both, for one update
 abbrev pub updated : Timer → ℕ → Timer

@@ -1,9 +1,10 @@
 // The timer: DIV and TIMA after a number of cycles, as the Rust's timer.rs, on a record by value. FF0F is crate interrupt's.
-// Each register goes step by step: one step of DIV in 256 cycles, one of TIMA in a period of TAC.
+// One step of DIV in 256 cycles, one of TIMA in a period of TAC: how many there are is a quotient, and no loop makes them.
 ghost use mathlib.Core.Path.{_≡_};
 ghost use Prim.Native.Nat.{_+_, _*_, _%_, _<_, _≤_};
-ghost use Rattle.timer.specs.PanDocs.{period, stepTima, steps};
-ghost use Rattle.timer.specs.Timer.{dividedOf, divided, restAfter, counted, updateCall};
+ghost use Rattle.timer.specs.PanDocs.{period};
+ghost use Rattle.timer.specs.AtOnce.{periodsIn, stepped};
+ghost use Rattle.timer.specs.Timer.{dividedOf, divided, counted, updateCall};
 ghost use Rattle.timer.specs.Overflow.{cyclesLeft};
 ghost use Rattle.timer.specs.Promises.{Promises};
 use interrupt::Interrupt;
@@ -33,10 +34,16 @@ pub struct Divided {
     pub cycles: u8,
 }
 
-// What an update leaves of `tima_cycles` where no step of TIMA is due.
-pub enum Rest {
-    Still(u16),
-    Due,
+// TIMA, and FF0F.
+pub struct Stepped {
+    pub tima: u8,
+    pub flags: u8,
+}
+
+// Full periods, and the cycles since the last of them.
+pub struct Periods {
+    pub full: u32,
+    pub rest: u16,
 }
 
 // What `cycles_to_overflow` gives where TIMA does not count.
@@ -56,42 +63,25 @@ fn period_of(tac: u8) -> u16
 fn step_div(div: u8, count: u32) -> u8
     ensures { λ r. ⌜ r ≡ (div + count) % 256 ⌝ }
 {
-    let mut next = div;
-    let mut i: u32 = 0;
-    while i < count {
-        next = std::num::wrapping_add_u8(next, 1);
-        i += 1;
-    }
-    next
+    std::num::wrapping_add_u8(div, (count % 256) as u8)
 }
 
-// One step of TIMA.
-fn step_tima(timer: Timer) -> Timer
-    ensures { λ r. ⌜ r ≡ stepTima timer ⌝ }
+// TIMA and FF0F after so many steps: TIMA overflows at the step 256 - TIMA, and from there on every 256 - TMA steps.
+pub fn step_tima_by(tima: u8, tma: u8, flags: u8, count: u32) -> Stepped
+    ensures { λ r. ⌜ r ≡ stepped tima tma flags count ⌝ }
 {
-    let mut next = timer;
-    let tima = std::num::wrapping_add_u8(timer.tima, 1);
-    if tima == 0 {
-        let flags = interrupt::request(timer.flags, Interrupt::Timer);
-        next.tima = timer.tma;
-        next.flags = flags;
-        return next;
+    let first = 256 - tima as u32;
+    if count < first {
+        return Stepped {
+            tima: std::num::wrapping_add_u8(tima, count as u8),
+            flags: flags,
+        };
     }
-    next.tima = tima;
-    next
-}
-
-// Many steps of TIMA.
-fn step_tima_by(timer: Timer, count: u32) -> Timer
-    ensures { λ r. ⌜ r ≡ steps count timer ⌝ }
-{
-    let mut next = timer;
-    let mut i: u32 = 0;
-    while i < count {
-        next = step_tima(next);
-        i += 1;
+    let since = (count - first) % (256 - tma as u32);
+    Stepped {
+        tima: std::num::wrapping_add_u8(tma, since as u8),
+        flags: interrupt::request(flags, Interrupt::Timer),
     }
-    next
 }
 
 pub fn count_div(div: u8, rest: u8, cycles: u32) -> Divided
@@ -117,33 +107,43 @@ fn update_div(timer: Timer, cycles: u32) -> Timer
     next
 }
 
-// For a caller who has the registers and not the record: most updates step nothing but DIV.
-pub fn rest_after(tac: u8, rest: u16, cycles: u32) -> Rest
+// How many periods of TIMA are full after so many cycles, and the cycles since the last of them. While it does not count: none, and `rest` as it was.
+pub fn periods_in(tac: u8, rest: u16, cycles: u32) -> Periods
     requires { ⌜ cycles ≤ 65536 ⌝ }
-    ensures { λ r. ⌜ r ≡ restAfter tac rest cycles ⌝ }
+    ensures { λ r. ⌜ r ≡ periodsIn tac rest cycles ⌝ }
 {
     if bit_utils::within::is_set(tac, 2) {
+        let period = period_of(tac) as u32;
         let total = rest as u32 + cycles;
-        if total < period_of(tac) as u32 {
-            return Rest::Still((total % 1024) as u16);
+        // Most updates fill no period, and need no division.
+        if total < period {
+            return Periods {
+                full: 0,
+                rest: total as u16,
+            };
         }
-        return Rest::Due;
+        return Periods {
+            full: total / period,
+            rest: (total % period) as u16,
+        };
     }
-    Rest::Still(rest)
+    Periods {
+        full: 0,
+        rest: rest,
+    }
 }
 
 fn update_tima(timer: Timer, cycles: u32) -> Timer
     requires { ⌜ (timer .«tima_cycles» < 1024) × (cycles ≤ 65536) ⌝ }
     ensures { λ r. ⌜ r ≡ counted timer cycles ⌝ }
 {
-    if bit_utils::within::is_set(timer.tac, 2) {
-        let period = period_of(timer.tac) as u32;
-        let total = timer.tima_cycles as u32 + cycles;
-        let mut next = step_tima_by(timer, total / period);
-        next.tima_cycles = (total % period) as u16;
-        return next;
-    }
-    timer
+    let periods = periods_in(timer.tac, timer.tima_cycles, cycles);
+    let stepped = step_tima_by(timer.tima, timer.tma, timer.flags, periods.full);
+    let mut next = timer;
+    next.tima = stepped.tima;
+    next.flags = stepped.flags;
+    next.tima_cycles = periods.rest;
+    next
 }
 
 // The Rust's Timer::update.

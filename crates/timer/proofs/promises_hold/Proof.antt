@@ -1,5 +1,6 @@
 -- Each promise is a law.
 use Rattle.timer.proofs.Laws.{clock-rises, tma-tac-stay, steps-compose, stays-in-range, corner-2, corner-3, steps-at-no-cycles}
+use Rattle.timer.proofs.AtOnce.{at-once}
 use Rattle.timer.proofs.Overflow.{calm-before, asked-from}
 use Rattle.timer.proofs.promises_hold.Statement.{statement}
 use Rattle.timer.proofs.promises_hold.Tie as tie
@@ -10,6 +11,7 @@ returns c =
       clock-rises = clock-rises;
       tma-tac-stay = tma-tac-stay;
       steps-compose = steps-compose;
+      at-once = at-once;
       stays-in-range = stays-in-range;
       calm-before = calm-before;
       asked-from = asked-from;

@@ -1,7 +1,7 @@
 -- The group, and two bytes of the page.
 use native.Mathlib.Omega.{arith}
 use Rattle.in_place.proofs.Images.{size}
-use Rattle.in_place.proofs.Still.{left-in}
+use Rattle.in_place.proofs.Updates.{left-in}
 use borrow.Author.Needs.{needs}
 use Rattle.in_place.proofs.interrupts.cycles_to_overflow.Statement.{statement}
 use Rattle.in_place.proofs.interrupts.cycles_to_overflow.Tie as tie

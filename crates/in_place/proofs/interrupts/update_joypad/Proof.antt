@@ -4,7 +4,7 @@ use mathlib.Core.Path.{sym, _∙_}
 use lib.ListN.{length-set}
 use Rattle.in_place.proofs.Images.{size}
 use Rattle.in_place.proofs.Groups.{polled-image}
-use Rattle.in_place.proofs.Still.{unmarked-image, unmarked-same}
+use Rattle.in_place.proofs.Updates.{unmarked-image, unmarked-same}
 use borrow.Author.Needs.{needs}
 use Rattle.in_place.proofs.interrupts.update_joypad.Statement.{statement}
 use Rattle.in_place.proofs.interrupts.update_joypad.Tie as tie
