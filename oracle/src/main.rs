@@ -2,6 +2,7 @@
 //!
 //!     oracle leaves SEED COUNT   corners, edges, then COUNT random inputs a letter
 //!     oracle bus SEED COUNT      corners, edges, then COUNT random lists of calls
+//!     oracle timer               the timer's dense list; on standard error what it reaches
 //!     oracle record leaves|bus   the sample that crates/replay/stdin, crates/replay_bus/stdin holds
 //!     oracle check FILE          makes the calls of such lists anew and compares
 //!
@@ -20,7 +21,7 @@ use std::io::{self, BufWriter, Write};
 use std::process::ExitCode;
 
 const USAGE: &str =
-    "usage: oracle leaves|bus SEED COUNT | oracle record leaves|bus | oracle check FILE";
+    "usage: oracle leaves|bus SEED COUNT | oracle timer | oracle record leaves|bus | oracle check FILE";
 
 fn main() -> ExitCode {
     let arguments: Vec<String> = std::env::args().skip(1).collect();
@@ -32,6 +33,7 @@ fn main() -> ExitCode {
             (Ok(seed), Ok(count)) => leaves::print(seed, count, &mut out),
             _ => return usage(),
         },
+        ["timer"] => leaves::timer::dense::print(&mut out, &mut io::stderr()),
         ["record", "leaves"] => leaves::record(&mut out),
         ["record", "bus"] => bus::record(&mut out),
         ["check", name] => bus::check(name, &mut out),

@@ -1,6 +1,9 @@
 //! T: DIV, TIMA, TMA, TAC and FF0F as stored, div_cycles, tima_cycles (2 bytes),
 //! cycles (4). Gives all but the cycles after the update.
 
+pub mod dense;
+mod reached;
+
 use gameboy_core::mmu::{
     DIVIDER_INDEX, INTERRUPT_FLAGS_INDEX, SELECTABLE_TIMER_INDEX, TIMER_CONTROL_INDEX,
     TIMER_RESET_INDEX,
