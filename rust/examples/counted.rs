@@ -53,6 +53,7 @@ fn main() {
         store: |memory| memory.store(0xFF85, 3);
         oam_dma: |memory| memory.do_dma_transfer(0xC0);
         timer_by_4: |memory| Timer::new().update(4, memory);
+        timer_by_65536: |memory| Timer::new().update(65536, memory);
         get_interrupts_none: |memory| memory.get_interrupts();
         request_interrupt: |memory| memory.request_interrupt(Interrupt::Timer);
         press: |memory| memory.press(Button::A);

@@ -14,7 +14,7 @@ impl Timer {
     }
 
     /// So many cycles have passed: DIV and TIMA step, and TIMA's overflow requests its interrupt. Refused by `TooManyCycles` over 65,536, and
-    /// for a negative number.
+    /// for a negative number. Many cycles take about as long as few.
     #[inline]
     pub fn update(&mut self, cycles: i32, memory: &mut Memory) -> Result<(), Refusal> {
         memory.update_timer(cycles as u32)
