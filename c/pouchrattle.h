@@ -259,7 +259,7 @@ uint8_t pouch_store(uint8_t *image, size_t image_len, uint16_t index, uint8_t by
 
 /* Timer and interrupts */
 
-/* `cycles` have passed: DIV and TIMA step, and TIMA's overflow requests its interrupt.
+/* `cycles` have passed: DIV and TIMA step, and TIMA's overflow requests its interrupt. Many cycles take about as long as few.
  * 0; 4, 3 image; 5 cycles over 65,536. */
 uint8_t pouch_update_timer(uint8_t *image, size_t image_len, uint32_t cycles);
 
