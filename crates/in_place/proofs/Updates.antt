@@ -22,9 +22,9 @@ use Rattle.memory.specs.declared.Core.{Core}
 use Rattle.registers.specs.State.{loaded, timerOf, withTimer, withController, polledIn}
 use Rattle.timer.proofs.AtOnce.{before, counted-at-once}
 use Rattle.timer.proofs.Laws.{update-ready}
+use Rattle.timer.specs.AtOnce.{periodsIn}
 use Rattle.timer.specs.Overflow.{cyclesLeft, leftOf}
 use Rattle.timer.specs.Promises.{Ready}
-use Rattle.timer.specs.AtOnce.{periodsIn}
 use Rattle.timer.specs.Timer.{dividedOf, divided, updated}
 use Rattle.timer.specs.declared.Divided.{Divided}
 use Rattle.timer.specs.declared.Periods.{Periods}
@@ -40,7 +40,7 @@ unfolding steppedIn
 no-step i h =
     rw (before (getD i 0x105 0) (getD i 0x106 0) (getD i 0x10F 0) 0 (omega arith), add-zero, set-getD i 0x105 0, set-getD i 0x10F 0)
 
--- another byte put before them
+-- DIV put before them
 step-beside : (i : List ℕ) (v n : ℕ) → steppedIn (set i 0x104 v) n ≡ set (set (set i 0x104 v) 0x105 (steppedAt i n .tima)) 0x10F (steppedAt i n .flags)
 unfolding steppedIn
 step-beside i v n =
