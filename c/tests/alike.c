@@ -74,15 +74,20 @@ static void cartridge(void)
     start(kind, banks, code, colour, log_len);
     for (size_t i = 0; i < rom.len; i++)
         rom.at[i] = (uint8_t)any();
-    for (size_t i = 0; i + POUCH_RECORD_LEN <= log_len; i += POUCH_RECORD_LEN) /* sound ones, for the converter: it reads a log as a whole */
-        put_record(log_.at + i, (uint32_t)(any() % (any() % 500 == 0 ? 131072 : 32768)), (uint8_t)any());
+    /* Sound ones, for the converter: it reads a log as a whole. A call of `any` stands alone: compilers order those of one expression each in its own way. */
+    for (size_t i = 0; i + POUCH_RECORD_LEN <= log_len; i += POUCH_RECORD_LEN) {
+        const uint32_t end = any() % 500 == 0 ? 131072 : 32768;
+        const uint32_t address = (uint32_t)(any() % end);
+        put_record(log_.at + i, address, (uint8_t)any());
+    }
 }
 
 /* A block of old records, one in 200 of them damaged, for the converter. */
 static void old_records(struct lent *block)
 {
     for (size_t i = 0; i + POUCH_OLD_RECORD_LEN <= block->len; i += POUCH_OLD_RECORD_LEN) {
-        put_old_record(block->at + i, (uint32_t)(any() % 32768), (uint8_t)any());
+        const uint32_t address = (uint32_t)(any() % 32768);
+        put_old_record(block->at + i, address, (uint8_t)any());
         block->at[i] ^= any() % 200 == 0 ? 0x80 : 0;
     }
 }
