@@ -2,7 +2,7 @@
 -- changed state.
 use mathlib.Core.List.{List}
 use mathlib.Core.Path.{_≡_, ap, _∙_}
-use Prim.Native.Nat.{ℕ, _<_}
+use Prim.Native.Nat.{ℕ}
 use native.Mathlib.Omega.{arith}
 use lib.ListN.{getD, set}
 use Rattle.image.specs.Layout.{imageOf}
@@ -20,23 +20,27 @@ use Rattle.memory.specs.declared.Clock.{Clock}
 use Rattle.memory.specs.declared.Core.{Core}
 use Rattle.memory.specs.declared.Memory.{Memory}
 use Rattle.registers.specs.State.{loaded, timerOf, withTimer, screenOf, withScreen, onScreen, polledIn}
+use Rattle.timer.specs.Promises.{Ready}
 use Rattle.timer.specs.declared.Timer.{Timer}
 use Rattle.in_place.specs.Held.{Held}
 use Rattle.in_place.proofs.Images.{state, held, byte, core, put-byte, put-clock, put-joypad, put-lcd}
 
+-- the timer of an image's bytes and a clock
+abbrev pub timerRead : List ℕ → Clock → Timer
+timerRead i c =
+    record {
+      div = getD i 0x104 0;
+      tima = getD i 0x105 0;
+      tma = getD i 0x106 0;
+      tac = getD i 0x107 0;
+      flags = getD i 0x10F 0;
+      «div_cycles» = c .div;
+      «tima_cycles» = c .tima;
+    }
+
 module _ (i : List ℕ) (h : Held i) where
   -- the timer
-  pub timer-in : {c : Clock} → c ≡ clockOf (fields i)
-      → record {
-        div = getD i 0x104 0;
-        tima = getD i 0x105 0;
-        tma = getD i 0x106 0;
-        tac = getD i 0x107 0;
-        flags = getD i 0x10F 0;
-        «div_cycles» = c .div;
-        «tima_cycles» = c .tima;
-      }
-      ≡ timerOf (state i h)
+  pub timer-in : {c : Clock} → c ≡ clockOf (fields i) → timerRead i c ≡ timerOf (state i h)
   timer-in e =
       rw (
         e ∙ ap (λ (k : Core). k .clock) (core i h),
@@ -47,15 +51,15 @@ module _ (i : List ℕ) (h : Held i) where
         byte i h 0x0F (omega arith),
       )
 
-  pub timer-image : (u : Timer) → u .div < 256 → u .tima < 256 → u .flags < 256 → u .«div_cycles» < 256 → u .«tima_cycles» < 1024 → {j : List ℕ}
+  pub timer-image : (u : Timer) → Ready u → {j : List ℕ}
       → j
       ≡ clockPut (set (set (set i 0x104 (u .div)) 0x105 (u .tima)) 0x10F (u .flags)) (record { div = u .«div_cycles»; tima = u .«tima_cycles» })
       → j ≡ imageOf (withTimer (state i h) u)
-  timer-image u hd ht hf rd rt e =
-      let a = put-byte (held i h) 0x04 (u .div) (omega arith) hd in
-      let b = put-byte a 0x05 (u .tima) (omega arith) ht in
-      let c = put-byte b 0x0F (u .flags) (omega arith) hf in
-      e ∙ put-clock c (record { div = u .«div_cycles»; tima = u .«tima_cycles» }) rd rt .same
+  timer-image u r e =
+      let a = put-byte (held i h) 0x04 (u .div) (omega arith) (r .div) in
+      let b = put-byte a 0x05 (u .tima) (omega arith) (r .tima) in
+      let c = put-byte b 0x0F (u .flags) (omega arith) (r .flags) in
+      e ∙ put-clock c (record { div = u .«div_cycles»; tima = u .«tima_cycles» }) (r .div-cycles) (r .tima-cycles) .same
 
   -- the joypad's update
   pub polled-image : {k : Controller} {r : Polled} {j : List ℕ} → k ≡ state i h .core .joypad → r ≡ polled k (getD i 0x100 0) (getD i 0x10F 0)

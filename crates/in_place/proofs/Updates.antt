@@ -31,7 +31,7 @@ use Rattle.timer.specs.declared.Periods.{Periods}
 use Rattle.timer.specs.declared.Timer.{Timer}
 use Rattle.in_place.specs.Held.{Held}
 use Rattle.in_place.specs.Steps.{steppedAt, steppedIn}
-use Rattle.in_place.proofs.Groups.{timer-in, timer-image}
+use Rattle.in_place.proofs.Groups.{timerRead, timer-in, timer-image}
 use Rattle.in_place.proofs.Images.{state, held, byte, core, put-joypad}
 
 -- no step: both bytes are put as they are
@@ -64,16 +64,7 @@ module _ (i : List ℕ) (h : Held i) where
   module _ (n : ℕ) {c : Clock} (e : c ≡ clockOf (fields i)) {d : Divided} (p : d ≡ dividedOf ((256 * getD i 0x104 0 + c .div + n) % 65536))
       {q : Periods} (f : q ≡ periodsIn (getD i 0x107 0) (c .tima) n) where
     abbrev read : Timer
-    read =
-        record {
-          div = getD i 0x104 0;
-          tima = getD i 0x105 0;
-          tma = getD i 0x106 0;
-          tac = getD i 0x107 0;
-          flags = getD i 0x10F 0;
-          «div_cycles» = c .div;
-          «tima_cycles» = c .tima;
-        }
+    read = timerRead i c
 
     read-ready : Ready read
     read-ready = rw (timer-in i h e) ready
@@ -103,8 +94,7 @@ module _ (i : List ℕ) (h : Held i) where
     pub timer-updated : {j k : List ℕ} → j ≡ steppedIn (set i 0x104 (d .div)) (q .full) → k ≡ clockPut j (record { div = d .cycles; tima = q .rest })
         → k ≡ imageOf (withTimer (state i h) (updated (timerOf (state i h)) n))
     timer-updated a b =
-        let r = after-ready in
-        timer-image i h after (r .div) (r .tima) (r .flags) (r .div-cycles) (r .tima-cycles) (rw (a, step-beside i (d .div) (q .full)) at b)
+        timer-image i h after after-ready (rw (a, step-beside i (d .div) (q .full)) at b)
         ∙ ap (λ (u : Timer). imageOf (withTimer (state i h) u)) (sym is-after ∙ ap (λ (u : Timer). updated u n) (timer-in i h e))
 
   pub left-in : {c : Clock} → c ≡ clockOf (fields i) → {r : ℕ} → r ≡ cyclesLeft (getD i 0x107 0) (getD i 0x105 0) (c .tima)

@@ -134,7 +134,7 @@ pub fn periods_in(tac: u8, rest: u16, cycles: u32) -> Periods
 }
 
 fn update_tima(timer: Timer, cycles: u32) -> Timer
-    requires { ⌜ (timer .«tima_cycles» < 1024) × (cycles ≤ 65536) ⌝ }
+    requires { ⌜ cycles ≤ 65536 ⌝ }
     ensures { λ r. ⌜ r ≡ counted timer cycles ⌝ }
 {
     let periods = periods_in(timer.tac, timer.tima_cycles, cycles);

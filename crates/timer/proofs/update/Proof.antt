@@ -1,6 +1,5 @@
 -- The two refusals, and DIV's part and TIMA's part after them: the call's law in each case.
 use mathlib.Core.Path.{sym}
-use Rattle.timer.specs.Timer.{divided}
 use Rattle.timer.proofs.Laws.{call-refused, call-too-long, call-done}
 use native.Mathlib.Omega.{arith}
 use borrow.Author.Needs.{needs}
@@ -17,8 +16,7 @@ update-div-requires : tie.Need-update-div-requires
 update-div-requires c κs = search needs
 
 update-tima-requires : tie.Need-update-tima-requires
-unfolding divided
-update-tima-requires c κs = rw (c .update-div .ensures) (search needs)
+update-tima-requires c κs = search needs
 
 returns-3 : tie.Need-returns-3
 returns-3 c =
