@@ -4,4 +4,6 @@ pub mod Starts
 pub mod Opened
 pub mod Rows
 pub mod Zero
+pub mod Calls
 pub mod Sprites
+pub mod Video

@@ -11,7 +11,6 @@ use borrow.Author.Tests.{lt-ltb, le-ltb, ltb-true, ltb-false, eqb-true, eqb-fals
 use Rattle.bus.specs.Calls.{Outcome, unless}
 use Rattle.copies.specs.Copies.{oamCopy}
 use Rattle.copies.specs.PanDocs.{oamPages}
-use Rattle.dispatch.proofs.Numbered.{by-unless}
 use Rattle.dispatch.proofs.Open.{read-number, write-number, write-good}
 use Rattle.dispatch.specs.Step.{step}
 use Rattle.dispatch.specs.declared.Call.{Call}
@@ -22,12 +21,13 @@ use Rattle.mmu.specs.Access.{readIn, put}
 use Rattle.mmu.specs.Write.{copyBy, transferred, writeAt, wordAt}
 use Rattle.numbers.specs.Numbers.{done}
 use Rattle.refusals.specs.Answers.{byteGiven}
-use Rattle.refusals.specs.Refusal.{orElse, refusedRead, refusedWrite, inSave, inSound, byteRoom, eitherInSave, wordRoom, byteOwed, wordOwed}
+use Rattle.refusals.specs.Refusal.{refusedRead, refusedWrite, inSave, inSound, byteRoom, eitherInSave, wordRoom, byteOwed, wordOwed}
 use Rattle.registers.specs.Register.{registerOf}
 use Rattle.registers.specs.State.{onScreen}
 use Rattle.registers.specs.Transfers.{copyOf, finished}
 use Rattle.rules.proofs.Tests.{by-cond}
 use Rattle.corners.specs.Laws.{called, byte, low, high, Sprites}
+use Rattle.corners.proofs.Calls.{refused-by, let-in, or-none}
 use Rattle.corners.proofs.Oam.{laid, read-apart, pageOf, transfer-some, transfer-none}
 
 -- what is laid, read back
@@ -119,17 +119,6 @@ module _ (x : Fixed) (w : World) (v : ℕ) (l : length (w .state .oam) ≡ 256) 
       (λ i. d i ∙ ap (λ (o : List ℕ). cond (ltb (v / 256) oamPages && ltb i 160) (readIn x u (v / 256 * 256 + i)) (getD o i 0)) e)
 
 -- the calls
-
--- where a call has no number of its own, what refuses it is its number
-refused-by : (n : ℕ) (w : World) (o : Outcome) → o .number ≡ done → unless n w o .number ≡ n
-refused-by n w o d = by-unless (λ (a : Outcome). a .number ≡ n) n w o (λ z. d ∙ sym z) (λ h. refl)
-
-let-in : (n : ℕ) (w : World) (o : Outcome) → n ≡ done → unless n w o ≡ o
-let-in n w o z = by-unless (λ (a : Outcome). a ≡ o) n w o (λ e. refl) (λ h. absurd (h z))
-
-or-none : (n : ℕ) → orElse n done ≡ n
-unfolding orElse
-or-none n = by-cond (λ (k : ℕ). k ≡ n) (eqb n done) done n (λ t. sym (eqb-true n done t)) (λ f. refl)
 
 module _ (x : Fixed) (w : World) where
   read-value : refusedWrite x w ≡ done → (i : ℕ) → readIn x w i ≡ step x w (call.ReadByte i) .value

@@ -2,8 +2,14 @@
 ghost use Rattle.mbc.specs.Mbc.{OneField};
 ghost use Rattle.corners.specs.Table.{Corners};
 ghost use Rattle.corners.specs.Laws.{ZeroRefused, FreshAccepted, CodeFour, Buttons, Sprites};
+ghost use Rattle.corners.specs.Transfers.{TransferLeaves, InBank};
 
 // The theorem of specs/Table.antt, the laws of specs/Laws.antt and that of Mbc5's bank (crate mbc), as a contract: its proof hands them over.
 pub fn corners_hold()
     ensures { λ _. ⌜ Corners × ZeroRefused × FreshAccepted × CodeFour × Buttons × Sprites × OneField ⌝ }
+{}
+
+// What the transfers leave (specs/Transfers.antt).
+pub fn transfers_hold()
+    ensures { λ _. ⌜ TransferLeaves × InBank ⌝ }
 {}

@@ -1,0 +1,10 @@
+-- The laws are those of proofs/Video.antt.
+use Rattle.corners.proofs.Video.{transfer-leaves, in-bank}
+use Rattle.corners.proofs.transfers_hold.Statement.{statement}
+use Rattle.corners.proofs.transfers_hold.Tie as tie
+
+returns : tie.Need-returns
+returns c = (transfer-leaves, in-bank)
+
+pub transfers-hold-spec : {M : Type 1} → statement M
+transfers-hold-spec = tie.close (tie.spec returns)
