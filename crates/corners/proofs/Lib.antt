@@ -1,3 +1,4 @@
+pub mod Bytes
 pub mod Oam
 pub mod Quick
 pub mod Starts

@@ -1,8 +1,7 @@
 -- A fresh bus, over any bytes: every call can be made on it, so a row holds if what is seen quickly is due.
 use mathlib.Core.Bool.{Bool, true, false}
 use mathlib.Core.List.{List, [], _∷_, map}
-use mathlib.Core.Path.{_≡_, refl, ap}
-use Prim.Native.Nat.{ℕ, zero, suc}
+use mathlib.Core.Path.{_≡_, refl}
 use native.Mathlib.Omega.{arith}
 use lib.ListN.{length, replicate, length-replicate}
 use borrow.Author.Tests.{eq-eqb, le-leb}
@@ -20,12 +19,8 @@ use Rattle.numbers.specs.Numbers.{done}
 use Rattle.refusals.specs.Refusal.{orElse, lentRefused, lengthsFit, lengthsRefused, logRefused}
 use Rattle.savelog.specs.Log.{useInRange}
 use Rattle.corners.specs.Rows.{Lent, bytes, logLen, Description, Line, freshOn, fixedOn, seenOn, due, dueOn}
+use Rattle.corners.proofs.Bytes.{bytes-length}
 use Rattle.corners.proofs.Quick.{quickly, seen-quickly}
-
-bytes-length : (f : ℕ → ℕ) (at n : ℕ) → length (bytes f at n) ≡ n
-unfolding bytes
-bytes-length f at zero = refl
-bytes-length f at (suc n) = ap suc (bytes-length f (suc at) n)
 
 abbrev cartridge : Description → Cartridge
 cartridge d = mbc.cartridgeOf (d .banks) (d .code)

@@ -1,8 +1,8 @@
--- A transfer to video memory: each of its bytes is stored in video memory alone, and its end sets FF51..FF55 and what is hidden of HDMA. One induction over
--- the bytes, and one look at what a write of FF55 may do.
+-- A transfer to video memory: each of its bytes is stored in video memory alone, and its end sets FF51..FF55 and what is hidden of HDMA. One
+-- induction over the bytes, and one look at what a write of FF55 may do.
 use mathlib.Core.Bool.{Bool, true, false, cond, not, _&&_}
 use mathlib.Core.Path.{_≡_, refl, sym, ap, subst, _∙_}
-use Prim.Native.Nat.{ℕ, zero, suc, _+_, _/_, _%_, _<_, _≤_}
+use Prim.Native.Nat.{ℕ, zero, suc, _+_, _-_, _/_, _%_, _<_, _≤_}
 use native.Mathlib.Omega.{arith}
 use lib.Dec.{eqb}
 use lib.ListN.{length, getD, set, length-set}
@@ -20,6 +20,7 @@ use Rattle.hdma.specs.PanDocs.{lengthOf, hblank}
 use Rattle.hdma.specs.declared.Ended.{Ended}
 use Rattle.hdma.specs.declared.Hdma.{Hdma}
 use Rattle.hdma.specs.declared.Start.the-variants as start
+use Rattle.hdma.specs.declared.Written.{Written}
 use Rattle.memory.proofs.Regions.{region-at}
 use Rattle.memory.specs.Region.{regionOf}
 use Rattle.memory.specs.World.{World, Fixed, withHdma, hdmaIn}
@@ -88,7 +89,8 @@ ended-registers m e =
     registers-trans (one-register 0x55 0x51 (omega arith) (omega arith) m h (e .r51))
     (registers-trans (one-register 0x55 0x52 (omega arith) (omega arith) _ h (e .r52))
     (registers-trans (one-register 0x55 0x53 (omega arith) (omega arith) _ h (e .r53))
-    (registers-trans (one-register 0x55 0x54 (omega arith) (omega arith) _ h (e .r54)) (one-register 0x55 0x55 (omega arith) (omega arith) _ h (e .r55)))))
+    (registers-trans (one-register 0x55 0x54 (omega arith) (omega arith) _ h (e .r54))
+    (one-register 0x55 0x55 (omega arith) (omega arith) _ h (e .r55)))))
 
 finished-registers : (m : Memory) (k : Finish) (v : ℕ) → OnlyRegisters 0x55 m (finished m k v)
 unfolding finished
@@ -111,7 +113,8 @@ video-refl : (last place count : ℕ) (w : World) → OnlyVideo last place count
 video-refl last place count w =
     record { state = registers-refl last (w .state); vram = λ i h. refl; size = refl; wram = refl; save = refl; log = refl }
 
-video-trans : {last place count : ℕ} {w u y : World} → OnlyVideo last place count w u → OnlyVideo last place count u y → OnlyVideo last place count w y
+video-trans : {last place count : ℕ} {w u y : World} → OnlyVideo last place count w u → OnlyVideo last place count u y
+    → OnlyVideo last place count w y
 video-trans a b =
     record {
       state = registers-trans (a .state) (b .state);
@@ -162,7 +165,8 @@ abbrev Falls : ℕ → ℕ → ℕ → ℕ → Type 0
 Falls bank place destination k = ((0x8000 ≤ destination + k) × (destination + k < 0xA000)) × (vramAt bank (destination + k) ≡ place + k)
 
 module _ (x : Fixed) (d : ℕ) where
-  write-vram : (w : World) (i v : ℕ) → 0x8000 ≤ i → i < 0xA000 → writeAt x d w i v ≡ inVram w (set (w .vram) (vramAt (w .state .core .banks .vram) i) v)
+  write-vram : (w : World) (i v : ℕ) → 0x8000 ≤ i → i < 0xA000
+      → writeAt x d w i v ≡ inVram w (set (w .vram) (vramAt (w .state .core .banks .vram) i) v)
   write-vram w i v a b = write-plain x w d i v (λ e. omega arith) (λ e. omega arith) ∙ sym (put-by w i v (region-at Vram i (a, b)) refl)
 
   laid-more : (place n destination v : ℕ) (w u : World) → Falls (w .state .core .banks .vram) place destination n → Laid place n w u
@@ -210,60 +214,76 @@ module _ (m : Memory) where
       let b = destination-bounds (m .core .hdma) in
       (refl, λ k h. ((omega (arith, b), omega (arith, b)), omega (arith, b)))
 
-  general-falls : (v : ℕ) → FallsAll (m .core .banks .vram) (placeOf m) (generalCopy m v) (landed (destinationUsed (m .core .hdma)) (lengthOf v))
-  general-falls v =
-      let b = destination-bounds (m .core .hdma) in
-      (refl, λ k h. ((omega (arith, b), omega (arith, b)), omega (arith, b)))
+  module _ (v : ℕ) where
+    abbrev all : ℕ
+    all = landed (destinationUsed (m .core .hdma)) (lengthOf v)
 
-  -- what a write of FF55 may do, with how many bytes land by it
-  module _ (v : ℕ) (P : Started → ℕ → Type 0) where
-    by-started : P (record { memory = stored m 0x55 v; copy = nothing }) 0
-        → P (record { memory = transferPut m 0x55 (running (m .core .hdma) v); copy = nothing }) 0
-        → P (record { memory = transferPut m 0x55 (stopped (m .core .hdma)); copy = nothing }) 0
-        → P (record { memory = transferPut m 0x55 (running (m .core .hdma) v); copy = blockCopy m }) blockBytes
-        → P (record { memory = m; copy = generalCopy m v }) (landed (destinationUsed (m .core .hdma)) (lengthOf v))
-        → P (started m v) (landsBy m v)
-    unfolding started starts firstBlock landsBy
-    by-started p s t b g = by-tests (m .core .banks .colour) (m .core .hdma .on) (hblank v) (eqb (m .core .lcd .mode) 0)
-      where
-        by-tests : (c o h z : Bool)
-            → P
-            (cond c
-            (startedBy m v
-            (cond (not o && not h) start.General
-            (cond h
-            (cond o (start.Set (running (m .core .hdma) v)) (cond z (start.Block (running (m .core .hdma) v)) (start.Set (running (m .core .hdma) v))))
-            (start.Set (stopped (m .core .hdma))))))
-            (record { memory = stored m 0x55 v; copy = nothing }))
-            (cond (c && not o) (cond h (cond z blockBytes 0) (landed (destinationUsed (m .core .hdma)) (lengthOf v))) 0)
-        by-tests false o h z = p
-        by-tests true true true z = s
-        by-tests true true false z = t
-        by-tests true false true true = b
-        by-tests true false true false = s
-        by-tests true false false z = g
+    general-falls : FallsAll (m .core .banks .vram) (placeOf m) (generalCopy m v) all
+    general-falls =
+        let b = destination-bounds (m .core .hdma) in
+        (refl, λ k h. ((omega (arith, b), omega (arith, b)), omega (arith, b)))
+
+    -- what a write of FF55 may do, with how many bytes land by it
+
+    abbrev on : Written
+    on = running (m .core .hdma) v
+
+    abbrev off : Written
+    off = stopped (m .core .hdma)
+
+    module _ (P : Started → ℕ → Type 0) where
+      by-started : P (record { memory = stored m 0x55 v; copy = nothing }) 0
+          → P (record { memory = transferPut m 0x55 on; copy = nothing }) 0
+          → P (record { memory = transferPut m 0x55 off; copy = nothing }) 0
+          → P (record { memory = transferPut m 0x55 on; copy = blockCopy m }) blockBytes
+          → P (record { memory = m; copy = generalCopy m v }) all
+          → P (started m v) (landsBy m v)
+      unfolding started starts firstBlock landsBy
+      by-started p s t b g = by-tests (m .core .banks .colour) (m .core .hdma .on) (hblank v) (eqb (m .core .lcd .mode) 0)
+        where
+          by-tests : (c o h z : Bool)
+              → P
+              (cond c
+              (startedBy m v
+              (cond (not o && not h) start.General
+              (cond h (cond o (start.Set on) (cond z (start.Block on) (start.Set on))) (start.Set off))))
+              (record { memory = stored m 0x55 v; copy = nothing }))
+              (cond (c && not o) (cond h (cond z blockBytes 0) all) 0)
+          by-tests false o h z = p
+          by-tests true true true z = s
+          by-tests true true false z = t
+          by-tests true false true true = b
+          by-tests true false true false = s
+          by-tests true false false z = g
 
 -- the writes
 
 module _ (x : Fixed) (w : World) where
+  -- the bytes of a transfer, after what its write stored
+  module _ (v : ℕ) (c : Copy) (count : ℕ) (f : FallsAll (w .state .core .banks .vram) (placeOf (w .state)) c count) where
+    abbrev then-copied : Memory → World
+    then-copied m = transferred x (writeAt x 1) c v (inState w m)
+
+    after-stored : OnlyVideo 0x55 (placeOf (w .state)) count w (then-copied (stored (w .state) 0x55 v))
+    after-stored =
+        let m = stored (w .state) 0x55 v in
+        video-trans (video-state w m (stored-register 0x55 0x55 (omega arith) (omega arith) (w .state) v))
+        (transfer-video x (inState w m) (placeOf (w .state)) count c f v)
+
+    after-switch : (s : Written) → OnlyVideo 0x55 (placeOf (w .state)) count w (then-copied (transferPut (w .state) 0x55 s))
+    after-switch s =
+        let m = transferPut (w .state) 0x55 s in
+        video-trans (video-state w m (one-register 0x55 0x55 (omega arith) (omega arith) (w .state) (s .hdma) (s .byte)))
+        (transfer-video x (inState w m) (placeOf (w .state)) count c f v)
+
   byte-video : (v : ℕ) → OnlyVideo 0x55 (placeOf (w .state)) (landsBy (w .state) v) w (writeAt x 2 w 0xFF55 v)
   unfolding writeAt copyOf regionOf registerOf
   byte-video v =
       let m = w .state in
       by-started m v (λ (s : Started) (n : ℕ). OnlyVideo 0x55 (placeOf m) n w (transferred x (writeAt x 1) (s .copy) v (inState w (s .memory))))
-      (after-state (stored m 0x55 v) nothing 0 (stored-register 0x55 0x55 (omega arith) (omega arith) m v) (none-falls _ _))
-      (after-switch (running (m .core .hdma) v .hdma) (running (m .core .hdma) v .byte) nothing 0 (none-falls _ _))
-      (after-switch (stopped (m .core .hdma) .hdma) (stopped (m .core .hdma) .byte) nothing 0 (none-falls _ _))
-      (after-switch (running (m .core .hdma) v .hdma) (running (m .core .hdma) v .byte) (blockCopy m) blockBytes (block-falls m))
-      (after-state m (generalCopy m v) _ (registers-refl 0x55 m) (general-falls m v))
-    where
-      after-state : (n : Memory) (c : Copy) (count : ℕ) → OnlyRegisters 0x55 (w .state) n → FallsAll (n .core .banks .vram) (placeOf (w .state)) c count
-          → OnlyVideo 0x55 (placeOf (w .state)) count w (transferred x (writeAt x 1) c v (inState w n))
-      after-state n c count r f = video-trans (video-state w n r) (transfer-video x (inState w n) (placeOf (w .state)) count c f v)
-
-      after-switch : (h : Hdma) (b : ℕ) (c : Copy) (count : ℕ) → FallsAll (w .state .core .banks .vram) (placeOf (w .state)) c count
-          → OnlyVideo 0x55 (placeOf (w .state)) count w (transferred x (writeAt x 1) c v (inState w (withHdma (w .state) h (set (w .state .page) 0x55 b))))
-      after-switch h b c count f = after-state _ c count (one-register 0x55 0x55 (omega arith) (omega arith) (w .state) h b) f
+      (after-stored v nothing 0 (none-falls _ _)) (after-switch v nothing 0 (none-falls _ _) (on m v)) (after-switch v nothing 0 (none-falls _ _) (off m v))
+      (after-switch v (blockCopy m) blockBytes (block-falls m) (on m v))
+      (transfer-video x w (placeOf m) (all m v) (generalCopy m v) (general-falls m v) v)
 
   -- FF54 and FF56 alone
   lower : (v : ℕ) → writeAt x 2 w 0xFF54 v ≡ inState w (destinationLowPut (w .state) v)
@@ -299,7 +319,8 @@ module _ (x : Fixed) (w : World) (v : ℕ) where
 module _ (x : Fixed) (w : World) where
   -- a call by the world that it leaves where nothing refuses it
   call-video : (last place count n : ℕ) (o : Outcome) → OnlyVideo last place count w (o .after) → OnlyVideo last place count w (unless n w o .after)
-  call-video last place count n o v = by-unless (λ (a : Outcome). OnlyVideo last place count w (a .after)) n w o (λ z. v) (λ h. video-refl last place count w)
+  call-video last place count n o v =
+      by-unless (λ (a : Outcome). OnlyVideo last place count w (a .after)) n w o (λ z. v) (λ h. video-refl last place count w)
 
   word-high : (v : ℕ) → OnlyVideo 0x55 (placeOf (step x w (call.WriteByte 0xFF54 (v % 256)) .after .state))
       (landsBy (step x w (call.WriteByte 0xFF54 (v % 256)) .after .state) (v / 256)) w (step x w (call.WriteWord 0xFF54 v) .after)
@@ -328,9 +349,12 @@ transfer-leaves x w =
 pub in-bank : InBank
 in-bank m =
     let b = destination-bounds (m .core .hdma) in (
-      (omega (arith, b), omega (arith, b)),
-      λ v. by-started m v (λ (s : Started) (n : ℕ). Within m n) none none none (omega (arith, b), omega (arith, b)) (omega (arith, b), omega (arith, b)),
+      fits blockBytes (omega (arith, b)),
+      λ v.
+          fits (landsBy m v)
+          (by-started m v (λ (s : Started) (n : ℕ). n ≤ 0xA000 - destinationUsed (m .core .hdma)) (omega arith) (omega arith) (omega arith)
+          (omega (arith, b)) (omega arith)),
     )
   where
-    none : Within m 0
-    none = let b = destination-bounds (m .core .hdma) in (omega (arith, b), omega (arith, b))
+    fits : (n : ℕ) → n ≤ 0xA000 - destinationUsed (m .core .hdma) → Within m n
+    fits n h = let b = destination-bounds (m .core .hdma) in (omega (arith, b), omega (arith, b))

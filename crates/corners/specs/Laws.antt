@@ -1,13 +1,10 @@
 -- What is promised beside the corners: `corners_hold` has it as its contract too.
-use mathlib.Core.Bool.{Bool, true, cond, _&&_}
+use mathlib.Core.Bool.{Bool, true}
 use mathlib.Core.Path.{_≡_}
-use Prim.Native.Nat.{ℕ, _+_, _*_, _/_, _%_}
-use lib.Dec.{ltb}
-use lib.ListN.{length, getD}
+use Prim.Native.Nat.{ℕ}
 use Rattle.bus.specs.Calls.{outcome}
 use Rattle.dispatch.specs.Step.{step}
 use Rattle.dispatch.specs.declared.Call.{Call}
-use Rattle.dispatch.specs.declared.Call.the-variants as call
 use Rattle.joypad.specs.Joypad as joypad
 use Rattle.joypad.specs.PanDocs.{lowFour}
 use Rattle.joypad.specs.declared.Controller.{Controller}
@@ -17,7 +14,6 @@ use Rattle.memory.specs.Ranges.{inRange}
 use Rattle.memory.specs.Start.{zeroed, started}
 use Rattle.memory.specs.World.{World, Fixed}
 use Rattle.numbers.specs.Numbers.{done, outOfRange}
-use Rattle.refusals.specs.Refusal.{refusedWrite}
 
 -- Document 01, number 3: "the all-zero state, itself refused by 3", by every call, which then changes nothing
 abbrev pub ZeroRefused : Type 0
@@ -51,24 +47,3 @@ pub record Buttons : Type 0 where
   pub actions : (lowFour 0x10 0xEB ≡ 0xE) × (joypad.padRead 0x10 0xEB ≡ 0x1E)
   pub neither : (lowFour 0x30 0xEB ≡ 0xF) × (joypad.padRead 0x30 0xEB ≡ 0x3B)
   pub both : (lowFour 0x00 0xEB ≡ 0xA) × (joypad.padRead 0x00 0xEB ≡ 0x0B)
-
--- The calls that make an OAM DMA, each with its page: its own call, a byte write of FF46, a word write of which either half is FF46
-pub data Transfers : Call → ℕ → Type 0 where
-  called : (page : ℕ) → Transfers (call.DoDmaTransfer page) page
-  byte : (page : ℕ) → Transfers (call.WriteByte 0xFF46 page) page
-  low : (word : ℕ) → Transfers (call.WriteWord 0xFF46 word) (word % 256)
-  high : (word : ℕ) → Transfers (call.WriteWord 0xFF45 word) (word / 256)
-
--- Pan Docs, "OAM DMA Transfer", and document 02, wish 1: it is refused by 3 and 4 as every write is, and by no other number. Where it is not, of a page below
--- E0 OAM's byte i is what a read of page x 256 + i gave before, for i below 160; the other 96 stay, and of a page from E0 on all do. OAM has 256 bytes, as its
--- type says.
-abbrev pub Sprites : Type 0
-Sprites =
-    (x : Fixed) (w : World) (c : Call) (page : ℕ)
-    → Transfers c page
-    → length (w .state .oam) ≡ 256
-    → (step x w c .number ≡ refusedWrite x w)
-    × (refusedWrite x w ≡ done
-    → (i : ℕ)
-    → getD (step x w c .after .state .oam) i 0
-    ≡ cond (ltb page 0xE0 && ltb i 160) (step x w (call.ReadByte (page * 256 + i)) .value) (getD (w .state .oam) i 0))

@@ -1,9 +1,8 @@
--- The corners are those of proofs/Rows.antt; the laws are those of proofs/Zero.antt, proofs/Sprites.antt and of the crates below.
+-- The corners are those of proofs/Rows.antt; the laws are those of proofs/Zero.antt and of the crates below.
 use Rattle.joypad.proofs.Corners.{second-press, directions-selected, actions-selected, neither-selected, both-selected}
 use Rattle.mbc.proofs.Cases.Mbc5Exact.{one-field}
 use Rattle.memory.proofs.Laws.{fresh-in-range}
 use Rattle.corners.proofs.Rows.{corners}
-use Rattle.corners.proofs.Sprites.{sprites}
 use Rattle.corners.proofs.Zero.{zero-closed, code-four}
 use Rattle.corners.proofs.corners_hold.Statement.{statement}
 use Rattle.corners.proofs.corners_hold.Tie as tie
@@ -21,7 +20,6 @@ returns c = (
     neither = neither-selected;
     both = both-selected;
   },
-  sprites,
   one-field,
 )
 
