@@ -48,13 +48,14 @@ laid-bytes f at (suc n) o h =
 -- of what is read, that below E000 counts
 oam-same : (f g : ℕ → ℕ) (page : ℕ) (o : List ℕ) → ((i : ℕ) → i < 0xE000 → f i ≡ g i) → oamBy f page o ≡ oamBy g page o
 unfolding oamBy
-oam-same f g page o s = by-page (ltb page 0xE0) refl
+oam-same f g page o s = by-page _ _ (omega arith) (ltb page 0xE0) refl
   where
-    by-page : (b : Bool) → ltb page 0xE0 ≡ b → cond b (bytes f (page * 256) 160 ++ drop 160 o) o ≡ cond b (bytes g (page * 256) 160 ++ drop 160 o) o
-    by-page true t =
+    by-page : (n : ℕ) (rest : List ℕ) → n ≤ 256 → (b : Bool) → ltb page 0xE0 ≡ b
+        → cond b (bytes f (page * 256) n ++ rest) o ≡ cond b (bytes g (page * 256) n ++ rest) o
+    by-page n rest l true t =
         let p = ltb-true page 0xE0 t in
-        ap (λ (l : List ℕ). l ++ drop 160 o) (bytes-same f g (page * 256) 160 (λ i h. s i (omega arith)))
-    by-page false e = refl
+        ap (λ (l : List ℕ). l ++ rest) (bytes-same f g (page * 256) n (λ i h. s i (omega arith)))
+    by-page n rest l false e = refl
 
 -- the transfer and the writes
 

@@ -281,7 +281,8 @@ module _ (x : Fixed) (w : World) where
   byte-video v =
       let m = w .state in
       by-started m v (λ (s : Started) (n : ℕ). OnlyVideo 0x55 (placeOf m) n w (transferred x (writeAt x 1) (s .copy) v (inState w (s .memory))))
-      (after-stored v nothing 0 (none-falls _ _)) (after-switch v nothing 0 (none-falls _ _) (on m v)) (after-switch v nothing 0 (none-falls _ _) (off m v))
+      (after-stored v nothing 0 (none-falls _ _)) (after-switch v nothing 0 (none-falls _ _) (on m v))
+      (after-switch v nothing 0 (none-falls _ _) (off m v))
       (after-switch v (blockCopy m) blockBytes (block-falls m) (on m v))
       (transfer-video x w (placeOf m) (all m v) (generalCopy m v) (general-falls m v) v)
 
