@@ -2,6 +2,7 @@ pub mod ColorLaws
 pub mod Parts
 pub mod FieldLaws
 pub mod StateLaws
+pub mod Known
 pub mod LoadLaws
 pub mod Round
 pub mod OpenLaws

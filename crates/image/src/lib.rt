@@ -7,6 +7,7 @@ ghost use lib.ListN.{length, take};
 ghost use Rattle.numbers.specs.Numbers.{done};
 ghost use Rattle.image.specs.Layout.{imageLen, imageOf};
 ghost use Rattle.image.specs.Load.{storable, stored, storeCall, loaded, stateOf, loadCall, openedOf, openCall};
+ghost use Rattle.image.specs.Known.{Known};
 ghost use Rattle.image.specs.Laws.{Typed, StateBack, ImageBack, ImageTyped};
 ghost use Rattle.image.specs.Patches.{arraysOf, Mapped};
 ghost use Rattle.memory.specs.Start.{zeroed};
@@ -226,7 +227,7 @@ pub fn decode(image: &[u8]) -> Loaded
     }
 }
 
-// The laws of specs/Laws.antt, as a contract: its proof hands them over.
+// The laws of specs/Laws.antt and the images of specs/Known.antt, as a contract: its proof hands them over.
 pub fn laws_hold()
-    ensures { λ _. ⌜ StateBack × ImageBack × ImageTyped ⌝ }
+    ensures { λ _. ⌜ StateBack × ImageBack × ImageTyped × Known ⌝ }
 {}
