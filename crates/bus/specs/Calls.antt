@@ -1,9 +1,12 @@
 -- What a call leaves, and the calls that read what is lent, each whole: number and value (document 01, "Numbers a call gives back", "The bus").
 use mathlib.Core.Bool.{cond}
+use mathlib.Core.List.{List}
+use mathlib.Core.Path.{_≡_}
 use Prim.Native.Nat.{ℕ}
 use lib.Dec.{eqb}
 use lib.ListN.{length, getD}
-use Rattle.memory.specs.World.{World, Fixed}
+use Rattle.memory.specs.World.{World, world, Fixed}
+use Rattle.memory.specs.declared.Memory.{Memory}
 use Rattle.mmu.specs.Access.{readIn, readWord}
 use Rattle.mmu.specs.PanDocs.{vramAt}
 use Rattle.numbers.specs.Numbers.{done}
@@ -20,6 +23,24 @@ pub record Outcome : Type 0 where
 
 abbrev pub outcome : ℕ → ℕ → World → Outcome
 outcome n v w = record { number = n; value = v; after = w }
+
+-- the memories that a call may write, and the world that they make with a state
+pub record Buffers : Type 0 where
+  pub vram : List ℕ
+  pub wram : List ℕ
+  pub save : List ℕ
+  pub log : List ℕ
+
+abbrev pub buffers : List ℕ → List ℕ → List ℕ → List ℕ → Buffers
+buffers v w s l = record { vram = v; wram = w; save = s; log = l }
+
+abbrev pub holding : Memory → Buffers → World
+holding m b = world m (b .vram) (b .wram) (b .save) (b .log)
+
+-- Document 01, "How much a contract must say": "no second outcome fits". Of what a contract says of a call's result and of the memories as the call leaves
+-- them: two that meet it are the same.
+abbrev pub OnlyOne : {R B : Type 0} → (R → B → Type 0) → Type 0
+OnlyOne {R} {B} says = (p q : R) (a b : B) → says p a → says q b → (p ≡ q) × (a ≡ b)
 
 -- a refused call gives 0 and leaves the world as it was
 unfoldable pub unless : ℕ → World → Outcome → Outcome

@@ -1,6 +1,7 @@
 -- A fresh bus (document 01, "Cartridge and buffers", and numbers 3 and 4).
 use mathlib.Core.Bool.{Bool, cond}
 use mathlib.Core.List.{List}
+use mathlib.Core.Path.{_≡_}
 use Prim.Native.Nat.{ℕ}
 use lib.Dec.{eqb}
 use lib.ListN.{length, replicate}
@@ -9,6 +10,8 @@ use Rattle.memory.specs.Start.{zeroed, started}
 use Rattle.memory.specs.declared.Memory.{Memory}
 use Rattle.numbers.specs.Numbers.{done}
 use Rattle.refusals.specs.Refusal.{orElse, lentRefused}
+use Rattle.refusals.specs.declared.Done.{Done}
+use Rattle.bus.specs.Calls.{OnlyOne}
 
 -- the number, the state, and video and work memory as they are left; ROM, save, log and sound window are lent for reading
 pub record Begun : Type 0 where
@@ -39,3 +42,14 @@ freshCall kind banks code colour rom v w save log sound =
     beginning
     (freshRefused (fresh kind banks code .number) (startedBy kind banks code colour) rom (length v) (length w) save sound log)
     (startedBy kind banks code colour) v w
+
+-- what is promised of `fresh`: of its result, and of video and work memory as it leaves them
+abbrev pub Starts : ℕ → ℕ → ℕ → Bool → ℕ → List ℕ → List ℕ → ℕ → ℕ → ℕ → Done → List ℕ × List ℕ → Type 0
+Starts kind banks code colour rom v w save log sound r left =
+    begun (r .number) (r .memory) (left .0) (left .1) ≡ freshCall kind banks code colour rom v w save log sound
+
+-- no second outcome fits
+abbrev pub OneStart : Type 0
+OneStart =
+    (kind banks code : ℕ) (colour : Bool) (rom : ℕ) (v w : List ℕ) (save log sound : ℕ)
+    → OnlyOne (Starts kind banks code colour rom v w save log sound)

@@ -1,7 +1,7 @@
 // A fresh bus over lent memories: the Rust's `from_cartridge`. Video and work memory are zeroed; save and log bytes are kept, log use is 0.
 ghost use mathlib.Core.Path.{_≡_};
 ghost use lib.ListN.{length, replicate};
-ghost use Rattle.bus.specs.Fresh.{freshRefused, freshCall, begun};
+ghost use Rattle.bus.specs.Fresh.{freshRefused, Starts, OneStart};
 use mbc::Mapper;
 use memory::Memory;
 use refusals::Done;
@@ -46,7 +46,8 @@ pub fn fresh(
     log: &[u8],
     sound: &[u8],
 ) -> Done
-    ensures { λ r. ⌜ begun (r .number) (r .memory) (now (vram .exit)) (now (wram .exit)) ≡ freshCall kind banks code colour (length (now (rom .entry))) (now (vram .entry)) (now (wram .entry)) (length (now (save .entry))) (length (now (log .entry))) (length (now (sound .entry))) ⌝ }
+    ensures { λ r. ⌜ Starts kind banks code colour (length (now (rom .entry))) (now (vram .entry)) (now (wram .entry))
+        (length (now (save .entry))) (length (now (log .entry))) (length (now (sound .entry))) r (now (vram .exit), now (wram .exit)) ⌝ }
 {
     let made = Mapper::fresh(kind, banks, code);
     let cartridge = made.cartridge;
@@ -75,3 +76,8 @@ pub fn fresh(
         memory: memory,
     }
 }
+
+// That no second outcome fits this contract, as a contract: its proof hands it over.
+pub fn one_start()
+    ensures { λ _. ⌜ OneStart ⌝ }
+{}

@@ -3,3 +3,4 @@ pub mod Numbered
 pub mod States
 pub mod Unchanged
 pub mod Starts
+pub mod One

