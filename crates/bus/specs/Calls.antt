@@ -37,8 +37,8 @@ buffers v w s l = record { vram = v; wram = w; save = s; log = l }
 abbrev pub holding : Memory → Buffers → World
 holding m b = world m (b .vram) (b .wram) (b .save) (b .log)
 
--- Document 01, "How much a contract must say": "no second outcome fits". Of what a contract says of a call's result and of the memories as the call leaves
--- them: two that meet it are the same.
+-- Document 01, "How much a contract must say": "no second outcome fits". Of what a contract says of a call's result and of the memories as they are left:
+-- two that meet it are the same.
 abbrev pub OnlyOne : {R B : Type 0} → (R → B → Type 0) → Type 0
 OnlyOne {R} {B} says = (p q : R) (a b : B) → says p a → says q b → (p ≡ q) × (a ≡ b)
 

@@ -3,12 +3,14 @@ use mathlib.Core.Path.{refl}
 use Rattle.bus.specs.Calls.{Outcome}
 use Rattle.bus.proofs.One.{only-one, memories, doneOf}
 use Rattle.transfer_calls.specs.Transfers.{OneMoved}
+use Rattle.transfer_calls.specs.declared.Moved.{Moved}
+
+abbrev movedOf : Outcome → Moved
+movedOf o = record { number = o .number; cycles = o .value; memory = o .after .state }
 
 pub one-moved : OneMoved
 one-moved =
     record {
       pages = λ x w page. only-one _ doneOf memories (λ r b. refl) (λ r b. refl) _;
-      blocks =
-          λ x w.
-          only-one _ (λ (o : Outcome). record { number = o .number; cycles = o .value; memory = o .after .state }) memories (λ r b. refl) (λ r b. refl) _;
+      blocks = λ x w. only-one _ movedOf memories (λ r b. refl) (λ r b. refl) _;
     }
