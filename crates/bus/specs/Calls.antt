@@ -1,7 +1,6 @@
 -- What a call leaves, and the calls that read what is lent, each whole: number and value (document 01, "Numbers a call gives back", "The bus").
 use mathlib.Core.Bool.{cond}
 use mathlib.Core.List.{List}
-use mathlib.Core.Path.{_≡_}
 use Prim.Native.Nat.{ℕ}
 use lib.Dec.{eqb}
 use lib.ListN.{length, getD}
@@ -36,11 +35,6 @@ buffers v w s l = record { vram = v; wram = w; save = s; log = l }
 
 abbrev pub holding : Memory → Buffers → World
 holding m b = world m (b .vram) (b .wram) (b .save) (b .log)
-
--- Document 01, "How much a contract must say": "no second outcome fits". Of what a contract says of a call's result and of the memories as they are left:
--- two that meet it are the same.
-abbrev pub OnlyOne : {R B : Type 0} → (R → B → Type 0) → Type 0
-OnlyOne {R} {B} says = (p q : R) (a b : B) → says p a → says q b → (p ≡ q) × (a ≡ b)
 
 -- a refused call gives 0 and leaves the world as it was
 unfoldable pub unless : ℕ → World → Outcome → Outcome

@@ -9,9 +9,9 @@ use Rattle.mbc.specs.Mbc.{fresh}
 use Rattle.memory.specs.Start.{zeroed, started}
 use Rattle.memory.specs.declared.Memory.{Memory}
 use Rattle.numbers.specs.Numbers.{done}
+use Rattle.numbers.specs.One.{OnlyOne}
 use Rattle.refusals.specs.Refusal.{orElse, lentRefused}
 use Rattle.refusals.specs.declared.Done.{Done}
-use Rattle.bus.specs.Calls.{OnlyOne}
 
 -- the number, the state, and video and work memory as they are left; ROM, save, log and sound window are lent for reading
 pub record Begun : Type 0 where

@@ -1,7 +1,8 @@
--- No second outcome: by the law of crate bus.
+-- No second outcome: by the law of crate numbers.
 use mathlib.Core.Path.{refl}
 use Rattle.bus.specs.Calls.{Outcome}
-use Rattle.bus.proofs.One.{only-one, memories}
+use Rattle.numbers.proofs.One.{only-one}
+use Rattle.bus.proofs.One.{memories}
 use Rattle.dispatch.specs.Step.{performed, OnePerformed}
 
 pub one-performed : OnePerformed

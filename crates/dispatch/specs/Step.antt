@@ -4,7 +4,7 @@ use mathlib.Core.Bool.{Bool, cond}
 use mathlib.Core.Path.{_≡_}
 use Prim.Native.Nat.{ℕ}
 use lib.Dec.{eqb}
-use Rattle.bus.specs.Calls.{Outcome, outcome, Buffers, holding, OnlyOne, readByteCall, readWordCall, readCgbLcdRamCall}
+use Rattle.bus.specs.Calls.{Outcome, outcome, Buffers, holding, readByteCall, readWordCall, readCgbLcdRamCall}
 use Rattle.input_calls.specs.Input as input
 use Rattle.interrupt.specs.PanDocs.{bitOf}
 use Rattle.interrupt.specs.declared.Pending.{Pending}
@@ -13,6 +13,7 @@ use Rattle.memory.specs.World.{World, Fixed}
 use Rattle.memory.specs.declared.Memory.{Memory}
 use Rattle.mmu.specs.Access.{inState}
 use Rattle.numbers.specs.Numbers.{done}
+use Rattle.numbers.specs.One.{OnlyOne}
 use Rattle.refusals.specs.declared.Done.{Done}
 use Rattle.refusals.specs.declared.Flag.{Flag}
 use Rattle.refusals.specs.declared.Waiting.{Waiting}

@@ -3,6 +3,7 @@ pub mod Parts
 pub mod FieldLaws
 pub mod StateLaws
 pub mod Known
+pub mod One
 pub mod LoadLaws
 pub mod Round
 pub mod OpenLaws

@@ -1,6 +1,7 @@
--- Images of five known states, byte by byte. The bytes were worked out bit by bit from document 01's sentence alone ("State image, .., most significant
--- bit first: OAM 256 bytes; high page 256; 32 background then 32 sprite colours, ..", widths as document 02 has them), not from Layout.antt: a layout with
--- two fields exchanged, alike in both directions, would pass the laws of Laws.antt, and is seen here. Any two fields of one width differ in some state.
+-- Images of five known states, byte by byte, worked out bit by bit from document 01's sentence alone ("State image, .., most significant bit first:
+-- OAM 256 bytes; high page 256; 32 background then 32 sprite colours, ..", widths as document 02 has them) and not from Layout.antt: a layout with
+-- two fields exchanged, alike in both directions, would pass the laws of Laws.antt, and is seen here. Any two fields of one width differ in some
+-- state.
 use mathlib.Core.Bool.{Bool, true, false}
 use mathlib.Core.List.{List, [], _∷_, _++_, map}
 use mathlib.Core.Path.{_≡_}
@@ -15,6 +16,7 @@ use Rattle.memory.specs.declared.Memory.{Memory}
 use Rattle.memory.specs.Start.{monochromePage, colourPage, started}
 use Rattle.palette.specs.declared.Color.{Color}
 use Rattle.image.specs.Layout.{imageOf}
+use Rattle.image.specs.Load.{storable}
 
 -- A fresh bus: OAM and colours 0, the page from the Rust's table
 
@@ -123,10 +125,13 @@ mixedMbc5Fields =
     0xBC ∷ 0x09 ∷ 0x73 ∷ 0x9A ∷ 0x2B ∷ 0x3C ∷ 0x4D ∷ 0x61 ∷ 0x38 ∷ 0x24 ∷ 0x10 ∷ 0x68 ∷ 0x1F ∷ 0xFF ∷ 0xFF ∷ 0xFF ∷ 0xC0 ∷
     0x24 ∷ 0x68 ∷ 0xAC ∷ 0xE1 ∷ 0x35 ∷ 0x79 ∷ 0xBD ∷ 0xFF ∷ 0xFF ∷ 0xFF ∷ 0x83 ∷ 0x1C ∷ 0xCA ∷ 0xAE ∷ 0xA2 ∷ 0xB3 ∷ 0xC0 ∷ []
 
+-- a state that is in range, and its bytes
+abbrev pub Is : Memory → List ℕ → Type 0
+Is m bytes = (storable m ≡ true) × (imageOf m ≡ bytes)
+
 pub record Known : Type 0 where
-  pub fresh-monochrome :
-      imageOf (started (cartridgeOf 2 2) (start kindMbc1) false) ≡ freshBytes monochromePage freshMonochrome
-  pub fresh-colour : imageOf (started (cartridgeOf 2 0) (start kindRomOnly) true) ≡ freshBytes colourPage freshColour
-  pub mbc1 : imageOf mixedMbc1 ≡ mixedBytes mixedMbc1Fields
-  pub mbc2 : imageOf mixedMbc2 ≡ mixedBytes mixedMbc2Fields
-  pub mbc5 : imageOf mixedMbc5 ≡ mixedBytes mixedMbc5Fields
+  pub fresh-monochrome : Is (started (cartridgeOf 2 2) (start kindMbc1) false) (freshBytes monochromePage freshMonochrome)
+  pub fresh-colour : Is (started (cartridgeOf 2 0) (start kindRomOnly) true) (freshBytes colourPage freshColour)
+  pub mbc1 : Is mixedMbc1 (mixedBytes mixedMbc1Fields)
+  pub mbc2 : Is mixedMbc2 (mixedBytes mixedMbc2Fields)
+  pub mbc5 : Is mixedMbc5 (mixedBytes mixedMbc5Fields)

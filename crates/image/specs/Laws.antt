@@ -8,9 +8,10 @@ use mir.Syntax.{w32}
 use mir.Val.{SFits}
 use Rattle.packing.specs.Packing.{Below, Fit}
 use Rattle.numbers.specs.Numbers.{done}
+use Rattle.numbers.specs.One.{OnlyOne}
 use Rattle.memory.specs.declared.Memory.{Memory}
 use Rattle.image.specs.Layout.{imageLen, fieldWidths, fieldValues, typedFields, picked, imageOf}
-use Rattle.image.specs.Load.{storable, loaded, loadCall}
+use Rattle.image.specs.Load.{storable, Stores, loaded, loadCall}
 
 -- what a `Memory` of the code has by its types: the ranges say the rest
 pub record Typed (m : Memory) : Type 0 where
@@ -39,3 +40,7 @@ ImageBack =
 -- and it is what the types of a state say, so that the first law holds of it
 abbrev pub ImageTyped : Type 0
 ImageTyped = (l : List ℕ) → Below 256 l → loadCall l .number ≡ done → Typed (loadCall l .state)
+
+-- of a store no second outcome fits
+abbrev pub OneStore : Type 0
+OneStore = (m : Memory) (l : List ℕ) → OnlyOne (Stores m l)

@@ -2,6 +2,7 @@
 -- the image's length, by 4, comes before the state, by 3; a refused store changes nothing, a refused load gives the all-zero state).
 use mathlib.Core.Bool.{Bool, cond, _&&_}
 use mathlib.Core.List.{List, [], _∷_}
+use mathlib.Core.Path.{_≡_}
 use Prim.Native.Nat.{ℕ}
 use lib.Dec.{eqb}
 use lib.ListN.{length, take, drop}
@@ -35,6 +36,10 @@ storeCall m l =
     cond (eqb (length l) imageLen)
     (cond (storable m) (stored done (imageOf m)) (stored outOfRange l))
     (stored wrongLength l)
+
+-- what is promised of a store: of its number, and of the bytes as it leaves them
+abbrev pub Stores : Memory → List ℕ → ℕ → List ℕ → Type 0
+Stores m l n left = stored n left ≡ storeCall m l
 
 -- The state of an image's values
 

@@ -6,9 +6,9 @@ ghost use Prim.Native.Nat.{_+_, _≤_};
 ghost use lib.ListN.{length, take};
 ghost use Rattle.numbers.specs.Numbers.{done};
 ghost use Rattle.image.specs.Layout.{imageLen, imageOf};
-ghost use Rattle.image.specs.Load.{storable, stored, storeCall, loaded, stateOf, loadCall, openedOf, openCall};
+ghost use Rattle.image.specs.Load.{storable, Stores, loaded, stateOf, loadCall, openedOf, openCall};
 ghost use Rattle.image.specs.Known.{Known};
-ghost use Rattle.image.specs.Laws.{Typed, StateBack, ImageBack, ImageTyped};
+ghost use Rattle.image.specs.Laws.{Typed, StateBack, ImageBack, ImageTyped, OneStore};
 ghost use Rattle.image.specs.Patches.{arraysOf, Mapped};
 ghost use Rattle.memory.specs.Start.{zeroed};
 
@@ -99,7 +99,7 @@ pub fn store(memory: Memory, image: &mut [u8])
 
 // The state's image; 4 for another length, 3 for a state out of range, and then nothing is changed.
 pub fn encode(memory: Memory, image: &mut [u8]) -> u8
-    ensures { λ r. ⌜ stored r (now (image .exit)) ≡ storeCall memory (now (image .entry)) ⌝ }
+    ensures { λ r. ⌜ Stores memory (now (image .entry)) r (now (image .exit)) ⌝ }
 {
     if image.len() != LENGTH {
         return numbers::WRONG_LENGTH;
@@ -229,5 +229,5 @@ pub fn decode(image: &[u8]) -> Loaded
 
 // The laws of specs/Laws.antt and the images of specs/Known.antt, as a contract: its proof hands them over.
 pub fn laws_hold()
-    ensures { λ _. ⌜ StateBack × ImageBack × ImageTyped × Known ⌝ }
+    ensures { λ _. ⌜ StateBack × ImageBack × ImageTyped × Known × OneStore ⌝ }
 {}

@@ -1,10 +1,12 @@
 -- The converters (document 02, wish 3: "Players have old logs, so we need a converter to the new form and one back"): from one form of a record to the other.
 use mathlib.Core.Bool.{Bool, true, cond, _&&_}
 use mathlib.Core.List.{List, [], _∷_, _++_}
+use mathlib.Core.Path.{_≡_}
 use Prim.Native.Nat.{ℕ, _*_, _/_}
 use lib.Dec.{leb, ltb, eqb}
 use lib.ListN.{length, drop}
 use Rattle.numbers.specs.Numbers.{done, wrongLength, damaged}
+use Rattle.savelog.specs.declared.convert.Converted.{Converted}
 use Rattle.savelog.specs.Log.{Form, Three, Rec, widthOf, endOf, logLimit, recordBytes, recordsBy, allSound, applyAll, oneOf, Outcome, outcome}
 
 -- A record is damaged by its own bits: "which tests no RAM length".
@@ -50,6 +52,10 @@ conversion from to source target =
     (converted damaged 0 target))
     (converted damaged 0 target))
     (converted wrongLength 0 target)
+
+-- what is promised of a converter: of its result, and of the target as it leaves that
+abbrev pub Converts : Form → Form → List ℕ → List ℕ → Converted → List ℕ → Type 0
+Converts from to source target r left = converted (r .number) (r .len) left ≡ conversion from to source target
 
 -- Recovery by the rule that old logs were made for (document 01): records of three bytes, a save of 0, 512, 8,192 or 32,768 bytes.
 unfoldable pub oldSaveLengths : List ℕ

@@ -5,8 +5,9 @@ use mathlib.Core.List.{List, [], _∷_, _++_}
 use Prim.Native.Nat.{ℕ, _*_, _/_, _≤_, _<_}
 use lib.ListN.{length, take, drop}
 use Rattle.numbers.specs.Numbers.{done}
+use Rattle.numbers.specs.One.{OnlyOne}
 use Rattle.savelog.specs.Log.{Form, Three, Four, widthOf, endOf, logLimit, saveLimit, recordsBy, recovery}
-use Rattle.savelog.specs.Convert.{undamaged, below, lengthBy, converted, conversion, oldRecovery}
+use Rattle.savelog.specs.Convert.{undamaged, below, lengthBy, converted, conversion, Converts, oldRecovery}
 
 -- a log's bytes are bytes
 pub data Bytes : List ℕ → Type 0 where
@@ -80,3 +81,7 @@ RecoversAsBefore =
     → (length save ≡ saveLimit → ⊥)
     → conversion Three Four old new .number ≡ done
     → recovery save (newLog Three Four old new) ≡ oldRecovery save old
+
+-- no second outcome fits
+abbrev pub OneConversion : Type 0
+OneConversion = (f t : Form) (log target : List ℕ) → OnlyOne (Converts f t log target)

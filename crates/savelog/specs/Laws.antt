@@ -5,7 +5,8 @@ use mathlib.Core.List.{List, [], _∷_, _++_}
 use Prim.Native.Nat.{ℕ, _+_, _*_, _/_, _%_, _≤_, _<_}
 use lib.ListN.{length, take}
 use Rattle.numbers.specs.Numbers.{done}
-use Rattle.savelog.specs.Log.{Four, width, addressEnd, recordBytes, stored, records, allSound, applyAll, saveLengths, logLimit, oneOf, outcome, recovery, appended, recoverAll, joined, cutCopies}
+use Rattle.numbers.specs.One.{OnlyOne}
+use Rattle.savelog.specs.Log.{Four, width, addressEnd, recordBytes, stored, records, allSound, applyAll, saveLengths, logLimit, oneOf, outcome, recovery, Recovers, appended, Appends, recoverAll, joined, cutCopies}
 
 -- Document 01, corner 12, as document 02 has it: address 1234, value 56 gives the bytes 84 8D 15 80.
 abbrev pub Corner : Type 0
@@ -52,3 +53,10 @@ CopiesLaw =
     → Copies (length save) copies
     → (joined (cutCopies n copies) ≡ take n (joined copies))
     × (recoverAll save (cutCopies n copies) ≡ applyAll save (take (n / width) (records (joined copies))))
+
+-- no second outcome fits
+abbrev pub OneRecovery : Type 0
+OneRecovery = (save log : List ℕ) → OnlyOne (Recovers save log)
+
+abbrev pub OneAppend : Type 0
+OneAppend = (log : List ℕ) (used address value : ℕ) → OnlyOne (Appends log used address value)

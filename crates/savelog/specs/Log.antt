@@ -3,6 +3,7 @@
 -- crate names them.
 use mathlib.Core.Bool.{Bool, true, false, cond, _&&_, _||_}
 use mathlib.Core.List.{List, [], _∷_, _++_}
+use mathlib.Core.Path.{_≡_}
 use Prim.Native.Nat.{ℕ, zero, suc, _+_, _-_, _*_, _/_, _%_}
 use lib.Dec.{leb, ltb, eqb}
 use lib.ListN.{length, take, drop, set}
@@ -126,9 +127,17 @@ recovery save log =
     (cond (allSound (length save) (records log)) (outcome done (applyAll save (records log))) (outcome damaged save))
     (outcome wrongLength save)
 
+-- what is promised of recovery: of its number, and of the save as it leaves that
+abbrev pub Recovers : List ℕ → List ℕ → ℕ → List ℕ → Type 0
+Recovers save log n left = outcome n left ≡ recovery save log
+
 -- The log after an append at `used`: what was before and what was behind stays.
 unfoldable pub appended : List ℕ → ℕ → ℕ → ℕ → List ℕ
 appended log used address value = take used log ++ recordBytes Four address value ++ drop (used + width) log
+
+-- what is promised of an append: of the next use, and of the log as it is left
+abbrev pub Appends : List ℕ → ℕ → ℕ → ℕ → ℕ → List ℕ → Type 0
+Appends log used address value next left = (left ≡ appended log used address value) × (next ≡ used + width)
 
 -- "Clearing sets use to 0 and leaves the bytes"
 abbrev pub clearedUse : ℕ

@@ -9,8 +9,8 @@ ghost use mathlib.Core.Path.{_≡_};
 ghost use Prim.Native.Nat.{_*_, _+_, _/_, _<_, _≤_};
 ghost use lib.ListN.{length, drop};
 ghost use Rattle.savelog.specs.Log.{Three, Four, widthOf, endOf, logLimit, recordNumber, recordBytes, recordsBy, allSound};
-ghost use Rattle.savelog.specs.Convert.{bytesBy, lengthBy, room, converted, conversion};
-ghost use Rattle.savelog.specs.ConvertLaws.{OldCorner, SameRecords, ThereAndBack, BackExactly, LastDropped, InParts, PastStays, RecoversAsBefore};
+ghost use Rattle.savelog.specs.Convert.{bytesBy, lengthBy, room, Converts};
+ghost use Rattle.savelog.specs.ConvertLaws.{OldCorner, SameRecords, ThereAndBack, BackExactly, LastDropped, InParts, PastStays, RecoversAsBefore, OneConversion};
 
 // The number, and how many bytes of the target are the new log.
 pub struct Converted {
@@ -69,7 +69,7 @@ fn write_all(from: Form, to: Form, source: &[u8], target: &mut [u8]) -> u16
 }
 
 fn convert(from: Form, to: Form, source: &[u8], target: &mut [u8]) -> Converted
-    ensures { λ r. ⌜ converted (r .number) (r .len) (now (target .exit)) ≡ conversion from to (now (source .entry)) (now (target .entry)) ⌝ }
+    ensures { λ r. ⌜ Converts from to (now (source .entry)) (now (target .entry)) r (now (target .exit)) ⌝ }
 {
     if !has_room(from, to, source.len(), target.len()) {
         return Converted {
@@ -92,19 +92,19 @@ fn convert(from: Form, to: Form, source: &[u8], target: &mut [u8]) -> Converted
 
 // An old log to one of the present form.
 pub fn to_new(old: &[u8], new: &mut [u8]) -> Converted
-    ensures { λ r. ⌜ converted (r .number) (r .len) (now (new .exit)) ≡ conversion Three Four (now (old .entry)) (now (new .entry)) ⌝ }
+    ensures { λ r. ⌜ Converts Three Four (now (old .entry)) (now (new .entry)) r (now (new .exit)) ⌝ }
 {
     convert(Form::Three, Form::Four, old, new)
 }
 
 // And back, where every address is below 32,768.
 pub fn to_old(new: &[u8], old: &mut [u8]) -> Converted
-    ensures { λ r. ⌜ converted (r .number) (r .len) (now (old .exit)) ≡ conversion Four Three (now (new .entry)) (now (old .entry)) ⌝ }
+    ensures { λ r. ⌜ Converts Four Three (now (new .entry)) (now (old .entry)) r (now (old .exit)) ⌝ }
 {
     convert(Form::Four, Form::Three, new, old)
 }
 
 // The laws of specs/ConvertLaws.antt, as a contract: its proof hands them over.
 pub fn converters_hold()
-    ensures { λ _. ⌜ OldCorner × SameRecords × ThereAndBack × BackExactly × LastDropped × InParts × PastStays × RecoversAsBefore ⌝ }
+    ensures { λ _. ⌜ OldCorner × SameRecords × ThereAndBack × BackExactly × LastDropped × InParts × PastStays × RecoversAsBefore × OneConversion ⌝ }
 {}

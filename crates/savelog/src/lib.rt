@@ -5,8 +5,8 @@ ghost use mathlib.Core.List.{_++_};
 ghost use mathlib.Core.Path.{_≡_};
 ghost use Prim.Native.Nat.{_+_, _<_, _≤_};
 ghost use lib.ListN.{length, take, drop};
-ghost use Rattle.savelog.specs.Log.{Three, Four, width, addressEnd, widthOf, endOf, logLimit, bytesOf, numberFrom, recordNumber, fieldsOf, recordOf, recordsBy, records, soundRecord, allSound, applyAll, lengthsFit, outcome, recovery, appended, clearedUse, useInRange, full};
-ghost use Rattle.savelog.specs.Laws.{Corner, AppendLaw, PrefixLaw, LastIgnored, CopiesLaw};
+ghost use Rattle.savelog.specs.Log.{Three, Four, width, addressEnd, widthOf, endOf, logLimit, bytesOf, numberFrom, recordNumber, fieldsOf, recordOf, recordsBy, records, soundRecord, allSound, applyAll, lengthsFit, Recovers, Appends, clearedUse, useInRange, full};
+ghost use Rattle.savelog.specs.Laws.{Corner, AppendLaw, PrefixLaw, LastIgnored, CopiesLaw, OneRecovery, OneAppend};
 
 mod convert;
 
@@ -155,7 +155,7 @@ pub fn record_at(form: Form, log: &[u8], i: usize) -> Rec
 // Writes the record of one stored byte at `used`, and gives the next use. The bus sees that there is room.
 pub fn append(log: &mut [u8], used: u16, at: usize, value: u8) -> u16
     requires { ⌜ (used + width ≤ length (now log)) × (length (now log) ≤ logLimit) × (at < addressEnd) ⌝ }
-    ensures { λ r. ⌜ (now (log .exit) ≡ appended (now (log .entry)) used at value) × (r ≡ used + width) ⌝ }
+    ensures { λ r. ⌜ Appends (now (log .entry)) used at value r (now (log .exit)) ⌝ }
 {
     let i = used as usize;
     put_number(log, i, RECORD_LEN, record_number(at, value));
@@ -242,7 +242,7 @@ fn lengths_fit(save: usize, log: usize) -> bool
 
 // Recovery. Damage is looked for in the whole log before the first byte changes, so a refusal leaves the save.
 pub fn recover(save: &mut [u8], log: &[u8]) -> u8
-    ensures { λ r. ⌜ outcome r (now (save .exit)) ≡ recovery (now (save .entry)) (now (log .entry)) ⌝ }
+    ensures { λ r. ⌜ Recovers (now (save .entry)) (now (log .entry)) r (now (save .exit)) ⌝ }
 {
     let ram = save.len();
     if !lengths_fit(ram, log.len()) {
@@ -264,5 +264,5 @@ pub fn whole_records(log: &[u8]) -> usize
 
 // The laws of specs/Laws.antt, as a contract: its proof hands them over.
 pub fn laws_hold()
-    ensures { λ _. ⌜ Corner × AppendLaw × PrefixLaw × LastIgnored × CopiesLaw ⌝ }
+    ensures { λ _. ⌜ Corner × AppendLaw × PrefixLaw × LastIgnored × CopiesLaw × OneRecovery × OneAppend ⌝ }
 {}

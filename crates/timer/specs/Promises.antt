@@ -1,12 +1,13 @@
 -- What follows from the definitions: laws that callers lean on, and document 01's corners 2 and 3. `promises_hold` ties them to the check.
 use mathlib.Core.Path.{_≡_}
 use Prim.Native.Nat.{ℕ, _+_, _%_, _<_, _≤_}
+use Rattle.numbers.specs.One.{OnlyOne}
 use Rattle.interrupt.specs.Flags.{requested}
 use Rattle.interrupt.specs.declared.Interrupt.the-variants as Interrupt
 use Rattle.timer.specs.PanDocs.{steps}
 use Rattle.timer.specs.AtOnce.{atOnce}
 use Rattle.timer.specs.Overflow.{leftOf}
-use Rattle.timer.specs.Timer.{clock, updated, updateCall}
+use Rattle.timer.specs.Timer.{clock, updated, updateCall, Updates}
 use Rattle.timer.specs.declared.Timer.{Timer}
 
 -- 256 x DIV + div_cycles rises by c modulo 65,536
@@ -75,6 +76,10 @@ pub record StepsAtNoCycles : Type 0 where
   pub tima : updateCall waiting 0 .timer .tima ≡ 62
   pub rest : updateCall waiting 0 .timer .«tima_cycles» ≡ 8
 
+-- no second outcome fits
+abbrev pub OneUpdate : Type 0
+OneUpdate = (t : Timer) (c : ℕ) → OnlyOne (Updates t c)
+
 pub record Promises : Type 0 where
   pub clock-rises : ClockRises
   pub tma-tac-stay : TmaTacStay
@@ -86,3 +91,4 @@ pub record Promises : Type 0 where
   pub corner-2 : Corner2
   pub corner-3 : Corner3
   pub steps-at-no-cycles : StepsAtNoCycles
+  pub one-update : OneUpdate

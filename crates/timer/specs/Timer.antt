@@ -1,5 +1,6 @@
 -- The timer's update (document 01, "Timer and buttons"), its state range ("Numbers a call gives back") and the call with its refusals.
 use mathlib.Core.Bool.{Bool, cond}
+use mathlib.Core.Path.{_≡_}
 use Prim.Native.Nat.{ℕ, _+_, _*_, _/_, _%_}
 use lib.Dec.{leb, ltb}
 use Rattle.numbers.specs.Numbers.{done, outOfRange, tooManyCycles}
@@ -54,3 +55,7 @@ unfoldable pub updateCall : Timer → ℕ → Updated
 updateCall t c =
     cond (timerInRange t) (cond (leb c 65536) (gives done (updated t c)) (gives tooManyCycles t))
     (gives outOfRange t)
+
+-- what is promised of an update of a timer that is lent: of its number, and of the timer as it leaves that
+abbrev pub Updates : Timer → ℕ → ℕ → Timer → Type 0
+Updates t c n left = gives n left ≡ updateCall t c

@@ -1,10 +1,11 @@
 -- The transfers that a host starts, each call whole: number, answer, and what is left (document 01, "Numbers a call gives back", "The bus").
 use mathlib.Core.Path.{_≡_}
 use Prim.Native.Nat.{ℕ}
-use Rattle.bus.specs.Calls.{Outcome, outcome, unless, Buffers, holding, OnlyOne}
+use Rattle.bus.specs.Calls.{Outcome, outcome, unless, Buffers, holding}
 use Rattle.memory.specs.World.{World, Fixed}
 use Rattle.mmu.specs.Write.{writeAt, transferred}
 use Rattle.numbers.specs.Numbers.{done}
+use Rattle.numbers.specs.One.{OnlyOne}
 use Rattle.refusals.specs.declared.Done.{Done}
 use Rattle.refusals.specs.Refusal.{refusedWrite}
 use Rattle.copies.specs.Copies.{oamCopy}

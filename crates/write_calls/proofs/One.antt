@@ -1,6 +1,7 @@
--- No second outcome: by the law of crate bus.
+-- No second outcome: by the law of crate numbers.
 use mathlib.Core.Path.{refl}
-use Rattle.bus.proofs.One.{only-one, memories, doneOf}
+use Rattle.numbers.proofs.One.{only-one}
+use Rattle.bus.proofs.One.{memories, doneOf}
 use Rattle.write_calls.specs.Writes.{OneWritten}
 
 pub one-written : OneWritten

@@ -2,9 +2,10 @@
 use mathlib.Core.Path.{_≡_}
 use Prim.Native.Nat.{ℕ}
 use lib.ListN.{length}
-use Rattle.bus.specs.Calls.{Outcome, outcome, unless, Buffers, holding, OnlyOne}
+use Rattle.bus.specs.Calls.{Outcome, outcome, unless, Buffers, holding}
 use Rattle.memory.specs.World.{World, Fixed}
 use Rattle.mmu.specs.Write.{writeAt, wordAt}
+use Rattle.numbers.specs.One.{OnlyOne}
 use Rattle.refusals.specs.declared.Done.{Done}
 use Rattle.refusals.specs.Refusal.{orElse, refusedWrite, byteRoom, wordRoom, byteOwed, wordOwed}
 

@@ -2,6 +2,7 @@
 use Rattle.timer.proofs.Laws.{clock-rises, tma-tac-stay, steps-compose, stays-in-range, corner-2, corner-3, steps-at-no-cycles}
 use Rattle.timer.proofs.AtOnce.{at-once}
 use Rattle.timer.proofs.Overflow.{calm-before, asked-from}
+use Rattle.timer.proofs.One.{one-update}
 use Rattle.timer.proofs.promises_hold.Statement.{statement}
 use Rattle.timer.proofs.promises_hold.Tie as tie
 
@@ -18,6 +19,7 @@ returns c =
       corner-2 = corner-2;
       corner-3 = corner-3;
       steps-at-no-cycles = steps-at-no-cycles;
+      one-update = one-update;
     }
 
 pub promises-hold-spec : {M : Type 1} → statement M
