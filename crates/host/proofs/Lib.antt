@@ -1,3 +1,2 @@
 pub mod Mappers
-pub mod One
 pub mod Shown

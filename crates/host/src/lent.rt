@@ -1,14 +1,7 @@
 // Entries to which memories are lent.
-ghost use mathlib.Core.List.{[]};
-ghost use mathlib.Core.Path.{_≡_};
-ghost use Rattle.dispatch.specs.declared.Call.the-variants.{ReadByte, ReadWord, ReadCgbLcdRam, WriteByte, WriteWord, DoDmaTransfer, DoHdma};
+ghost use Rattle.dispatch.specs.declared.Call.the-variants.{ReadByte, ReadWord, WriteByte, WriteWord, DoDmaTransfer, DoHdma};
 ghost use Rattle.memory.specs.World.{fixed};
-ghost use Rattle.savelog.specs.Log.{outcome, recovery};
-ghost use lib.ListN.{length};
-ghost use Rattle.bus.specs.Fresh.{freshCall};
-ghost use Rattle.entry.specs.Entry.{changed, given, readEntry, left, worldEntry, fresh, freshEntry, usedEntry};
-ghost use Rattle.entry.specs.Host.{blockEntry, useEntry};
-ghost use Rattle.image.specs.Load.{stored};
+ghost use Rattle.entry.specs.Contracts.{holding, Enters, Reads, ReadsVram, FillsBlock, lending, Begins, Recovers, GivesUse, SetsUse};
 
 #[no_mangle]
 pub extern "C" fn pouch_read_byte(
@@ -21,7 +14,8 @@ pub extern "C" fn pouch_read_byte(
     index: u16,
     value: &mut u8,
 ) -> u8
-    ensures { λ r. ⌜ given r (now (value .exit)) ≡ readEntry (fixed (now (rom .entry)) (now (sound .entry))) (now (image .entry)) (now (vram .entry)) (now (wram .entry)) (now (save .entry)) (ReadByte index) ⌝ }
+    ensures { λ r. ⌜ Reads (fixed (now (rom .entry)) (now (sound .entry)))
+        (now (image .entry)) (now (vram .entry)) (now (wram .entry)) (now (save .entry)) (ReadByte index) r (now (value .exit)) ⌝ }
 {
     let read = quick_reads::read_byte(image, rom, vram, wram, save, sound, index);
     *value = read.value;
@@ -40,7 +34,8 @@ pub extern "C" fn pouch_read_word(
     index: u16,
     value: &mut u16,
 ) -> u8
-    ensures { λ r. ⌜ given r (now (value .exit)) ≡ readEntry (fixed (now (rom .entry)) (now (sound .entry))) (now (image .entry)) (now (vram .entry)) (now (wram .entry)) (now (save .entry)) (ReadWord index) ⌝ }
+    ensures { λ r. ⌜ Reads (fixed (now (rom .entry)) (now (sound .entry)))
+        (now (image .entry)) (now (vram .entry)) (now (wram .entry)) (now (save .entry)) (ReadWord index) r (now (value .exit)) ⌝ }
 {
     let read = quick_reads::read_word(image, rom, vram, wram, save, sound, index);
     *value = read.value;
@@ -59,7 +54,8 @@ pub extern "C" fn pouch_read_block(
     index: u16,
     out: &mut [u8],
 ) -> u8
-    ensures { λ r. ⌜ stored r (now (out .exit)) ≡ blockEntry (fixed (now (rom .entry)) (now (sound .entry))) (now (image .entry)) (now (vram .entry)) (now (wram .entry)) (now (save .entry)) (now (out .entry)) index ⌝ }
+    ensures { λ r. ⌜ FillsBlock (fixed (now (rom .entry)) (now (sound .entry)))
+        (now (image .entry)) (now (vram .entry)) (now (wram .entry)) (now (save .entry)) (now (out .entry)) index r (now (out .exit)) ⌝ }
 {
     quick_reads::block::read_block(image, rom, vram, wram, save, sound, index, out)
 }
@@ -73,7 +69,7 @@ pub extern "C" fn pouch_read_cgb_lcd_ram(
     bank: u8,
     value: &mut u8,
 ) -> u8
-    ensures { λ r. ⌜ given r (now (value .exit)) ≡ readEntry (fixed [] []) (now (image .entry)) (now (vram .entry)) [] [] (ReadCgbLcdRam index bank) ⌝ }
+    ensures { λ r. ⌜ ReadsVram (now (image .entry)) (now (vram .entry)) index bank r (now (value .exit)) ⌝ }
 {
     let read = quick_reads::read_cgb_lcd_ram(image, vram, index, bank);
     *value = read.value;
@@ -92,7 +88,10 @@ pub extern "C" fn pouch_write_byte(
     index: u16,
     byte: u8,
 ) -> u8
-    ensures { λ r. ⌜ left r 0 (now (image .exit)) (now (vram .exit)) (now (wram .exit)) (now (save .exit)) (now (log .exit)) ≡ worldEntry (fixed (now (rom .entry)) (now (sound .entry))) (now (image .entry)) (now (vram .entry)) (now (wram .entry)) (now (save .entry)) (now (log .entry)) (WriteByte index byte) ⌝ }
+    ensures { λ r. ⌜ Enters (fixed (now (rom .entry)) (now (sound .entry)))
+        (holding (now (image .entry)) (now (vram .entry)) (now (wram .entry)) (now (save .entry)) (now (log .entry)))
+        (WriteByte index byte) r 0
+        (holding (now (image .exit)) (now (vram .exit)) (now (wram .exit)) (now (save .exit)) (now (log .exit))) ⌝ }
 {
     quick_writes::write_byte(image, rom, vram, wram, save, log, sound, index, byte)
 }
@@ -110,7 +109,10 @@ pub extern "C" fn pouch_write_word(
     index: u16,
     word: u16,
 ) -> u8
-    ensures { λ r. ⌜ left r 0 (now (image .exit)) (now (vram .exit)) (now (wram .exit)) (now (save .exit)) (now (log .exit)) ≡ worldEntry (fixed (now (rom .entry)) (now (sound .entry))) (now (image .entry)) (now (vram .entry)) (now (wram .entry)) (now (save .entry)) (now (log .entry)) (WriteWord index word) ⌝ }
+    ensures { λ r. ⌜ Enters (fixed (now (rom .entry)) (now (sound .entry)))
+        (holding (now (image .entry)) (now (vram .entry)) (now (wram .entry)) (now (save .entry)) (now (log .entry)))
+        (WriteWord index word) r 0
+        (holding (now (image .exit)) (now (vram .exit)) (now (wram .exit)) (now (save .exit)) (now (log .exit))) ⌝ }
 {
     quick_writes::write_word(image, rom, vram, wram, save, log, sound, index, word)
 }
@@ -126,7 +128,10 @@ pub extern "C" fn pouch_do_dma_transfer(
     sound: &[u8],
     page: u8,
 ) -> u8
-    ensures { λ r. ⌜ left r 0 (now (image .exit)) (now (vram .exit)) (now (wram .exit)) (now (save .exit)) (now (log .exit)) ≡ worldEntry (fixed (now (rom .entry)) (now (sound .entry))) (now (image .entry)) (now (vram .entry)) (now (wram .entry)) (now (save .entry)) (now (log .entry)) (DoDmaTransfer page) ⌝ }
+    ensures { λ r. ⌜ Enters (fixed (now (rom .entry)) (now (sound .entry)))
+        (holding (now (image .entry)) (now (vram .entry)) (now (wram .entry)) (now (save .entry)) (now (log .entry)))
+        (DoDmaTransfer page) r 0
+        (holding (now (image .exit)) (now (vram .exit)) (now (wram .exit)) (now (save .exit)) (now (log .exit))) ⌝ }
 {
     quick_writes::transfers::do_dma_transfer(image, rom, vram, wram, save, log, sound, page)
 }
@@ -143,7 +148,10 @@ pub extern "C" fn pouch_do_hdma(
     sound: &[u8],
     value: &mut u16,
 ) -> u8
-    ensures { λ r. ⌜ left r (now (value .exit)) (now (image .exit)) (now (vram .exit)) (now (wram .exit)) (now (save .exit)) (now (log .exit)) ≡ worldEntry (fixed (now (rom .entry)) (now (sound .entry))) (now (image .entry)) (now (vram .entry)) (now (wram .entry)) (now (save .entry)) (now (log .entry)) DoHdma ⌝ }
+    ensures { λ r. ⌜ Enters (fixed (now (rom .entry)) (now (sound .entry)))
+        (holding (now (image .entry)) (now (vram .entry)) (now (wram .entry)) (now (save .entry)) (now (log .entry)))
+        DoHdma r (now (value .exit))
+        (holding (now (image .exit)) (now (vram .exit)) (now (wram .exit)) (now (save .exit)) (now (log .exit))) ⌝ }
 {
     let done = quick_writes::transfers::do_hdma(image, rom, vram, wram, save, log, sound);
     *value = done.value;
@@ -165,7 +173,9 @@ pub extern "C" fn pouch_fresh(
     log: &[u8],
     sound: &[u8],
 ) -> u8
-    ensures { λ r. ⌜ fresh r (now (image .exit)) (now (vram .exit)) (now (wram .exit)) ≡ freshEntry (now (image .entry)) (now (vram .entry)) (now (wram .entry)) (freshCall kind banks code colour (length (now (rom .entry))) (now (vram .entry)) (now (wram .entry)) (length (now (save .entry))) (length (now (log .entry))) (length (now (sound .entry)))) ⌝ }
+    ensures { λ r. ⌜ Begins (now (image .entry)) (lending kind banks code colour
+        (now (rom .entry)) (now (vram .entry)) (now (wram .entry)) (now (save .entry)) (now (log .entry)) (now (sound .entry)))
+        r (now (image .exit)) (now (vram .exit)) (now (wram .exit)) ⌝ }
 {
     if image.len() != image::LENGTH {
         return numbers::WRONG_LENGTH;
@@ -182,7 +192,7 @@ pub extern "C" fn pouch_fresh(
 // The log's records over a save; neither needs an image.
 #[no_mangle]
 pub extern "C" fn pouch_recover(save: &mut [u8], log: &[u8]) -> u8
-    ensures { λ r. ⌜ outcome r (now (save .exit)) ≡ recovery (now (save .entry)) (now (log .entry)) ⌝ }
+    ensures { λ r. ⌜ Recovers (now (save .entry)) (now (log .entry)) r (now (save .exit)) ⌝ }
 {
     savelog::recover(save, log)
 }
@@ -190,7 +200,7 @@ pub extern "C" fn pouch_recover(save: &mut [u8], log: &[u8]) -> u8
 // Bytes of the log that are used.
 #[no_mangle]
 pub extern "C" fn pouch_log_used(image: &[u8], value: &mut u16) -> u8
-    ensures { λ r. ⌜ given r (now (value .exit)) ≡ usedEntry (now (image .entry)) ⌝ }
+    ensures { λ r. ⌜ GivesUse (now (image .entry)) r (now (value .exit)) ⌝ }
 {
     let asked = quick_state::fields::log_used(image);
     *value = asked.value;
@@ -200,7 +210,7 @@ pub extern "C" fn pouch_log_used(image: &[u8], value: &mut u16) -> u8
 // The log's use set, for a host that goes on from an older image with the log it has.
 #[no_mangle]
 pub extern "C" fn pouch_set_log_used(image: &mut [u8], used: u16) -> u8
-    ensures { λ r. ⌜ changed r (now (image .exit)) ≡ useEntry (now (image .entry)) used ⌝ }
+    ensures { λ r. ⌜ SetsUse (now (image .entry)) used r (now (image .exit)) ⌝ }
 {
     quick_state::fields::set_log_used(image, used)
 }

@@ -4,7 +4,8 @@ ghost use mathlib.Core.Path.{_≡_};
 ghost use Rattle.image.specs.Load.{cartridgeOf, registersIn};
 ghost use Rattle.image.specs.Patches.{fields, Mapped};
 ghost use Rattle.mbc.specs.Mbc as mbc;
-ghost use Rattle.entry.specs.Entry.{given, mapperReadEntry, answerNumber, mapped, mapperWriteEntry};
+ghost use Rattle.entry.specs.Contracts.{MapperReads, MapperWrites};
+ghost use Rattle.entry.specs.Entry.{answerNumber};
 use mbc::Answer;
 use mbc::Mapper;
 
@@ -17,7 +18,7 @@ pub extern "C" fn pouch_mapper_read(
     index: u16,
     value: &mut u8,
 ) -> u8
-    ensures { λ r. ⌜ given r (now (value .exit)) ≡ mapperReadEntry (now (image .entry)) (now (rom .entry)) (now (save .entry)) index ⌝ }
+    ensures { λ r. ⌜ MapperReads (now (image .entry)) (now (rom .entry)) (now (save .entry)) index r (now (value .exit)) ⌝ }
 {
     let number = image::number(image);
     if number != numbers::DONE {
@@ -44,7 +45,8 @@ fn answer_number(answer: Answer) -> u32
 // The record of what the image's mapper answers. Below 8000 nothing is stored.
 fn record_of(image: &[u8], index: u16, byte: u8) -> u32
     requires { ⌜ Mapped (now image) × (mbc.mapped index ≡ true) ⌝ }
-    ensures { λ r. ⌜ r ≡ answerNumber (mbc.answer (cartridgeOf (fields (now (image .entry)))) (mbc.mapperOf (registersIn (fields (now (image .entry))))) index byte) ⌝ }
+    ensures { λ r. ⌜ r ≡ answerNumber
+        (mbc.answer (cartridgeOf (fields (now (image .entry)))) (mbc.mapperOf (registersIn (fields (now (image .entry))))) index byte) ⌝ }
 {
     if index < memory::VRAM_START {
         return 0;
@@ -57,7 +59,7 @@ fn record_of(image: &[u8], index: u16, byte: u8) -> u32
 // What the mapper answers, and its registers in the image.
 #[no_mangle]
 pub extern "C" fn pouch_mapper_write(image: &mut [u8], index: u16, byte: u8, value: &mut u32) -> u8
-    ensures { λ r. ⌜ mapped r (now (value .exit)) (now (image .exit)) ≡ mapperWriteEntry (now (image .entry)) index byte ⌝ }
+    ensures { λ r. ⌜ MapperWrites (now (image .entry)) index byte r (now (value .exit)) (now (image .exit)) ⌝ }
 {
     let number = image::number(image);
     if number != numbers::DONE {

@@ -1,11 +1,9 @@
 // What a host that draws takes from an image and sets in it: the screen's numbers, the colours, OAM.
 use entry::HostNumber;
 ghost use mathlib.Core.Path.{_≡_};
-ghost use Rattle.entry.specs.Entry.{changed};
+ghost use Rattle.entry.specs.Contracts.{FillsColors, FillsOam, Shows, Sets};
 ghost use Rattle.entry.specs.declared.HostNumber.the-variants.{Disabled, Line, Signal, Mode, Delay, Counter, Aux, Window};
 ghost use Rattle.image.specs.Layout as layout;
-ghost use Rattle.image.specs.Load.{stored};
-ghost use Rattle.entry.specs.Host.{shown, numbersEntry, colorsEntry, oamEntry, setEntry};
 
 fn bit(flag: bool) -> u8
     ensures { λ r. ⌜ r ≡ layout.bit flag ⌝ }
@@ -26,7 +24,8 @@ pub extern "C" fn pouch_host_numbers(
     aux: &mut i32,
     window: &mut i32,
 ) -> u8
-    ensures { λ r. ⌜ shown r (now (disabled .exit)) (now (line .exit)) (now (signal .exit)) (now (mode .exit)) (now (delay .exit)) (now (counter .exit)) (now (aux .exit)) (now (window .exit)) ≡ numbersEntry (now (image .entry)) ⌝ }
+    ensures { λ r. ⌜ Shows (now (image .entry)) r (now (disabled .exit)) (now (line .exit)) (now (signal .exit)) (now (mode .exit))
+        (now (delay .exit)) (now (counter .exit)) (now (aux .exit)) (now (window .exit)) ⌝ }
 {
     let shown = quick_screen::host_numbers(image);
     let lcd = shown.lcd;
@@ -51,7 +50,7 @@ const COLORS_LEN: usize = 192;
 // All colours: the background's 32, then the sprites'.
 #[no_mangle]
 pub extern "C" fn pouch_colors(image: &[u8], colors: &mut [u8]) -> u8
-    ensures { λ r. ⌜ stored r (now (colors .exit)) ≡ colorsEntry (now (image .entry)) (now (colors .entry)) ⌝ }
+    ensures { λ r. ⌜ FillsColors (now (image .entry)) (now (colors .entry)) r (now (colors .exit)) ⌝ }
 {
     let loaded = image::decode(image);
     if loaded.number != numbers::DONE {
@@ -73,7 +72,7 @@ pub extern "C" fn pouch_colors(image: &[u8], colors: &mut [u8]) -> u8
 // OAM's 40 sprites.
 #[no_mangle]
 pub extern "C" fn pouch_oam(image: &[u8], oam: &mut [u8]) -> u8
-    ensures { λ r. ⌜ stored r (now (oam .exit)) ≡ oamEntry (now (image .entry)) (now (oam .entry)) ⌝ }
+    ensures { λ r. ⌜ FillsOam (now (image .entry)) (now (oam .entry)) r (now (oam .exit)) ⌝ }
 {
     quick_screen::oam(image, oam)
 }
@@ -82,56 +81,56 @@ pub extern "C" fn pouch_oam(image: &[u8], oam: &mut [u8]) -> u8
 
 #[no_mangle]
 pub extern "C" fn pouch_set_screen_disabled(image: &mut [u8], disabled: bool) -> u8
-    ensures { λ r. ⌜ changed r (now (image .exit)) ≡ setEntry (now (image .entry)) (Disabled disabled) ⌝ }
+    ensures { λ r. ⌜ Sets (now (image .entry)) (Disabled disabled) r (now (image .exit)) ⌝ }
 {
     quick_screen::set(image, HostNumber::Disabled(disabled))
 }
 
 #[no_mangle]
 pub extern "C" fn pouch_set_scan_line(image: &mut [u8], line: u8) -> u8
-    ensures { λ r. ⌜ changed r (now (image .exit)) ≡ setEntry (now (image .entry)) (Line line) ⌝ }
+    ensures { λ r. ⌜ Sets (now (image .entry)) (Line line) r (now (image .exit)) ⌝ }
 {
     quick_screen::set(image, HostNumber::Line(line))
 }
 
 #[no_mangle]
 pub extern "C" fn pouch_set_irq48_signal(image: &mut [u8], signal: u8) -> u8
-    ensures { λ r. ⌜ changed r (now (image .exit)) ≡ setEntry (now (image .entry)) (Signal signal) ⌝ }
+    ensures { λ r. ⌜ Sets (now (image .entry)) (Signal signal) r (now (image .exit)) ⌝ }
 {
     quick_screen::set(image, HostNumber::Signal(signal))
 }
 
 #[no_mangle]
 pub extern "C" fn pouch_set_lcd_status_mode(image: &mut [u8], mode: u8) -> u8
-    ensures { λ r. ⌜ changed r (now (image .exit)) ≡ setEntry (now (image .entry)) (Mode mode) ⌝ }
+    ensures { λ r. ⌜ Sets (now (image .entry)) (Mode mode) r (now (image .exit)) ⌝ }
 {
     quick_screen::set(image, HostNumber::Mode(mode))
 }
 
 #[no_mangle]
 pub extern "C" fn pouch_set_screen_enable_delay_cycles(image: &mut [u8], delay: i32) -> u8
-    ensures { λ r. ⌜ changed r (now (image .exit)) ≡ setEntry (now (image .entry)) (Delay delay) ⌝ }
+    ensures { λ r. ⌜ Sets (now (image .entry)) (Delay delay) r (now (image .exit)) ⌝ }
 {
     quick_screen::set(image, HostNumber::Delay(delay))
 }
 
 #[no_mangle]
 pub extern "C" fn pouch_set_cycles_counter(image: &mut [u8], counter: i32) -> u8
-    ensures { λ r. ⌜ changed r (now (image .exit)) ≡ setEntry (now (image .entry)) (Counter counter) ⌝ }
+    ensures { λ r. ⌜ Sets (now (image .entry)) (Counter counter) r (now (image .exit)) ⌝ }
 {
     quick_screen::set(image, HostNumber::Counter(counter))
 }
 
 #[no_mangle]
 pub extern "C" fn pouch_set_aux_cycles_counter(image: &mut [u8], aux: i32) -> u8
-    ensures { λ r. ⌜ changed r (now (image .exit)) ≡ setEntry (now (image .entry)) (Aux aux) ⌝ }
+    ensures { λ r. ⌜ Sets (now (image .entry)) (Aux aux) r (now (image .exit)) ⌝ }
 {
     quick_screen::set(image, HostNumber::Aux(aux))
 }
 
 #[no_mangle]
 pub extern "C" fn pouch_set_window_line(image: &mut [u8], window: i32) -> u8
-    ensures { λ r. ⌜ changed r (now (image .exit)) ≡ setEntry (now (image .entry)) (Window window) ⌝ }
+    ensures { λ r. ⌜ Sets (now (image .entry)) (Window window) r (now (image .exit)) ⌝ }
 {
     quick_screen::set(image, HostNumber::Window(window))
 }

@@ -1,9 +1,7 @@
 // Entries on the state alone.
-ghost use mathlib.Core.Path.{_≡_};
-ghost use Rattle.dispatch.specs.declared.StateCall.the-variants.{Load, Store, SetJoypadState, AreActionKeysEnabled, AreDirectionKeysEnabled, DoLcdControlWrite, DoLcdStatusWrite, DoScanlineWrite, DoLycWrite, CompareLyToLyc, EnableScreen, DisableScreen, ResetWindowLine, GetInterrupts, RequestInterrupt, RemoveInterrupt, IsHdmaEnabled, UpdateTimer, Press, Release, UpdateJoypad, ClearLog, Host};
+ghost use Rattle.dispatch.specs.declared.StateCall.the-variants as on;
 ghost use Rattle.lcd.specs.Lcd.{numbersOf};
-ghost use Rattle.entry.specs.Entry.{changed, stateEntry, given, askEntry};
-ghost use Rattle.entry.specs.Host.{overflowEntry};
+ghost use Rattle.entry.specs.Contracts.{Changes, Asks, GivesCycles};
 use lcd::Lcd;
 use quick_state::clock;
 use quick_state::fields;
@@ -14,7 +12,7 @@ use quick_state::page;
 // Raw: the page, FF00..FFFF.
 #[no_mangle]
 pub extern "C" fn pouch_load(image: &[u8], index: u16, value: &mut u16) -> u8
-    ensures { λ r. ⌜ given r (now (value .exit)) ≡ askEntry (now (image .entry)) (Load index) ⌝ }
+    ensures { λ r. ⌜ Asks (now (image .entry)) (on.Load index) r (now (value .exit)) ⌝ }
 {
     let asked = page::load(image, index);
     *value = asked.value;
@@ -23,21 +21,21 @@ pub extern "C" fn pouch_load(image: &[u8], index: u16, value: &mut u16) -> u8
 
 #[no_mangle]
 pub extern "C" fn pouch_store(image: &mut [u8], index: u16, byte: u8) -> u8
-    ensures { λ r. ⌜ changed r (now (image .exit)) ≡ stateEntry (now (image .entry)) (Store index byte) ⌝ }
+    ensures { λ r. ⌜ Changes (now (image .entry)) (on.Store index byte) r (now (image .exit)) ⌝ }
 {
     page::store(image, index, byte)
 }
 
 #[no_mangle]
 pub extern "C" fn pouch_set_joypad_state(image: &mut [u8], state: u8) -> u8
-    ensures { λ r. ⌜ changed r (now (image .exit)) ≡ stateEntry (now (image .entry)) (SetJoypadState state) ⌝ }
+    ensures { λ r. ⌜ Changes (now (image .entry)) (on.SetJoypadState state) r (now (image .exit)) ⌝ }
 {
     input::set_joypad_state(image, state)
 }
 
 #[no_mangle]
 pub extern "C" fn pouch_are_action_keys_enabled(image: &[u8], value: &mut u16) -> u8
-    ensures { λ r. ⌜ given r (now (value .exit)) ≡ askEntry (now (image .entry)) AreActionKeysEnabled ⌝ }
+    ensures { λ r. ⌜ Asks (now (image .entry)) on.AreActionKeysEnabled r (now (value .exit)) ⌝ }
 {
     let asked = input::are_action_keys_enabled(image);
     *value = asked.value;
@@ -46,7 +44,7 @@ pub extern "C" fn pouch_are_action_keys_enabled(image: &[u8], value: &mut u16) -
 
 #[no_mangle]
 pub extern "C" fn pouch_are_direction_keys_enabled(image: &[u8], value: &mut u16) -> u8
-    ensures { λ r. ⌜ given r (now (value .exit)) ≡ askEntry (now (image .entry)) AreDirectionKeysEnabled ⌝ }
+    ensures { λ r. ⌜ Asks (now (image .entry)) on.AreDirectionKeysEnabled r (now (value .exit)) ⌝ }
 {
     let asked = input::are_direction_keys_enabled(image);
     *value = asked.value;
@@ -55,56 +53,56 @@ pub extern "C" fn pouch_are_direction_keys_enabled(image: &[u8], value: &mut u16
 
 #[no_mangle]
 pub extern "C" fn pouch_do_lcd_control_write(image: &mut [u8], byte: u8) -> u8
-    ensures { λ r. ⌜ changed r (now (image .exit)) ≡ stateEntry (now (image .entry)) (DoLcdControlWrite byte) ⌝ }
+    ensures { λ r. ⌜ Changes (now (image .entry)) (on.DoLcdControlWrite byte) r (now (image .exit)) ⌝ }
 {
     quick_screen::do_lcd_control_write(image, byte)
 }
 
 #[no_mangle]
 pub extern "C" fn pouch_do_lcd_status_write(image: &mut [u8], byte: u8) -> u8
-    ensures { λ r. ⌜ changed r (now (image .exit)) ≡ stateEntry (now (image .entry)) (DoLcdStatusWrite byte) ⌝ }
+    ensures { λ r. ⌜ Changes (now (image .entry)) (on.DoLcdStatusWrite byte) r (now (image .exit)) ⌝ }
 {
     quick_screen::do_lcd_status_write(image, byte)
 }
 
 #[no_mangle]
 pub extern "C" fn pouch_do_scanline_write(image: &mut [u8], byte: u8) -> u8
-    ensures { λ r. ⌜ changed r (now (image .exit)) ≡ stateEntry (now (image .entry)) (DoScanlineWrite byte) ⌝ }
+    ensures { λ r. ⌜ Changes (now (image .entry)) (on.DoScanlineWrite byte) r (now (image .exit)) ⌝ }
 {
     quick_screen::do_scanline_write(image, byte)
 }
 
 #[no_mangle]
 pub extern "C" fn pouch_do_lyc_write(image: &mut [u8], byte: u8) -> u8
-    ensures { λ r. ⌜ changed r (now (image .exit)) ≡ stateEntry (now (image .entry)) (DoLycWrite byte) ⌝ }
+    ensures { λ r. ⌜ Changes (now (image .entry)) (on.DoLycWrite byte) r (now (image .exit)) ⌝ }
 {
     quick_screen::do_lyc_write(image, byte)
 }
 
 #[no_mangle]
 pub extern "C" fn pouch_compare_ly_to_lyc(image: &mut [u8]) -> u8
-    ensures { λ r. ⌜ changed r (now (image .exit)) ≡ stateEntry (now (image .entry)) CompareLyToLyc ⌝ }
+    ensures { λ r. ⌜ Changes (now (image .entry)) on.CompareLyToLyc r (now (image .exit)) ⌝ }
 {
     quick_screen::compare_ly_to_lyc(image)
 }
 
 #[no_mangle]
 pub extern "C" fn pouch_enable_screen(image: &mut [u8]) -> u8
-    ensures { λ r. ⌜ changed r (now (image .exit)) ≡ stateEntry (now (image .entry)) EnableScreen ⌝ }
+    ensures { λ r. ⌜ Changes (now (image .entry)) on.EnableScreen r (now (image .exit)) ⌝ }
 {
     quick_screen::enable_screen(image)
 }
 
 #[no_mangle]
 pub extern "C" fn pouch_disable_screen(image: &mut [u8]) -> u8
-    ensures { λ r. ⌜ changed r (now (image .exit)) ≡ stateEntry (now (image .entry)) DisableScreen ⌝ }
+    ensures { λ r. ⌜ Changes (now (image .entry)) on.DisableScreen r (now (image .exit)) ⌝ }
 {
     quick_screen::disable_screen(image)
 }
 
 #[no_mangle]
 pub extern "C" fn pouch_reset_window_line(image: &mut [u8]) -> u8
-    ensures { λ r. ⌜ changed r (now (image .exit)) ≡ stateEntry (now (image .entry)) ResetWindowLine ⌝ }
+    ensures { λ r. ⌜ Changes (now (image .entry)) on.ResetWindowLine r (now (image .exit)) ⌝ }
 {
     quick_screen::reset_window_line(image)
 }
@@ -112,7 +110,7 @@ pub extern "C" fn pouch_reset_window_line(image: &mut [u8]) -> u8
 // The interrupt that is served first, by its bit; 5 for none.
 #[no_mangle]
 pub extern "C" fn pouch_get_interrupts(image: &[u8], value: &mut u16) -> u8
-    ensures { λ r. ⌜ given r (now (value .exit)) ≡ askEntry (now (image .entry)) GetInterrupts ⌝ }
+    ensures { λ r. ⌜ Asks (now (image .entry)) on.GetInterrupts r (now (value .exit)) ⌝ }
 {
     let asked = interrupts::get_interrupts(image);
     *value = asked.value;
@@ -121,21 +119,21 @@ pub extern "C" fn pouch_get_interrupts(image: &[u8], value: &mut u16) -> u8
 
 #[no_mangle]
 pub extern "C" fn pouch_request_interrupt(image: &mut [u8], interrupt: u8) -> u8
-    ensures { λ r. ⌜ changed r (now (image .exit)) ≡ stateEntry (now (image .entry)) (RequestInterrupt interrupt) ⌝ }
+    ensures { λ r. ⌜ Changes (now (image .entry)) (on.RequestInterrupt interrupt) r (now (image .exit)) ⌝ }
 {
     interrupts::request_interrupt(image, interrupt)
 }
 
 #[no_mangle]
 pub extern "C" fn pouch_remove_interrupt(image: &mut [u8], interrupt: u8) -> u8
-    ensures { λ r. ⌜ changed r (now (image .exit)) ≡ stateEntry (now (image .entry)) (RemoveInterrupt interrupt) ⌝ }
+    ensures { λ r. ⌜ Changes (now (image .entry)) (on.RemoveInterrupt interrupt) r (now (image .exit)) ⌝ }
 {
     interrupts::remove_interrupt(image, interrupt)
 }
 
 #[no_mangle]
 pub extern "C" fn pouch_is_hdma_enabled(image: &[u8], value: &mut u16) -> u8
-    ensures { λ r. ⌜ given r (now (value .exit)) ≡ askEntry (now (image .entry)) IsHdmaEnabled ⌝ }
+    ensures { λ r. ⌜ Asks (now (image .entry)) on.IsHdmaEnabled r (now (value .exit)) ⌝ }
 {
     let asked = fields::is_hdma_enabled(image);
     *value = asked.value;
@@ -145,7 +143,7 @@ pub extern "C" fn pouch_is_hdma_enabled(image: &[u8], value: &mut u16) -> u8
 // The Rust's Timer::update.
 #[no_mangle]
 pub extern "C" fn pouch_update_timer(image: &mut [u8], cycles: u32) -> u8
-    ensures { λ r. ⌜ changed r (now (image .exit)) ≡ stateEntry (now (image .entry)) (UpdateTimer cycles) ⌝ }
+    ensures { λ r. ⌜ Changes (now (image .entry)) (on.UpdateTimer cycles) r (now (image .exit)) ⌝ }
 {
     clock::update_timer(image, cycles)
 }
@@ -153,7 +151,7 @@ pub extern "C" fn pouch_update_timer(image: &mut [u8], cycles: u32) -> u8
 // The cycles left until TIMA overflows.
 #[no_mangle]
 pub extern "C" fn pouch_cycles_to_overflow(image: &[u8], value: &mut u32) -> u8
-    ensures { λ r. ⌜ given r (now (value .exit)) ≡ overflowEntry (now (image .entry)) ⌝ }
+    ensures { λ r. ⌜ GivesCycles (now (image .entry)) r (now (value .exit)) ⌝ }
 {
     let left = clock::cycles_to_overflow(image);
     *value = left.cycles;
@@ -162,14 +160,14 @@ pub extern "C" fn pouch_cycles_to_overflow(image: &[u8], value: &mut u32) -> u8
 
 #[no_mangle]
 pub extern "C" fn pouch_press(image: &mut [u8], button: u8) -> u8
-    ensures { λ r. ⌜ changed r (now (image .exit)) ≡ stateEntry (now (image .entry)) (Press button) ⌝ }
+    ensures { λ r. ⌜ Changes (now (image .entry)) (on.Press button) r (now (image .exit)) ⌝ }
 {
     input::press(image, button)
 }
 
 #[no_mangle]
 pub extern "C" fn pouch_release(image: &mut [u8], button: u8) -> u8
-    ensures { λ r. ⌜ changed r (now (image .exit)) ≡ stateEntry (now (image .entry)) (Release button) ⌝ }
+    ensures { λ r. ⌜ Changes (now (image .entry)) (on.Release button) r (now (image .exit)) ⌝ }
 {
     input::release(image, button)
 }
@@ -177,7 +175,7 @@ pub extern "C" fn pouch_release(image: &mut [u8], button: u8) -> u8
 // The Rust's Controller::update.
 #[no_mangle]
 pub extern "C" fn pouch_update_joypad(image: &mut [u8]) -> u8
-    ensures { λ r. ⌜ changed r (now (image .exit)) ≡ stateEntry (now (image .entry)) UpdateJoypad ⌝ }
+    ensures { λ r. ⌜ Changes (now (image .entry)) on.UpdateJoypad r (now (image .exit)) ⌝ }
 {
     input::update_joypad(image)
 }
@@ -185,7 +183,7 @@ pub extern "C" fn pouch_update_joypad(image: &mut [u8]) -> u8
 // The host has copied the log's used bytes off.
 #[no_mangle]
 pub extern "C" fn pouch_clear_log(image: &mut [u8]) -> u8
-    ensures { λ r. ⌜ changed r (now (image .exit)) ≡ stateEntry (now (image .entry)) ClearLog ⌝ }
+    ensures { λ r. ⌜ Changes (now (image .entry)) on.ClearLog r (now (image .exit)) ⌝ }
 {
     fields::clear_log(image)
 }
@@ -203,7 +201,8 @@ pub extern "C" fn pouch_host(
     aux: i32,
     window: i32,
 ) -> u8
-    ensures { λ r. ⌜ changed r (now (image .exit)) ≡ stateEntry (now (image .entry)) (Host (numbersOf disabled line signal mode delay counter aux window)) ⌝ }
+    ensures { λ r. ⌜ Changes (now (image .entry)) (on.Host (numbersOf disabled line signal mode delay counter aux window)) r
+        (now (image .exit)) ⌝ }
 {
     let lcd = Lcd {
         disabled: disabled,

@@ -1,6 +1,5 @@
 // What this library is, as one number, for a host that was compiled against another.
-ghost use mathlib.Core.Path.{_≡_};
-ghost use Rattle.entry.specs.Host.{versionNumber};
+ghost use Rattle.entry.specs.Contracts.{IsVersion};
 
 const MAJOR: u64 = 3;
 
@@ -10,7 +9,7 @@ const PATCH: u64 = 0;
 
 #[no_mangle]
 pub extern "C" fn pouch_version() -> u64
-    ensures { λ r. ⌜ r ≡ versionNumber ⌝ }
+    ensures { λ r. ⌜ IsVersion r ⌝ }
 {
     let version = MAJOR * 0x1_0000 + MINOR * 0x100 + PATCH;
     let lengths = image::LENGTH as u64 * 0x100 + savelog::RECORD_LEN as u64;
