@@ -14,6 +14,8 @@ use host::lent;
 use host::state;
 use lcd::Lcd;
 
+pub mod beside;
+
 // The number, and the value as a number.
 pub struct Entered {
     pub number: u8,
