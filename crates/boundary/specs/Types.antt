@@ -11,7 +11,7 @@ use Rattle.image.specs.Laws.{Typed}
 use Rattle.lcd.specs.declared.Lcd.{Lcd}
 use Rattle.memory.specs.World.{World}
 use Rattle.packing.specs.Packing.{Below}
-use Rattle.promise.specs.Runs.{Turn}
+use Rattle.promise.specs.Runs.{Lending, Own, Another, Turn}
 
 -- the host's eight numbers
 pub record LcdTyped (l : Lcd) : Type 0 where
@@ -59,19 +59,24 @@ CallTyped (call.DoDmaTransfer page) = Unit {0}
 CallTyped call.DoHdma = Unit {0}
 CallTyped (call.State c) = StateTyped c
 
--- what is lent is bytes
+-- what is lent is bytes; the log is never read
+abbrev pub LendingTyped : Lending → Type 0
+LendingTyped Own = Unit {0}
+LendingTyped (Another l) = Below 256 l
+
 pub record TurnTyped (t : Turn) : Type 0 where
   pub rom : Below 256 (t .read .rom)
   pub sound : Below 256 (t .read .sound)
+  pub vram : Below 256 (t .vram)
+  pub wram : Below 256 (t .wram)
+  pub save : LendingTyped (t .save)
   pub call : CallTyped (t .call)
 
 abbrev pub TurnsTyped : List Turn → Type 0
 TurnsTyped [] = Unit {0}
 TurnsTyped (t ∷ ts) = TurnTyped t × TurnsTyped ts
 
--- the log is never read
+-- so is what lies between the calls; video and work memory come with each
 pub record WorldTyped (w : World) : Type 0 where
   pub state : Typed (w .state)
-  pub vram : Below 256 (w .vram)
-  pub wram : Below 256 (w .wram)
   pub save : Below 256 (w .save)

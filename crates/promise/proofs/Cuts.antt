@@ -1,12 +1,11 @@
 -- The copies: each is whole records, and read back they are the admitted writes, all sound; so the law of crate savelog on cut copies applies.
 use mathlib.Core.Bool.{true}
 use mathlib.Core.List.{List, [], _∷_, _++_}
-use mathlib.Core.Path.{_≡_, refl, ap, sym, _∙_}
+use mathlib.Core.Path.{_≡_, refl, ap, sym, subst, _∙_}
 use Prim.Native.Nat.{ℕ, _%_, _<_, _≤_}
 use native.Mathlib.Omega.{arith}
 use lib.ListN.{length}
 use lib.Seq.{length-take-le}
-use Rattle.dispatch.proofs.Open.{Good, good-use}
 use Rattle.mbc.proofs.Laws.{by-ram-len, stored-within, ram-len-after}
 use Rattle.mbc.specs.Mbc.{ramLen, mapped, answer}
 use Rattle.mbc.specs.declared.cartridge.Cartridge.{Cartridge}
@@ -22,12 +21,15 @@ use Rattle.savelog.specs.Laws.{Copies, none, more}
 use Rattle.savelog.specs.declared.Form.the-variants.{Four}
 use Rattle.savelog.specs.Log.{width, addressEnd, stored, records, soundRecord, allSound, joined, logLimit, saveLengths, oneOf}
 use Rattle.savelog.specs.declared.Rec.{Rec}
-use Rattle.promise.specs.Bus.{Call, inSave, refused, Kind, Reading, Clearing, Other, kindOf}
-use Rattle.promise.specs.Calls.{ByteWrite}
-use Rattle.promise.specs.Admitted.{granted, grantedAll, mapperAfter, answered, letIn, letInAll, recordsOf}
+use Rattle.promise.specs.Bus.{inSave, refused, Kind, Reading, Clearing, Other, kindOf}
+use Rattle.promise.specs.Calls.{ByteWrite, writesOf}
+use Rattle.promise.specs.Admitted.{granted, mapperAfter, mappersAfter, answered, letIn, letInAll, recordsOf}
+use Rattle.promise.specs.Gate.{Terms, Gate, ruled, passed, lets, gateAfter, admittedBy}
 use Rattle.promise.specs.Promise.{Bytes, Typed}
-use Rattle.promise.specs.Runs.{Turn, made, usedBytes, copiedBefore, copiesFrom}
-use Rattle.promise.proofs.Runs.{made-moved}
+use Rattle.promise.specs.Runs.{Turn, AllLend, calls, made, asked, askedAll, termsOf, Able, usedBytes, copiedBefore, copiesFrom}
+use Rattle.promise.proofs.Room.{able-use}
+use Rattle.promise.proofs.Runs.{rest}
+use Rattle.promise.proofs.Turns.{turned}
 
 -- Records that a log for a save of `ram` bytes holds
 
@@ -65,7 +67,7 @@ ram-after : (c : Cartridge) (m : Mapper) (b : ByteWrite) → ramLen c (mapperAft
 unfolding mapperAfter
 ram-after c m b = cond-both (λ (k : Mapper). ramLen c k ≡ ramLen c m) (mapped (b .index)) (ram-len-after c m (b .index) (b .value)) refl
 
-pub let-fit : (c : Cartridge) (m : Mapper) (bs : List ByteWrite) → Bytes bs → Fit (ramLen c m) (letInAll c m bs)
+let-fit : (c : Cartridge) (m : Mapper) (bs : List ByteWrite) → Bytes bs → Fit (ramLen c m) (letInAll c m bs)
 unfolding letInAll letIn
 let-fit c m [] h = tt
 let-fit c m (b ∷ bs) h =
@@ -73,16 +75,25 @@ let-fit c m (b ∷ bs) h =
     (cond-both (Fit (ramLen c m)) (inSave (b .index)) (answered-fit c m (b .index) (b .value) (h .0) _ refl) tt)
     (rw (ram-after c m b) at (let-fit c (mapperAfter c m b) bs (h .1)))
 
-bytes-append : (a b : List ByteWrite) → Bytes a → Bytes b → Bytes (a ++ b)
-bytes-append [] b f g = g
-bytes-append (w ∷ a) b f g = (f .0, bytes-append a b (f .1) g)
+rams-after : (c : Cartridge) (m : Mapper) (bs : List ByteWrite) → ramLen c (mappersAfter c m bs) ≡ ramLen c m
+unfolding mappersAfter
+rams-after c m [] = refl
+rams-after c m (b ∷ bs) = rams-after c (mapperAfter c m b) bs ∙ ram-after c m b
 
-pub granted-bytes : (ns : List ℕ) (cs : List Call) → Typed cs → Bytes (grantedAll ns cs)
-unfolding grantedAll granted
-granted-bytes [] cs t = tt
-granted-bytes (n ∷ ns) [] t = tt
-granted-bytes (n ∷ ns) (c ∷ cs) t =
-    bytes-append (granted n c) (grantedAll ns cs) (cond-both Bytes (refused n) tt (t .0)) (granted-bytes ns cs (t .1))
+granted-bytes : (n : ℕ) (bs : List ByteWrite) → Bytes bs → Bytes (granted n bs)
+unfolding granted
+granted-bytes n bs h = cond-both Bytes (refused n) tt h
+
+pub admitted-fit : (d : Terms) (g : Gate) (ts : List Turn) → Typed (calls ts) → Fit (ramLen (d .cartridge) (g .mapper)) (admittedBy d g (askedAll d ts))
+unfolding admittedBy askedAll gateAfter
+admitted-fit d g [] h = tt
+admitted-fit d g (t ∷ ts) h =
+    let a = asked d t in
+    let bs = passed d g a in
+    fit-append (ramLen (d .cartridge) (g .mapper)) (lets d g a) (admittedBy d (gateAfter d g a) (askedAll d ts))
+    (let-fit (d .cartridge) (g .mapper) bs (granted-bytes (ruled (d .log) g a) (writesOf (t .call)) (h .0)))
+    (subst (λ (ram : ℕ). Fit ram (admittedBy d (gateAfter d g a) (askedAll d ts))) (rams-after (d .cartridge) (g .mapper) bs)
+    (admitted-fit d (gateAfter d g a) ts (h .1)))
 
 -- A save's length is one that recovery takes
 
@@ -92,31 +103,32 @@ ram-taken c m = by-ram-len (λ (n : ℕ). oneOf n saveLengths ≡ true) refl ref
 
 -- The copies are whole records, and short
 
-abbrev WholeCopy : List ℕ → Type 0
+abbrev pub WholeCopy : List ℕ → Type 0
 WholeCopy l = (length l % width ≡ 0) × (length l ≤ logLimit)
 
-abbrev Wholes : List (List ℕ) → Type 0
+abbrev pub Wholes : List (List ℕ) → Type 0
 Wholes [] = Unit {0}
 Wholes (l ∷ ls) = WholeCopy l × Wholes ls
 
-used-whole : (w : World) → Good w → WholeCopy (usedBytes w)
-used-whole w g =
-    let u = good-use g in
+pub used-whole : (w : World) → Able w → WholeCopy (usedBytes w)
+used-whole w a =
+    let u = able-use w a in
     let e = length-take-le (w .state .core .used) (w .log) (u .1) in
-    (rw e (u .0), rw e (omega (arith, u .1, g .holds .log)))
+    (rw e (u .0), rw e (omega (arith, u .1, a .log)))
 
-before-whole : (k : Kind) (n : ℕ) (w : World) (ls : List (List ℕ)) → WholeCopy (usedBytes w) → Wholes ls → Wholes (copiedBefore k n w ++ ls)
-before-whole Reading n w ls h t = t
-before-whole Clearing n w ls h t =
+before-whole : (k : Kind) (n : ℕ) (l : List ℕ) (ls : List (List ℕ)) → WholeCopy l → Wholes ls → Wholes (copiedBefore k n l ++ ls)
+before-whole Reading n l ls h t = t
+before-whole Clearing n l ls h t =
     cond-both (λ (ks : List (List ℕ)). Wholes (ks ++ ls)) (refused n) t (h, t)
-before-whole Other n w ls h t = t
+before-whole Other n l ls h t = t
 
-pub copies-whole : (w : World) (ts : List Turn) → Good w → Wholes (copiesFrom w ts)
+pub copies-whole : (w : World) (ts : List Turn) → Able w → AllLend (termsOf w .ram) ts → Wholes (copiesFrom w ts)
 unfolding copiesFrom
-copies-whole w [] g = (used-whole w g, tt)
-copies-whole w (t ∷ ts) g =
-    before-whole (kindOf (t .call)) (made w t .number) w (copiesFrom (made w t .after) ts) (used-whole w g)
-    (copies-whole (made w t .after) ts (made-moved w g t .good))
+copies-whole w [] a h = (used-whole w a, tt)
+copies-whole w (t ∷ ts) a h =
+    let m = turned w a t (h .0) in
+    before-whole (kindOf (t .call)) (made w t .number) (usedBytes w) (copiesFrom (made w t .after) ts) (used-whole w a)
+    (copies-whole (made w t .after) ts (m .able) (rest ts m (h .1)))
 
 -- and sound, if what they say together is
 

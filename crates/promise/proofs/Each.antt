@@ -16,8 +16,8 @@ use Rattle.copies.specs.declared.Copy.{Copy}
 use Rattle.rules.proofs.Tests.{by-cond, neither}
 use Rattle.promise.specs.Bus.{Outcome, outcome, step, inSave, nextIndex, Performed, Done, Kind, Reading, Clearing, Other, kindOf}
 use Rattle.promise.specs.Bus.call as call
-use Rattle.promise.specs.Calls.{writesOf}
-use Rattle.promise.specs.Each.{Untouched, TransferPromise, reaches, OutsidePromise}
+use Rattle.promise.specs.Calls.{writesOf, reaches}
+use Rattle.promise.specs.Each.{Untouched, TransferPromise, OutsidePromise}
 use Rattle.promise.proofs.Bus.{
   refusedWrite,
   changed,

@@ -3,10 +3,12 @@ pub mod Mappers
 pub mod Writes
 pub mod Lists
 pub mod Steps
+pub mod Never
+pub mod Room
+pub mod Turns
 pub mod Runs
 pub mod Begins
 pub mod Cuts
 pub mod Each
 pub mod Promise
 pub mod One
-pub mod Room

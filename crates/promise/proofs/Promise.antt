@@ -1,41 +1,71 @@
--- The promises over every list of calls, from a fresh bus.
-use mathlib.Core.Bool.{true}
-use mathlib.Core.List.{List, [], _∷_, _++_, append-assoc}
+-- The promises over every list of calls: on a bus that can go on, and so on a fresh one.
+use mathlib.Core.Bool.{Bool, true, false, cond, _||_}
+use mathlib.Core.List.{List, [], _∷_, _++_}
 use mathlib.Core.Path.{_≡_, refl, ap, sym, subst, _∙_}
-use Prim.Native.Nat.{ℕ, _-_, _/_}
+use Prim.Native.Nat.{ℕ, _+_, _-_, _*_, _/_}
+use native.Mathlib.Omega.{arith}
 use lib.ListN.{length, take}
 use lib.Seq.{take-at}
-use Rattle.dispatch.proofs.Open.{Good, good-use}
-use Rattle.dispatch.proofs.Starts.{Started, started}
+use Rattle.bus.specs.Fresh.{Begun}
+use Rattle.dispatch.proofs.Starts.{Started, started, by-begun}
 use Rattle.mbc.specs.Mbc as mbc
 use Rattle.mbc.specs.Mbc.{cartridgeOf, ramLen}
 use Rattle.mbc.specs.declared.cartridge.Cartridge.{Cartridge}
-use Rattle.mbc.specs.declared.mbc.Mapper.{Mapper}
 use Rattle.memory.specs.Region.{regionOf}
+use Rattle.memory.specs.Start.{started as startedWith}
 use Rattle.memory.specs.World.{World}
-use Rattle.savelog.proofs.Laws.{save-within}
+use Rattle.numbers.specs.Numbers.{done, wrongLength, damaged}
+use Rattle.rules.proofs.Tests.{neither, untrue}
+use Rattle.savelog.proofs.Laws.{save-within, records-none}
 use Rattle.savelog.proofs.Prefix as savelog
 use Rattle.savelog.specs.Laws.{Copies, none, more}
-use Rattle.savelog.specs.Log.{Outcome, width, records, allSound, applyAll, saveLengths, oneOf, recoverAll, joined, cutCopies}
+use Rattle.savelog.specs.Log.{
+  Outcome,
+  outcome,
+  width,
+  clearedUse,
+  records,
+  allSound,
+  applyAll,
+  saveLengths,
+  oneOf,
+  lengthsFit,
+  recovery,
+  recoverAll,
+  joined,
+  cutCopies,
+}
+use Rattle.savelog.specs.declared.Form.the-variants.{Four}
 use Rattle.savelog.specs.declared.Rec.{Rec}
 use Rattle.promise.specs.Bus.{inSave, Lent, start, begin}
-use Rattle.promise.specs.Admitted.{admittedBy, grantedAll, mapperAfter, letIn, letInAll, recordsOf}
-use Rattle.promise.specs.Promise.{Typed, Recovers, Promise, Example, WideExample}
-use Rattle.promise.specs.Runs.{Turn, calls, made, run, after, numbers, admitted, copiesFrom, copies}
-use Rattle.promise.proofs.Cuts.{Fit, fit-sound, fit-read, let-fit, granted-bytes, ram-taken, copies-whole, copies-sound}
-use Rattle.promise.proofs.Room.{byte-number, word-number, clear-number}
-use Rattle.promise.proofs.Runs.{admittedFrom, first, made-moved, run-good, run-cartridge, admitted-more, run-save, run-log}
-
--- the admitted writes of the first calls come first
-admitted-append : (w : World) (ts later : List Turn) → Good w → admittedFrom w (ts ++ later) ≡ admittedFrom w ts ++ admittedFrom (run w ts) later
-unfolding numbers grantedAll letInAll run
-admitted-append w [] later g = refl
-admitted-append w (t ∷ ts) later g =
-    let u = made w t .after in
-    admitted-more w g t (ts ++ later)
-    ∙ ap (λ (rs : List Rec). first w t ++ rs) (admitted-append u ts later (made-moved w g t .good))
-    ∙ sym (append-assoc (first w t) (admittedFrom u ts) (admittedFrom (run u ts) later))
-    ∙ ap (λ (rs : List Rec). rs ++ admittedFrom (run u ts) later) (sym (admitted-more w g t ts))
+use Rattle.promise.specs.Calls.{ByteWrite, some}
+use Rattle.promise.specs.Admitted.{mapperAfter, mappersAfter, letIn, letInAll, recordsOf}
+use Rattle.promise.specs.Gate.{Terms, Gate, Asked, passed, lets, gateAfter, admittedBy, telling}
+use Rattle.promise.specs.Promise.{Typed, Recovers, Told, Ruled, Promise, Same, Independent, Continued, Resumed, Example, WideExample}
+use Rattle.promise.specs.Runs.{
+  Turn,
+  AllLend,
+  calls,
+  run,
+  after,
+  askedAll,
+  ramOf,
+  terms,
+  opening,
+  admitted,
+  termsOf,
+  gateOf,
+  admittedFrom,
+  Able,
+  usedBytes,
+  copiesFrom,
+  copies,
+}
+use Rattle.promise.proofs.Cuts.{Fit, fit-sound, fit-read, admitted-fit, ram-taken, used-whole, copies-whole, copies-sound}
+use Rattle.promise.proofs.Lists.{none-granted}
+use Rattle.promise.proofs.Runs.{run-save, run-log, run-ruled}
+use Rattle.promise.proofs.Steps.{good-able}
+use Rattle.promise.proofs.Turns.{terms-same, gate-same}
 
 -- copies that are sound recover, however they are cut
 recovers-cut : {ram : ℕ} {ls : List (List ℕ)} → Copies ram ls → (s : List ℕ) (n : ℕ) → length s ≡ ram → oneOf ram saveLengths ≡ true
@@ -51,74 +81,214 @@ recovers-cut (more {c} {cs} h hs) s n m e =
       subst (λ (b : List ℕ). Recovers b (cutCopies (n - length c) cs)) (sym (ap (λ (o : Outcome). o .save) d)) r,
     )
 
--- a bus whose log is unused, as a fresh one is
-module _ (w : World) (g : Good w) (unused : w .state .core .used ≡ 0) (ts : List Turn) where
-  run-stood : (later : List Turn) → run w ts .save ≡ applyAll (w .save) (take (length (admittedFrom w ts)) (admittedFrom w (ts ++ later)))
-  run-stood later =
-      let a = admittedFrom w ts in
-      run-save w ts g
-      ∙ ap (applyAll (w .save)) (sym (rw (admitted-append w ts later g) (take-at a (admittedFrom (run w ts) later) (length a) refl)))
+-- and whole they give all their records
+recover-whole : {ram : ℕ} {ls : List (List ℕ)} → Copies ram ls → (s : List ℕ) → length s ≡ ram → oneOf ram saveLengths ≡ true
+    → recoverAll s ls ≡ applyAll s (records (joined ls))
+unfolding recoverAll joined applyAll
+recover-whole none s m e = sym (ap (λ (rs : List Rec). applyAll s rs) (records-none Four [] (omega arith)))
+recover-whole (more {c} {cs} h hs) s m e =
+    let d = savelog.recovery-done s c (rw m e) (h .short) (rw m (h .sound)) in
+    ap (λ (o : Outcome). recoverAll (o .save) cs) d
+    ∙ recover-whole hs (applyAll s (records c)) (savelog.length-applyAll s (records c) ∙ m) e
+    ∙ sym (savelog.applyAll-append s (records c) (records (joined cs)))
+    ∙ ap (λ (rs : List Rec). applyAll s rs) (sym (savelog.records-append Four c (joined cs) (h .whole)))
 
-  run-records : joined (copiesFrom w ts) ≡ recordsOf (admittedFrom w ts)
-  run-records = run-log w ts g ∙ ap (λ (u : ℕ). take u (w .log) ++ recordsOf (admittedFrom w ts)) unused
+-- what gave 0 was sound, and is what its records give
+taken : (a b : Bool) (s t u : List ℕ) {save : List ℕ}
+    → cond a (cond b (outcome done s) (outcome damaged t)) (outcome wrongLength u) ≡ outcome done save → (b ≡ true) × (s ≡ save)
+taken true true s t u h = (refl, ap (λ (o : Outcome). o .save) h)
+taken true false s t u h = let z : _≡_ {A = ℕ} 6 0 = ap (λ (o : Outcome). o .number) h in absurd (omega arith)
+taken false b s t u h = let z : _≡_ {A = ℕ} 4 0 = ap (λ (o : Outcome). o .number) h in absurd (omega arith)
+
+recovered : (image l save : List ℕ) → recovery image l ≡ outcome done save → (allSound (length image) (records l) ≡ true) × (applyAll image (records l) ≡ save)
+unfolding recovery
+recovered image l save e = taken (lengthsFit (length image) (length l)) (allSound (length image) (records l)) (applyAll image (records l)) image image e
+
+-- On a bus that can go on
+
+module _ (w : World) (a : Able w) (ts : List Turn) (h : AllLend (termsOf w .ram) ts) where
+  abbrev entered : List Rec
+  entered = admittedFrom w ts
+
+  saves : oneOf (termsOf w .ram) saveLengths ≡ true
+  saves = ram-taken (w .state .core .cartridge) (w .state .core .mapper)
 
   module _ (t : Typed (calls ts)) where
-    -- the admitted writes fit the save, so their records are read back, and are sound
-    admitted-fit : Fit (ramLen (w .state .core .cartridge) (w .state .core .mapper)) (admittedFrom w ts)
-    admitted-fit = let-fit (w .state .core .cartridge) (w .state .core .mapper) _ (granted-bytes (numbers w ts) (calls ts) t)
+    fit : Fit (termsOf w .ram) entered
+    fit = admitted-fit (termsOf w) (gateOf w) ts t
 
-    run-names : records (joined (copiesFrom w ts)) ≡ admittedFrom w ts
+    run-names : records (joined (copiesFrom w ts)) ≡ records (usedBytes w) ++ entered
     run-names =
-        ap records run-records
-        ∙ fit-read _ (save-within _ (ram-taken (w .state .core .cartridge) (w .state .core .mapper))) (admittedFrom w ts) admitted-fit
+        ap (λ (l : List ℕ). records l) (run-log w ts a h)
+        ∙ savelog.records-append Four (usedBytes w) (recordsOf entered) (used-whole w a .0)
+        ∙ ap (λ (rs : List Rec). records (usedBytes w) ++ rs) (fit-read (termsOf w .ram) (save-within (termsOf w .ram) saves) entered fit)
 
-    run-copies : Copies (length (w .save)) (copiesFrom w ts)
-    run-copies =
-        let ls = copiesFrom w ts in
-        let s : allSound (length (w .save)) (records (joined ls)) ≡ true =
-        rw (run-names, g .holds .save) (fit-sound _ (admittedFrom w ts) admitted-fit) in
-        copies-sound (length (w .save)) ls (copies-whole w ts g) s
+    -- over an older image, which what the log held made the save
+    module _ (image : List ℕ) (e : recovery image (usedBytes w) ≡ outcome done (w .save)) where
+      before : (allSound (length image) (records (usedBytes w)) ≡ true) × (applyAll image (records (usedBytes w)) ≡ w .save)
+      before = recovered image (usedBytes w) (w .save) e
 
-    saves : oneOf (length (w .save)) saveLengths ≡ true
-    saves = rw (g .holds .save) (ram-taken (w .state .core .cartridge) (w .state .core .mapper))
+      image-length : length image ≡ termsOf w .ram
+      image-length = sym (savelog.length-applyAll image (records (usedBytes w))) ∙ ap (λ (s : List ℕ). length s) (before .1) ∙ a .save
 
-    run-recovers : (n : ℕ) → Recovers (w .save) (cutCopies n (copiesFrom w ts))
-    run-recovers n = recovers-cut run-copies (w .save) n refl saves
+      image-taken : oneOf (length image) saveLengths ≡ true
+      image-taken = ap (λ (n : ℕ). oneOf n saveLengths) image-length ∙ saves
 
-    run-cut : (n : ℕ) → recoverAll (w .save) (cutCopies n (copiesFrom w ts)) ≡ applyAll (w .save) (take (n / width) (admittedFrom w ts))
-    run-cut n = rw run-names at (savelog.copies (w .save) (copiesFrom w ts) n saves run-copies .1)
+      older-copies : Copies (length image) (copiesFrom w ts)
+      older-copies =
+          let s : allSound (length image) entered ≡ true =
+          ap (λ (n : ℕ). allSound n entered) image-length ∙ fit-sound (termsOf w .ram) entered fit in
+          copies-sound (length image) (copiesFrom w ts) (copies-whole w ts a h)
+          (ap (λ (rs : List Rec). allSound (length image) rs) run-names
+          ∙ savelog.allSound-append (length image) (records (usedBytes w)) entered (before .0) s)
 
--- so from a fresh one, whose cartridge and mapper are those of the description
+      older-cut : (n : ℕ) → recoverAll image (cutCopies n (copiesFrom w ts)) ≡ applyAll image (take (n / width) (records (usedBytes w) ++ entered))
+      older-cut n =
+          savelog.copies image (copiesFrom w ts) n image-taken older-copies .1
+          ∙ ap (λ (rs : List Rec). applyAll image (take (n / width) rs)) run-names
 
-admitted-is : (l : Lent) (ts : List Turn) → Started l (start l) → admittedFrom (begin l) ts ≡ admitted l ts
-admitted-is l ts s =
-    let ns = numbers (begin l) ts in
-    ap (λ (c : Cartridge). admittedBy c (begin l .state .core .mapper) ns (calls ts)) (s .cartridge)
-    ∙ ap (λ (m : Mapper). admittedBy (cartridgeOf (l .banks) (l .code)) m ns (calls ts)) (s .mapper)
+      older-recovers : (n : ℕ) → Recovers image (cutCopies n (copiesFrom w ts))
+      older-recovers n = recovers-cut older-copies image n refl image-taken
+
+      older-whole : recoverAll image (copiesFrom w ts) ≡ run w ts .save
+      older-whole =
+          recover-whole older-copies image refl image-taken
+          ∙ ap (λ (rs : List Rec). applyAll image rs) run-names
+          ∙ savelog.applyAll-append image (records (usedBytes w)) entered
+          ∙ ap (λ (s : List ℕ). applyAll s entered) (before .1)
+          ∙ sym (run-save w ts a h)
+
+  -- an unused log: the image is the save itself
+  module _ (unused : w .state .core .used ≡ 0) where
+    no-bytes : usedBytes w ≡ []
+    no-bytes = ap (λ (u : ℕ). take u (w .log)) unused
+
+    no-records : records (usedBytes w) ≡ []
+    no-records = ap (λ (l : List ℕ). records l) no-bytes ∙ records-none Four [] (omega arith)
+
+    itself : recovery (w .save) (usedBytes w) ≡ outcome done (w .save)
+    unfolding applyAll allSound
+    itself =
+        savelog.recovery-done (w .save) (usedBytes w) (ap (λ (n : ℕ). oneOf n saveLengths) (a .save) ∙ saves) (used-whole w a .1)
+        (ap (λ (rs : List Rec). allSound (length (w .save)) rs) no-records)
+        ∙ ap (λ (rs : List Rec). outcome done (applyAll (w .save) rs)) no-records
+
+    pub run-told : Told (w .save) (run w ts .save) (copiesFrom w ts) (calls ts) (admittedFrom w ts)
+    run-told =
+        record {
+          save = run-save w ts a h;
+          log = run-log w ts a h ∙ ap (λ (l : List ℕ). l ++ recordsOf entered) no-bytes;
+          names = λ t. run-names t ∙ ap (λ (rs : List Rec). rs ++ entered) no-records;
+          first = λ n. savelog.joined-cut n (copiesFrom w ts);
+          cut = λ t n. older-cut t (w .save) itself n ∙ ap (λ (rs : List Rec). applyAll (w .save) (take (n / width) (rs ++ entered))) no-records;
+          recovers = λ t n. older-recovers t (w .save) itself n;
+        }
+
+pub resumed : Resumed
+resumed w ts a h =
+    record {
+      save = run-save w ts a h;
+      log = run-log w ts a h;
+      ruled = run-ruled w ts a h;
+      older = λ image e t. (older-whole w a ts h t image e, older-cut w a ts h t image e, older-recovers w a ts h t image e);
+      unused = λ u. run-told w a ts h u;
+    }
+
+-- So from a fresh bus, whose terms are those of the description
+
+colour-begun : (l : Lent) → start l .number ≡ done → begin l .state .core .banks .colour ≡ l .colour
+unfolding startedWith
+colour-begun l z = by-begun (λ (b : Begun). b .state .core .banks .colour ≡ l .colour) _ _ _ _ z (λ e. refl)
+
+terms-begun : (l : Lent) → start l .number ≡ done → Started l (start l) → termsOf (begin l) ≡ terms l
+terms-begun l z s =
+    terms-same (termsOf (begin l)) (terms l) (s .cartridge) (colour-begun l z)
+    (ap (λ (c : Cartridge). ramLen c (begin l .state .core .mapper)) (s .cartridge) ∙ ap (ramLen (cartridgeOf (l .banks) (l .code))) (s .mapper)) refl
+
+gate-begun : (l : Lent) → Started l (start l) → gateOf (begin l) ≡ opening l
+gate-begun l s = gate-same (gateOf (begin l)) (opening l) (s .mapper) (s .unused)
 
 pub promise : Promise
-promise l ts z =
+promise l ts z k =
     let s = started l z in
-    let g = s .good in
-    let e = admitted-is l ts s in
-    let h = run-good (begin l) ts g in
-    let c : after l ts .state .core .cartridge ≡ cartridgeOf (l .banks) (l .code) = run-cartridge (begin l) ts g ∙ s .cartridge in
+    let a = good-able (begin l) (s .good) in
+    let d = terms-begun l z s in
+    let g = gate-begun l s in
+    let h = subst (λ (e : Terms). AllLend (e .ram) ts) (sym d) k in
+    let e : admittedFrom (begin l) ts ≡ admitted l ts =
+    ap (λ (e : Terms). admittedBy e (gateOf (begin l)) (askedAll e ts)) d ∙ ap (λ (o : Gate). admittedBy (terms l) o (askedAll (terms l) ts)) g in
+    let t = subst (λ (rs : List Rec). Told (l .image) (after l ts .save) (copies l ts) (calls ts) rs) e (run-told (begin l) a ts h (s .unused)) in
+    let r : Ruled (begin l) (terms l) (opening l) ts =
+    subst (λ (o : Gate). Ruled (begin l) (terms l) o ts) g (subst (λ (e : Terms). Ruled (begin l) e (gateOf (begin l)) ts) d (run-ruled (begin l) ts a h)) in
     record {
-      save = run-save (begin l) ts g ∙ ap (applyAll (l .image)) e;
-      log = run-records (begin l) g (s .unused) ts ∙ ap recordsOf e;
-      names = λ t. run-names (begin l) g (s .unused) ts t ∙ e;
-      first = λ n. savelog.joined-cut n (copies l ts);
-      cut = λ t n. run-cut (begin l) g (s .unused) ts t n ∙ ap (λ (rs : List Rec). applyAll (l .image) (take (n / width) rs)) e;
-      recovers = λ t. run-recovers (begin l) g (s .unused) ts t;
+      told = t;
+      ruled = r;
       stood = λ later.
-          run-stood (begin l) g (s .unused) ts later
-          ∙ ap (λ (rs : List Rec). applyAll (l .image) (take (length rs) (admittedFrom (begin l) (ts ++ later)))) e
-          ∙ ap (λ (rs : List Rec). applyAll (l .image) (take (length (admitted l ts)) rs)) (admitted-is l (ts ++ later) s);
-      bytes = λ x. rw (← c) (byte-number (after l ts) h x);
-      words = λ x. rw (← c) (word-number (after l ts) h x);
-      clears = clear-number (after l ts) h;
-      within = good-use h;
+          t .save
+          ∙ ap (λ (rs : List Rec). applyAll (l .image) rs)
+          (sym
+          (ap (λ (rs : List Rec). take (length (admitted l ts)) rs) (r .more later)
+          ∙ take-at (admitted l ts) (admittedFrom (after l ts) later) (length (admitted l ts)) refl));
     }
+
+-- What does not tell the machine anything
+
+no-writes : (bs : List ByteWrite) → some bs ≡ false → bs ≡ []
+no-writes [] e = refl
+no-writes (b ∷ bs) e = untrue (sym e)
+
+module _ (d : Terms) where
+  silent-gate : (g : Gate) (q : Asked) → q .writes ≡ [] → q .clears ≡ false → gateAfter d g q ≡ g
+  unfolding gateAfter mappersAfter letInAll
+  silent-gate g q e c =
+      let p : passed d g q ≡ [] = none-granted _ (q .writes) e in
+      let z : g .used + 0 ≡ g .used = omega arith in
+      gate-same (gateAfter d g q) g (ap (λ (bs : List ByteWrite). mappersAfter (d .cartridge) (g .mapper) bs) p)
+      (ap (λ (b : Bool). cond b clearedUse (g .used + length (lets d g q) * width)) c
+      ∙ ap (λ (bs : List ByteWrite). g .used + length (letInAll (d .cartridge) (g .mapper) bs) * width) p
+      ∙ z)
+
+  silent-lets : (g : Gate) (q : Asked) → q .writes ≡ [] → lets d g q ≡ []
+  unfolding letInAll
+  silent-lets g q e = ap (λ (bs : List ByteWrite). letInAll (d .cartridge) (g .mapper) bs) (none-granted _ (q .writes) e)
+
+  tell-one : (g : Gate) (q : Asked) (qs : List Asked) → admittedBy d (gateAfter d g q) (telling qs) ≡ admittedBy d (gateAfter d g q) qs
+      → admittedBy d g (telling qs) ≡ admittedBy d g qs → (b : Bool) → (q .clears || some (q .writes)) ≡ b
+      → admittedBy d g (cond b (q ∷ []) [] ++ telling qs) ≡ admittedBy d g (q ∷ qs)
+  unfolding admittedBy
+  tell-one g q qs told silent true e = ap (λ (rs : List Rec). lets d g q ++ rs) told
+  tell-one g q qs told silent false e =
+      let n = neither (q .clears) (some (q .writes)) e in
+      let s = no-writes (q .writes) (n .1) in
+      silent
+      ∙ ap (λ (o : Gate). admittedBy d o qs) (sym (silent-gate g q s (n .0)))
+      ∙ ap (λ (rs : List Rec). rs ++ admittedBy d (gateAfter d g q) qs) (sym (silent-lets g q s))
+
+  tells : (g : Gate) (qs : List Asked) → admittedBy d g (telling qs) ≡ admittedBy d g qs
+  unfolding telling
+  tells g [] = refl
+  tells g (q ∷ qs) = tell-one g q qs (tells (gateAfter d g q) qs) (tells g qs) (q .clears || some (q .writes)) refl
+
+same-admitted : (l k : Lent) (ts us : List Turn) → Same l k → telling (askedAll (terms l) ts) ≡ telling (askedAll (terms k) us)
+    → admitted l ts ≡ admitted k us
+same-admitted l k ts us s e =
+    let d : terms l ≡ terms k =
+    terms-same (terms l) (terms k) (rw (s .banks, s .code)) (s .colour) (rw (s .banks, s .code, s .kind)) (s .log) in
+    let g : opening l ≡ opening k = gate-same (opening l) (opening k) (rw (s .kind)) refl in
+    sym (tells (terms l) (opening l) (askedAll (terms l) ts))
+    ∙ ap (λ (qs : List Asked). admittedBy (terms l) (opening l) qs) e
+    ∙ ap (λ (o : Terms). admittedBy o (opening l) (telling (askedAll (terms k) us))) d
+    ∙ ap (λ (o : Gate). admittedBy (terms k) o (telling (askedAll (terms k) us))) g
+    ∙ tells (terms k) (opening k) (askedAll (terms k) us)
+
+pub independent : Independent
+independent l k ts us s y z h j e =
+    let a = same-admitted l k ts us s e in
+    let t = promise l ts y h .told in
+    let u = promise k us z j .told in (
+      t .save ∙ ap (λ (i : List ℕ). applyAll i (admitted l ts)) (s .image) ∙ ap (λ (rs : List Rec). applyAll (k .image) rs) a ∙ sym (u .save),
+      t .log ∙ ap recordsOf a ∙ sym (u .log),
+    )
 
 pub wide-example : WideExample
 unfolding letInAll letIn mapperAfter inSave regionOf mbc.start mbc.after5 mbc.enable5 mbc.ram5 mbc.chosenRam mbc.ramBanks mbc.source mbc.ramSource mbc.ramLen mbc.mapped

@@ -1,16 +1,17 @@
 -- What each call leaves: nothing refused, read or transferred stores a byte; a write stores what the mapper lets in; clearing leaves the log's bytes unused.
-use mathlib.Core.Bool.{Bool, true, false, cond}
+use mathlib.Core.Bool.{true, cond}
 use mathlib.Core.List.{List, [], _∷_, _++_, append-nil}
-use mathlib.Core.Path.{_≡_, refl, _∙_}
-use Prim.Native.Nat.{ℕ, _+_, _/_, _%_, _≤_}
+use mathlib.Core.Path.{_≡_, refl, ap, sym, _∙_}
+use Prim.Native.Nat.{ℕ, _+_, _*_, _/_, _%_, _≤_}
 use native.Mathlib.Omega.{arith}
 use lib.Dec.{eqb}
 use lib.ListN.{length}
 use borrow.Author.Tests.{le-leb, eqb-false}
-use Rattle.dispatch.proofs.Numbered.{by-unless, state-refusal, byte-refusal, word-refusal, byte-fits, low-fits, high-fits, byte-done, word-done}
-use Rattle.dispatch.proofs.Open.{Good, stays-good}
+use Rattle.dispatch.proofs.Numbered.{by-unless, byte-refusal, word-refusal, byte-fits, low-fits, high-fits, byte-done, word-done}
+use Rattle.dispatch.proofs.Open.{Good, stays-good, alone-open}
 use Rattle.dispatch.proofs.States.{Answers, reads, changes, clears, state-answers}
 use Rattle.memory.proofs.Laws.{used-range}
+use Rattle.memory.specs.Ranges.{inRange}
 use Rattle.memory.specs.World.{World, Fixed, withUsed}
 use Rattle.mmu.proofs.Laws.{kept-stays, write-stays, transfer-stays}
 use Rattle.mmu.proofs.Saves.{Clear, transfer-spares, oam-clear, block-clear}
@@ -21,70 +22,83 @@ use Rattle.copies.specs.Copies.{oamCopy}
 use Rattle.registers.specs.Transfers.{blockCopy}
 use Rattle.copies.specs.declared.Copy.{Copy}
 use Rattle.rules.proofs.Tests.{by-cond}
-use Rattle.savelog.specs.Log.{width, logLimit, joined, applyAll, useInRange}
+use Rattle.savelog.specs.Log.{width, clearedUse, joined, applyAll, useInRange}
+use Rattle.savelog.specs.declared.Rec.{Rec}
 use Rattle.promise.specs.Bus.{Outcome, outcome, step, Performed, Call, inSave, nextIndex, Done, refused, Kind, Reading, Clearing, Other, kindOf}
 use Rattle.promise.specs.Bus.call as call
 use Rattle.promise.specs.Calls.{ByteWrite, byte, writesOf}
-use Rattle.promise.specs.Admitted.{granted, letInAll, recordsOf}
-use Rattle.promise.specs.Runs.{usedBytes, copiedBefore}
+use Rattle.promise.specs.Admitted.{granted, mappersAfter, letInAll, recordsOf}
+use Rattle.promise.specs.Runs.{isClearing, Able, usedBytes, copiedBefore}
 use Rattle.promise.proofs.Bus.{orElse, refusedWrite, byteRoom, wordRoom, changed, refusedState, unless, inWorld}
 use Rattle.promise.proofs.Mappers.{High, transfer-mapper, oam-high, block-high}
 use Rattle.promise.proofs.Writes.{write-stores, write-after}
-use Rattle.promise.proofs.Lists.{mappersAfter, Quiet, quiet-refl, Made, Left, left-none, left-more}
+use Rattle.promise.proofs.Lists.{none-granted, Quiet, quiet-refl, Made, Left, left-none, left-more}
 
 pub record Moved (w : World) (c : Call) (o : Outcome) : Type 0 where
-  pub good : Good (o .after)
+  pub able : Able (o .after)
   pub cartridge : o .after .state .core .cartridge ≡ w .state .core .cartridge
-  pub mapper : o .after .state .core .mapper ≡ mappersAfter (w .state .core .cartridge) (w .state .core .mapper) (granted (o .number) c)
-  pub save : o .after .save ≡ applyAll (w .save) (letInAll (w .state .core .cartridge) (w .state .core .mapper) (granted (o .number) c))
-  pub log : joined (copiedBefore (kindOf c) (o .number) w) ++ usedBytes (o .after)
-      ≡ usedBytes w ++ recordsOf (letInAll (w .state .core .cartridge) (w .state .core .mapper) (granted (o .number) c))
+  pub colour : o .after .state .core .banks .colour ≡ w .state .core .banks .colour
+  pub size : length (o .after .log) ≡ length (w .log)
+  pub mapper : o .after .state .core .mapper ≡ mappersAfter (w .state .core .cartridge) (w .state .core .mapper) (granted (o .number) (writesOf c))
+  pub used : o .after .state .core .used
+      ≡ cond (isClearing (kindOf c)) clearedUse
+      (w .state .core .used + length (letInAll (w .state .core .cartridge) (w .state .core .mapper) (granted (o .number) (writesOf c))) * width)
+  pub save : o .after .save ≡ applyAll (w .save) (letInAll (w .state .core .cartridge) (w .state .core .mapper) (granted (o .number) (writesOf c)))
+  pub log : joined (copiedBefore (kindOf c) (o .number) (usedBytes w)) ++ usedBytes (o .after)
+      ≡ usedBytes w ++ recordsOf (letInAll (w .state .core .cartridge) (w .state .core .mapper) (granted (o .number) (writesOf c)))
 
 -- a kind of call that clears nothing
-data NoClear : Kind → Type 0 where
+pub data NoClear : Kind → Type 0 where
   reading : NoClear Reading
   other : NoClear Other
 
-none-copied : {k : Kind} (n : ℕ) (w : World) → NoClear k → joined (copiedBefore k n w) ≡ []
+none-copied : {k : Kind} (n : ℕ) (bytes : List ℕ) → NoClear k → joined (copiedBefore k n bytes) ≡ []
 unfolding joined
-none-copied n w reading = refl
-none-copied n w other = refl
+none-copied n bytes reading = refl
+none-copied n bytes other = refl
+
+unclear : {k : Kind} (a b : ℕ) → NoClear k → cond (isClearing k) a b ≡ b
+unclear a b reading = refl
+unclear a b other = refl
+
+pub good-able : (w : World) → Good w → Able w
+unfolding inRange
+good-able w g = record { range = rw (g .holds .state) (g .used); save = g .holds .save; log = g .holds .log }
 
 module _ (w : World) (g : Good w) where
   holds : Holds w
   holds = g .holds
 
-  abbrev Uncopied : Call → ℕ → Type 0
-  Uncopied c n = joined (copiedBefore (kindOf c) n w) ≡ []
+  abbrev stored : List ByteWrite → List Rec
+  stored bs = letInAll (w .state .core .cartridge) (w .state .core .mapper) bs
 
-  moved-left : (c : Call) (o : Outcome) {bs : List ByteWrite} → Uncopied c (o .number) → granted (o .number) c ≡ bs → Left bs w (o .after)
+  moved-left : (c : Call) (o : Outcome) {bs : List ByteWrite} → NoClear (kindOf c) → granted (o .number) (writesOf c) ≡ bs → Left bs w (o .after)
       → Moved w c o
-  moved-left c o u e l =
+  moved-left c o k e l =
       record {
-        good = stays-good w (o .after) g (l .stays);
+        able = good-able (o .after) (stays-good w (o .after) g (l .stays));
         cartridge = l .stays .cartridge;
+        colour = l .stays .colour;
+        size = l .size;
         mapper = rw e (l .mapper);
+        used = l .used
+            ∙ ap (λ (bs : List ByteWrite). w .state .core .used + length (stored bs) * width) (sym e)
+            ∙ sym (unclear clearedUse (w .state .core .used + length (stored (granted (o .number) (writesOf c))) * width) k);
         save = rw e (l .save);
-        log = rw (e, u) (l .log);
+        log = rw (e, none-copied (o .number) (usedBytes w) k) (l .log);
       }
 
   -- a call that is refused
-  moved-refused : (c : Call) (n : ℕ) → Uncopied c n → refused n ≡ true → Moved w c (outcome n 0 w)
+  pub moved-refused : (c : Call) (n : ℕ) → NoClear (kindOf c) → refused n ≡ true → Moved w c (outcome n 0 w)
   unfolding granted
-  moved-refused c n u e = moved-left c (outcome n 0 w) u (rw e) (left-none w w (quiet-refl w holds))
+  moved-refused c n k e = moved-left c (outcome n 0 w) k (rw e) (left-none w w (quiet-refl w holds))
 
   -- a call with no byte write
   module _ (c : Call) (k : NoClear (kindOf c)) (e : writesOf c ≡ []) where
     moved-quiet : (o : Outcome) → Quiet w (o .after) → Moved w c o
-    unfolding granted
-    moved-quiet o q =
-        moved-left c o (none-copied (o .number) w k) (either (refused (o .number)) e) (left-none w (o .after) q)
-      where
-        either : (b : Bool) {bs : List ByteWrite} → bs ≡ [] → cond b [] bs ≡ []
-        either true e = refl
-        either false e = e
+    moved-quiet o q = moved-left c o k (none-granted (o .number) (writesOf c) e) (left-none w (o .after) q)
 
-    moved-read : (n v : ℕ) → Moved w c (outcome n v w)
+    pub moved-read : (n v : ℕ) → Moved w c (outcome n v w)
     moved-read n v = moved-quiet (outcome n v w) (quiet-refl w holds)
 
     moved-transfer : (x : Fixed) (v : ℕ) (k : Copy) → Clear k → High k
@@ -121,9 +135,12 @@ module _ (w : World) (g : Good w) where
     unfolding granted mappersAfter letInAll applyAll recordsOf joined
     moved-clear k =
         record {
-          good = clear-good;
+          able = good-able _ clear-good;
           cartridge = refl;
+          colour = refl;
+          size = refl;
           mapper = rw e;
+          used = rw k;
           save = rw e;
           log = rw (k, e) (append-nil (usedBytes w ++ []));
         }
@@ -140,9 +157,7 @@ module _ (w : World) (g : Good w) where
     moved-state clears k =
         let n = refusedState (w .state) in
         by-cond (λ (d : Done). Moved w c (outcome (d .number) 0 (inState w (d .memory)))) (eqb n 0) _ _ (λ t. moved-clear k)
-        (λ f.
-        let r = state-refusal (w .state) logLimit (eqb-false n 0 f) in
-        moved-refused c n (rw (k, r)) r)
+        (λ f. absurd (eqb-false n 0 f (alone-open w g)))
 
   -- a byte write
   made-byte : (x : Fixed) (i v : ℕ) → (inSave i ≡ true → w .state .core .used + width ≤ length (w .log)) → Made (byte i v) w (writeAt x 2 w i v)
@@ -171,13 +186,13 @@ moved x w g (call.WriteByte i v) =
     by-unless (Moved w (call.WriteByte i v)) n w _
     (λ z.
     let a = made-byte w g x i v (byte-fits (w .state .core .used) (length (w .log)) i (both-pass (refusedWrite x w) _ z .1)) in
-    moved-left w g (call.WriteByte i v) _ refl (rw (byte-done i)) (left-more a (left-none _ _ (quiet-refl _ (a .stays .holds)))))
-    (λ h. moved-refused w g (call.WriteByte i v) n refl (byte-refusal x w i h))
+    moved-left w g (call.WriteByte i v) _ other (rw (byte-done i)) (left-more a (left-none _ _ (quiet-refl _ (a .stays .holds)))))
+    (λ h. moved-refused w g (call.WriteByte i v) n other (byte-refusal x w i h))
 moved x w g (call.WriteWord i v) =
     let n = orElse (refusedWrite x w) (wordRoom (w .state .core .used) (length (w .log)) i) in
     by-unless (Moved w (call.WriteWord i v)) n w _
-    (λ z. moved-left w g (call.WriteWord i v) _ refl (rw (word-done i)) (left-word x w g i v (both-pass (refusedWrite x w) _ z .1)))
-    (λ h. moved-refused w g (call.WriteWord i v) n refl (word-refusal x w i h))
+    (λ z. moved-left w g (call.WriteWord i v) _ other (rw (word-done i)) (left-word x w g i v (both-pass (refusedWrite x w) _ z .1)))
+    (λ h. moved-refused w g (call.WriteWord i v) n other (word-refusal x w i h))
 moved x w g (call.DoDmaTransfer page) =
     moved-transfer w g (call.DoDmaTransfer page) other refl x 0 (oamCopy page) (oam-clear page) (oam-high page)
 moved x w g call.DoHdma = moved-transfer w g call.DoHdma other refl x 36 (blockCopy (w .state)) (block-clear (w .state)) (block-high (w .state))

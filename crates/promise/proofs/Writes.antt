@@ -3,7 +3,7 @@ use mathlib.Core.Bool.{true, false, _&&_}
 use mathlib.Core.List.{List, [], _++_, append-nil}
 use mathlib.Core.Logic.{_⊎_, inl, inr, ⊎-elim}
 use mathlib.Core.Path.{_≡_, refl, ap, sym, _∙_}
-use Prim.Native.Nat.{ℕ, _+_, _≤_}
+use Prim.Native.Nat.{ℕ, _+_, _*_, _≤_}
 use native.Mathlib.Omega.{arith}
 use lib.Dec.{ltb, leb}
 use lib.ListN.{length}
@@ -39,6 +39,7 @@ pub record Stores (rs : List Rec) (w u : World) : Type 0 where
   pub save : u .save ≡ applyAll (w .save) rs
   pub log : usedBytes u ≡ usedBytes w ++ recordsOf rs
   pub grown : u .state .core .used ≤ w .state .core .used + width
+  pub used : u .state .core .used ≡ w .state .core .used + length rs * width
   pub same : length (u .log) ≡ length (w .log)
 
 stores-none : (w u : World) → Spares w u → Stores [] w u
@@ -48,6 +49,7 @@ stores-none w u s =
       save = s .save;
       log = rw (s .used, s .log, append-nil);
       grown = rw (s .used) (omega arith);
+      used = rw (s .used) (omega arith);
       same = rw (s .log);
     }
 
@@ -60,6 +62,7 @@ saved-stores w m (Stored at v) h =
       save = refl;
       log = rw append-nil (used-more (w .log) (w .state .core .used) at v h);
       grown = omega arith;
+      used = omega arith;
       same = appended-length (w .log) (w .state .core .used) at v h;
     }
 saved-stores w m NotStored h = stores-none w _ (record { save = refl; log = refl; used = refl })
@@ -70,6 +73,7 @@ stores-spared rs w u y s p =
       save = p .save ∙ s .save;
       log = rw (p .used, p .log) (s .log);
       grown = rw (p .used) (s .grown);
+      used = rw (p .used) (s .used);
       same = rw (p .log) (s .same);
     }
 

@@ -1,4 +1,4 @@
--- Which byte writes are let in, and as what: from the mapper's rules (crate mbc), the calls, and each call's number alone. No memory of the bus is asked.
+-- Which byte writes are let in, and as what: from the mapper's rules (crate mbc) and the writes alone. No memory of the bus is asked.
 use mathlib.Core.Bool.{cond}
 use mathlib.Core.List.{List, [], _∷_, _++_}
 use Prim.Native.Nat.{ℕ}
@@ -10,22 +10,21 @@ use Rattle.mbc.specs.declared.mbc.Answer.the-variants.{Stored, NotStored}
 use Rattle.savelog.specs.Log.{stored, recordBytes}
 use Rattle.savelog.specs.declared.Form.the-variants.{Four}
 use Rattle.savelog.specs.declared.Rec.{Rec}
-use Rattle.promise.specs.Bus.{Call, inSave, refused}
-use Rattle.promise.specs.Calls.{ByteWrite, writesOf}
+use Rattle.promise.specs.Bus.{inSave, refused}
+use Rattle.promise.specs.Calls.{ByteWrite}
 
--- "that were not refused": the byte writes of the calls that were done, by the number that each call gave
-unfoldable pub granted : ℕ → Call → List ByteWrite
-granted n c = cond (refused n) [] (writesOf c)
-
-unfoldable pub grantedAll : List ℕ → List Call → List ByteWrite
-grantedAll [] cs = []
-grantedAll (n ∷ ns) [] = []
-grantedAll (n ∷ ns) (c ∷ cs) = granted n c ++ grantedAll ns cs
+-- "that were not refused": the byte writes of a call, by its number
+unfoldable pub granted : ℕ → List ByteWrite → List ByteWrite
+granted n bs = cond (refused n) [] bs
 
 -- "after the earlier writes": a byte write in 0000..7FFF or A000..BFFF, where the bus asks the mapper, leaves the mapper that its rules give; no other
 -- changes it. (One in A000..BFFF that the log has no room for is refused by 2, so it is not among these.)
 unfoldable pub mapperAfter : Cartridge → Mapper → ByteWrite → Mapper
 mapperAfter c m b = cond (mapped (b .index)) (after c m (b .index) (b .value)) m
+
+unfoldable pub mappersAfter : Cartridge → Mapper → List ByteWrite → Mapper
+mappersAfter c m [] = m
+mappersAfter c m (b ∷ bs) = mappersAfter c (mapperAfter c m b) bs
 
 -- "byte writes to A000..BFFF that the mapper's rules let in, each at the address and with the value that those rules give"
 abbrev pub answered : Answer → List Rec
@@ -38,10 +37,6 @@ letIn c m b = cond (inSave (b .index)) (answered (answer c m (b .index) (b .valu
 unfoldable pub letInAll : Cartridge → Mapper → List ByteWrite → List Rec
 letInAll c m [] = []
 letInAll c m (b ∷ bs) = letIn c m b ++ letInAll c (mapperAfter c m b) bs
-
--- the admitted writes of a list of calls, from the cartridge, the mapper as it is before them, and their numbers
-abbrev pub admittedBy : Cartridge → Mapper → List ℕ → List Call → List Rec
-admittedBy c m ns cs = letInAll c m (grantedAll ns cs)
 
 -- their records, byte by byte
 unfoldable pub recordsOf : List Rec → List ℕ

@@ -3,13 +3,13 @@ pub use Rattle.bus.specs.Calls.{Outcome, outcome}
 pub use Rattle.bus.specs.Fresh.{Begun, begun}
 pub use Rattle.dispatch.specs.Kinds.{refused, Kind, Reading, Clearing, Other}
 unfoldable pub use Rattle.dispatch.specs.Kinds.{kindOf}
-pub use Rattle.dispatch.specs.Lent.{Lent, start, begin, fits}
+pub use Rattle.dispatch.specs.Lent.{Lent, start, begin}
 unfoldable pub use Rattle.dispatch.specs.Step.{step}
 pub use Rattle.dispatch.specs.declared.Performed.{Performed}
 pub use Rattle.dispatch.specs.declared.Call.{Call}
 pub use Rattle.dispatch.specs.declared.Call.the-variants as call
 pub use Rattle.dispatch.specs.declared.StateCall.the-variants as on
 pub use Rattle.refusals.specs.Refusal.{nextIndex}
-unfoldable pub use Rattle.refusals.specs.Refusal.{inSave, byteOwed, wordOwed}
+unfoldable pub use Rattle.refusals.specs.Refusal.{inSave, inSound, byteOwed, wordOwed}
 pub use Rattle.refusals.specs.declared.Done.{Done}
 pub use Rattle.transfer_calls.specs.declared.Moved.{Moved}

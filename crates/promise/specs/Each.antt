@@ -1,14 +1,13 @@
 -- What holds of each call, on every state and every buffer, in range or not: `each_call_holds` has these as its contract, with those of crate dispatch.
-use mathlib.Core.Bool.{Bool, false, _||_}
-use mathlib.Core.List.{List, [], _∷_}
+use mathlib.Core.Bool.{false}
 use mathlib.Core.Path.{_≡_}
 use Prim.Native.Nat.{ℕ}
 use Rattle.memory.specs.World.{World, Fixed}
 use Rattle.mmu.specs.Access.{put}
 use Rattle.mmu.specs.Write.{writeAt}
-use Rattle.promise.specs.Bus.{inSave, step, Call, Clearing, kindOf}
+use Rattle.promise.specs.Bus.{step, Call, Clearing, kindOf}
 use Rattle.promise.specs.Bus.call as call
-use Rattle.promise.specs.Calls.{ByteWrite, writesOf}
+use Rattle.promise.specs.Calls.{writesOf, reaches}
 
 -- save, log and use as they were
 pub record Untouched (w u : World) : Type 0 where
@@ -25,10 +24,6 @@ TransferPromise =
     × ((i v : ℕ) → Untouched (put w i v) (writeAt x 2 w i v))
 
 -- A call with no index in A000..BFFF writes none, with what it starts; clearing alone changes the use
-unfoldable pub reaches : List ByteWrite → Bool
-reaches [] = false
-reaches (b ∷ bs) = inSave (b .index) || reaches bs
-
 abbrev pub OutsidePromise : Type 0
 OutsidePromise =
     (x : Fixed) (w : World) (c : Call)

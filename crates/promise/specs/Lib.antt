@@ -1,6 +1,7 @@
 pub mod Bus
 pub mod Calls
 pub mod Admitted
+pub mod Gate
 pub mod Runs
 pub mod Promise
 pub mod Each
