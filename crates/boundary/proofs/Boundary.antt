@@ -1,41 +1,29 @@
 -- Entries over lists, by induction; and from the fresh entry, or any image that is taken, the promise.
-use mathlib.Core.Bool.{Bool, true, false, _&&_}
+use mathlib.Core.Bool.{true}
 use mathlib.Core.List.{List, [], _∷_, _++_}
 use mathlib.Core.Path.{_≡_, refl, ap, sym, subst, _∙_}
-use Prim.Native.Nat.{ℕ, zero, suc, _-_, _/_, _%_, _≤_}
+use Prim.Native.Nat.{ℕ, _-_, _/_, _%_, _≤_}
 use native.Mathlib.Omega.{arith}
-use lib.Dec.{eqb, ltb, lit<}
-use lib.ListN.{length, getD, take, replicate, length-replicate}
-use lib.IntN.{pos}
+use lib.ListN.{length, take}
 use lib.Seq.{take-at}
-use mir.Syntax.{w32}
-use mir.Val.{SFits}
-use borrow.Author.Tests.{ltb-true, eq-eqb, eqb-true, eqb-false}
-use Rattle.bus.specs.Fresh.{Begun}
-use Rattle.dispatch.proofs.Starts.{by-begun}
+use borrow.Author.Tests.{eq-eqb}
 use Rattle.dispatch.specs.Kinds.{kindOf}
 use Rattle.dispatch.specs.Lent.{Lent, start, begin}
 use Rattle.dispatch.specs.Step.{step}
 use Rattle.dispatch.specs.declared.Call.{Call}
 use Rattle.dispatch.specs.declared.Call.the-variants as call
-use Rattle.hdma.proofs.Laws.{start-range}
-use Rattle.hdma.specs.Hdma.{InRange}
 use Rattle.entry.proofs.Laws.{step-storable, fresh-storable}
-use Rattle.entry.specs.Entry.{Given, given, usedEntry, Left, leftIn, Fresh, fresh, freshEntry}
+use Rattle.entry.specs.Entry.{Given, given, usedEntry, Left, leftIn, freshEntry}
 use Rattle.image.proofs.LoadedPatches.{loaded-typed}
 use Rattle.image.proofs.Round.{state-back, image-back}
 use Rattle.image.proofs.StateLaws.{storable-state}
 use Rattle.image.specs.Layout.{imageLen, imageOf}
 use Rattle.image.specs.Load.{storable, loaded, loadCall}
 use Rattle.image.specs.declared.Loaded.{Loaded}
-use Rattle.mbc.specs.declared.cartridge.Cartridge.{Cartridge}
-use Rattle.mbc.specs.declared.mbc.Mapper.{Mapper}
 use Rattle.memory.specs.Ranges.{stateInRange, inRange}
-use Rattle.memory.specs.Start.{monochromePage, colourPage, startPage, startHdma, started}
 use Rattle.memory.specs.World.{World}
 use Rattle.numbers.specs.Numbers.{done, outOfRange}
 use Rattle.packing.specs.Packing.{Below}
-use Rattle.palette.specs.Palette as palette
 use Rattle.promise.proofs.Begins.{begins}
 use Rattle.promise.proofs.Promise.{promise, resumed}
 use Rattle.promise.specs.Admitted.{recordsOf}
@@ -70,7 +58,6 @@ use Rattle.promise.specs.Runs.{
 }
 use Rattle.put_bytes.proofs.Storable.{parts}
 use Rattle.put_bytes.proofs.Whole.{Whole}
-use Rattle.rules.proofs.Tests.{both-true, by-cond, cond-both}
 use Rattle.savelog.proofs.Use.{use-parts, use-joins}
 use Rattle.savelog.specs.Log.{width, logLimit, records, applyAll, useInRange, recoverAll, joined, cutCopies}
 use Rattle.savelog.specs.declared.Rec.{Rec}
@@ -103,7 +90,8 @@ use Rattle.boundary.specs.Held.{
 use Rattle.boundary.specs.Types.{CallTyped, LendingTyped, TurnTyped, TurnsTyped}
 use Rattle.boundary.proofs.Bytes.{step-whole}
 use Rattle.boundary.proofs.Entries.{entry-step}
-use Rattle.in_place.proofs.Fine.{Page, Fine, typed-fine, fine-typed}
+use Rattle.boundary.proofs.Fresh.{begun-fine, fresh-done}
+use Rattle.in_place.proofs.Fine.{Fine, typed-fine, fine-typed}
 
 -- a state whose image gives it back, over a save of bytes; video and work memory come with each call
 record Sound (w : World) : Type 0 where
@@ -181,7 +169,8 @@ alike w (t ∷ ts) s h =
     }
 
 pub entry-runs : EntryRuns
-entry-runs w ts t h ys = alike w ts (record { state = typed-fine (w .state) (t .state) (storable-state (w .state) h); save = t .save; stores = h }) ys
+entry-runs w ts t h ys =
+    alike w ts (record { state = typed-fine (w .state) (t .state) (storable-state (w .state) h); save = t .save; stores = h }) ys
 
 numbers-same : (w : World) (ts : List Turn) → numbersOf (answers w ts) ≡ numbers w ts
 unfolding answers numbers
@@ -236,7 +225,8 @@ module _ (w : World) (s : Sound w) (ts : List Turn) (h : TurnsTyped ts) where
           never = subst (λ (ns : List ℕ). Without outOfRange ns) (sym numbers-alike) (r .never);
           taken = ap (λ (k : Held). usedEntry (k .image) .number) (same .same-held) ∙ ap (λ (l : Loaded). l .number) end-loads;
           next = subst (λ (k : Held). Refuses d (freeIn k) May (λ (t : Turn). entered k t .number)) (sym (same .same-held))
-              (subst (λ (u : ℕ). Refuses d (length (run w ts .log) - u) May (λ (t : Turn). entered (held (run w ts)) t .number)) (sym used-end) end-next);
+              (subst (λ (u : ℕ). Refuses d (length (run w ts .log) - u) May (λ (t : Turn). entered (held (run w ts)) t .number)) (sym used-end)
+              end-next);
           within = subst (λ (k : Held). (usedIn k % width ≡ 0) × (usedIn k ≤ length (k .log))) (sym (same .same-held))
               (subst (λ (u : ℕ). (u % width ≡ 0) × (u ≤ length (run w ts .log))) (sym used-end) (r .within));
           grows = λ later k t.
@@ -248,66 +238,6 @@ module _ (w : World) (s : Sound w) (ts : List Turn) (h : TurnsTyped ts) where
               ∙ take-at (joined (copiesFrom w ts)) _ (length (joined (copiesFrom w ts))) refl
               ∙ ap joined (sym c);
         }
-
--- A fresh state
-
-zeros-below : (n : ℕ) → Below 256 (replicate n 0)
-zeros-below zero i = lit< tt
-zeros-below (suc n) zero = lit< tt
-zeros-below (suc n) (suc i) = zeros-below n i
-
-unfoldable allBytes : List ℕ → Bool
-allBytes [] = true
-allBytes (v ∷ l) = ltb v 256 && allBytes l
-
-all-below : (l : List ℕ) → allBytes l ≡ true → Below 256 l
-unfolding allBytes
-all-below [] h i = lit< tt
-all-below (v ∷ l) h zero = ltb-true v 256 (both-true (ltb v 256) (allBytes l) h .0)
-all-below (v ∷ l) h (suc i) = all-below l (both-true (ltb v 256) (allBytes l) h .1) i
-
-page-bytes : (colour : Bool) → Page (startPage colour)
-unfolding startPage colourPage monochromePage allBytes
-page-bytes true = record { size = refl; bytes = all-below colourPage refl }
-page-bytes false = record { size = refl; bytes = all-below monochromePage refl }
-
-start-hdma : (colour : Bool) (p : List ℕ) → Page p → InRange (startHdma colour p)
-unfolding startHdma
-start-hdma colour p h =
-    cond-both InRange colour (start-range _ (getD p 0x52 0) (getD p 0x53 0) (getD p 0x54 0) (h .bytes 0x51))
-    ((refl, lit< tt), (refl, lit< tt))
-
-none : SFits w32 (pos 0)
-none = record { sfits = lit< tt }
-
-started-fine : (c : Cartridge) (m : Mapper) (colour : Bool) → Fine (started c m colour)
-unfolding started palette.colorsInRange palette.inRange
-started-fine c m colour =
-    record {
-      oam = record { size = length-replicate {A = ℕ} 256 0; bytes = zeros-below 256 };
-      page = page-bytes colour;
-      background = (refl, refl);
-      sprites = (refl, refl);
-      joypad = (lit< tt, lit< tt);
-      lcd = record { line = lit< tt; signal = lit< tt; mode = lit< tt; delay = none; counter = none; aux = none; window = none };
-      hdma = start-hdma colour (startPage colour) (page-bytes colour);
-      clock = (lit< tt, lit< tt);
-      numbers = omega (arith, start-hdma colour (startPage colour) (page-bytes colour));
-    }
-
-begun-fine : (l : Lent) → start l .number ≡ done → Fine (begin l .state)
-begun-fine l z = by-begun (λ (f : Begun). Fine (f .state)) _ _ _ _ z (λ e. started-fine _ _ (l .colour))
-
--- the fresh entry, done
-fresh-done : (image v w : List ℕ) (b : Begun) → freshEntry image v w b .number ≡ done
-    → (b .number ≡ done) × (freshEntry image v w b ≡ fresh done (imageOf (b .state)) (b .vram) (b .wram))
-unfolding freshEntry
-fresh-done image v w b =
-    let Done : Fresh → Type 0 = λ f. f .number ≡ done → (b .number ≡ done) × (f ≡ fresh done (imageOf (b .state)) (b .vram) (b .wram)) in
-    by-cond Done (eqb (length image) imageLen) _ _
-    (λ t.
-    by-cond Done (eqb (b .number) 0) _ _ (λ s z. (eqb-true (b .number) 0 s, refl)) (λ s z. absurd (eqb-false (b .number) 0 s z)))
-    (λ t z. let y : _≡_ {A = ℕ} 4 0 = z in absurd (omega arith))
 
 -- the calls' words are words
 call-bytes : (c : Call) → CallTyped c → Bytes (writesOf c)
@@ -326,7 +256,8 @@ calls-typed [] h = tt
 calls-typed (t ∷ ts) h = (call-bytes (t .call) (h .0 .call), calls-typed ts (h .1))
 
 -- on a fresh bus
-kept-at : (l : Lent) (ts : List Turn) → start l .number ≡ done → Sound (begin l) → AllLend (ramOf l) ts → TurnsTyped ts → EntryKept l (held (begin l)) ts
+kept-at : (l : Lent) (ts : List Turn) → start l .number ≡ done → Sound (begin l) → AllLend (ramOf l) ts → TurnsTyped ts
+    → EntryKept l (held (begin l)) ts
 kept-at l ts z s m h =
     let k = promise l ts z m in
     record {
@@ -376,8 +307,10 @@ entry-resumed h ts o m t =
     let c = resumed w ts a m in
     let q = same w s ts t in
     record {
-      save = subst (λ (k : Held). entryRun k ts .save ≡ applyAll (h .save) (admittedFrom w ts)) e (ap (λ (k : Held). k .save) (q .same-held) ∙ c .save);
-      log = subst (λ (k : Held). joined (entryCopies k ts) ≡ usedOf h ++ recordsOf (admittedFrom w ts)) e (ap joined (q .same-copies) ∙ c .log);
+      save = subst (λ (k : Held). entryRun k ts .save ≡ applyAll (h .save) (admittedFrom w ts)) e
+          (ap (λ (k : Held). k .save) (q .same-held) ∙ c .save);
+      log = subst (λ (k : Held). joined (entryCopies k ts) ≡ usedOf h ++ recordsOf (admittedFrom w ts)) e
+          (ap joined (q .same-copies) ∙ c .log);
       ruled = subst (λ (k : Held). EntryRuled k (termsOf w) (gateOf w) ts) e (ruled-held w s ts t (termsOf w) (gateOf w) (c .ruled));
       older = λ image r.
           let d = c .older image r (calls-typed ts t) in (

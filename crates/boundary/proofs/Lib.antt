@@ -1,4 +1,5 @@
 pub mod Fine
 pub mod Bytes
 pub mod Entries
+pub mod Fresh
 pub mod Boundary

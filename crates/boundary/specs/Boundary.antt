@@ -116,7 +116,8 @@ pub record EntryContinued (h : Held) (ts : List Turn) : Type 0 where
   pub ruled : EntryRuled h (termsOf (busIn h)) (gateOf (busIn h)) ts
   pub older : (image : List ℕ) → recovery image (usedOf h) ≡ outcome done (h .save)
       → (recoverAll image (entryCopies h ts) ≡ entryRun h ts .save)
-      × ((n : ℕ) → recoverAll image (cutCopies n (entryCopies h ts)) ≡ applyAll image (take (n / width) (records (usedOf h) ++ admittedFrom (busIn h) ts)))
+      × ((n : ℕ)
+      → recoverAll image (cutCopies n (entryCopies h ts)) ≡ applyAll image (take (n / width) (records (usedOf h) ++ admittedFrom (busIn h) ts)))
       × ((n : ℕ) → Recovers image (cutCopies n (entryCopies h ts)))
   pub unused : usedIn h ≡ 0 → Told (h .save) (entryRun h ts .save) (entryCopies h ts) (calls ts) (admittedFrom (busIn h) ts)
 

@@ -84,7 +84,8 @@ granted-bytes : (n : ℕ) (bs : List ByteWrite) → Bytes bs → Bytes (granted 
 unfolding granted
 granted-bytes n bs h = cond-both Bytes (refused n) tt h
 
-pub admitted-fit : (d : Terms) (g : Gate) (ts : List Turn) → Typed (calls ts) → Fit (ramLen (d .cartridge) (g .mapper)) (admittedBy d g (askedAll d ts))
+pub admitted-fit : (d : Terms) (g : Gate) (ts : List Turn) → Typed (calls ts)
+    → Fit (ramLen (d .cartridge) (g .mapper)) (admittedBy d g (askedAll d ts))
 unfolding admittedBy askedAll gateAfter
 admitted-fit d g [] h = tt
 admitted-fit d g (t ∷ ts) h =

@@ -11,4 +11,6 @@ pub mod Begins
 pub mod Cuts
 pub mod Each
 pub mod Promise
+pub mod Independent
+pub mod Examples
 pub mod One

@@ -1,21 +1,18 @@
 -- The promises over every list of calls: on a bus that can go on, and so on a fresh one.
-use mathlib.Core.Bool.{Bool, true, false, cond, _||_}
+use mathlib.Core.Bool.{Bool, true, false, cond}
 use mathlib.Core.List.{List, [], _∷_, _++_}
 use mathlib.Core.Path.{_≡_, refl, ap, sym, subst, _∙_}
-use Prim.Native.Nat.{ℕ, _+_, _-_, _*_, _/_}
+use Prim.Native.Nat.{ℕ, _-_, _/_}
 use native.Mathlib.Omega.{arith}
 use lib.ListN.{length, take}
 use lib.Seq.{take-at}
 use Rattle.bus.specs.Fresh.{Begun}
 use Rattle.dispatch.proofs.Starts.{Started, started, by-begun}
-use Rattle.mbc.specs.Mbc as mbc
 use Rattle.mbc.specs.Mbc.{cartridgeOf, ramLen}
 use Rattle.mbc.specs.declared.cartridge.Cartridge.{Cartridge}
-use Rattle.memory.specs.Region.{regionOf}
 use Rattle.memory.specs.Start.{started as startedWith}
 use Rattle.memory.specs.World.{World}
 use Rattle.numbers.specs.Numbers.{done, wrongLength, damaged}
-use Rattle.rules.proofs.Tests.{neither, untrue}
 use Rattle.savelog.proofs.Laws.{save-within, records-none}
 use Rattle.savelog.proofs.Prefix as savelog
 use Rattle.savelog.specs.Laws.{Copies, none, more}
@@ -23,7 +20,6 @@ use Rattle.savelog.specs.Log.{
   Outcome,
   outcome,
   width,
-  clearedUse,
   records,
   allSound,
   applyAll,
@@ -37,11 +33,10 @@ use Rattle.savelog.specs.Log.{
 }
 use Rattle.savelog.specs.declared.Form.the-variants.{Four}
 use Rattle.savelog.specs.declared.Rec.{Rec}
-use Rattle.promise.specs.Bus.{inSave, Lent, start, begin}
-use Rattle.promise.specs.Calls.{ByteWrite, some}
-use Rattle.promise.specs.Admitted.{mapperAfter, mappersAfter, letIn, letInAll, recordsOf}
-use Rattle.promise.specs.Gate.{Terms, Gate, Asked, passed, lets, gateAfter, admittedBy, telling}
-use Rattle.promise.specs.Promise.{Typed, Recovers, Told, Ruled, Promise, Same, Independent, Continued, Resumed, Example, WideExample}
+use Rattle.promise.specs.Bus.{Lent, start, begin}
+use Rattle.promise.specs.Admitted.{recordsOf}
+use Rattle.promise.specs.Gate.{Terms, Gate, admittedBy}
+use Rattle.promise.specs.Promise.{Typed, Recovers, Told, Ruled, Promise, Resumed}
 use Rattle.promise.specs.Runs.{
   Turn,
   AllLend,
@@ -62,7 +57,6 @@ use Rattle.promise.specs.Runs.{
   copies,
 }
 use Rattle.promise.proofs.Cuts.{Fit, fit-sound, fit-read, admitted-fit, ram-taken, used-whole, copies-whole, copies-sound}
-use Rattle.promise.proofs.Lists.{none-granted}
 use Rattle.promise.proofs.Runs.{run-save, run-log, run-ruled}
 use Rattle.promise.proofs.Steps.{good-able}
 use Rattle.promise.proofs.Turns.{terms-same, gate-same}
@@ -100,9 +94,11 @@ taken true true s t u h = (refl, ap (λ (o : Outcome). o .save) h)
 taken true false s t u h = let z : _≡_ {A = ℕ} 6 0 = ap (λ (o : Outcome). o .number) h in absurd (omega arith)
 taken false b s t u h = let z : _≡_ {A = ℕ} 4 0 = ap (λ (o : Outcome). o .number) h in absurd (omega arith)
 
-recovered : (image l save : List ℕ) → recovery image l ≡ outcome done save → (allSound (length image) (records l) ≡ true) × (applyAll image (records l) ≡ save)
+recovered : (image l save : List ℕ) → recovery image l ≡ outcome done save
+    → (allSound (length image) (records l) ≡ true) × (applyAll image (records l) ≡ save)
 unfolding recovery
-recovered image l save e = taken (lengthsFit (length image) (length l)) (allSound (length image) (records l)) (applyAll image (records l)) image image e
+recovered image l save e =
+    taken (lengthsFit (length image) (length l)) (allSound (length image) (records l)) (applyAll image (records l)) image image e
 
 -- On a bus that can go on
 
@@ -203,7 +199,8 @@ colour-begun l z = by-begun (λ (b : Begun). b .state .core .banks .colour ≡ l
 terms-begun : (l : Lent) → start l .number ≡ done → Started l (start l) → termsOf (begin l) ≡ terms l
 terms-begun l z s =
     terms-same (termsOf (begin l)) (terms l) (s .cartridge) (colour-begun l z)
-    (ap (λ (c : Cartridge). ramLen c (begin l .state .core .mapper)) (s .cartridge) ∙ ap (ramLen (cartridgeOf (l .banks) (l .code))) (s .mapper)) refl
+    (ap (λ (c : Cartridge). ramLen c (begin l .state .core .mapper)) (s .cartridge) ∙ ap (ramLen (cartridgeOf (l .banks) (l .code))) (s .mapper))
+    refl
 
 gate-begun : (l : Lent) → Started l (start l) → gateOf (begin l) ≡ opening l
 gate-begun l s = gate-same (gateOf (begin l)) (opening l) (s .mapper) (s .unused)
@@ -219,7 +216,8 @@ promise l ts z k =
     ap (λ (e : Terms). admittedBy e (gateOf (begin l)) (askedAll e ts)) d ∙ ap (λ (o : Gate). admittedBy (terms l) o (askedAll (terms l) ts)) g in
     let t = subst (λ (rs : List Rec). Told (l .image) (after l ts .save) (copies l ts) (calls ts) rs) e (run-told (begin l) a ts h (s .unused)) in
     let r : Ruled (begin l) (terms l) (opening l) ts =
-    subst (λ (o : Gate). Ruled (begin l) (terms l) o ts) g (subst (λ (e : Terms). Ruled (begin l) e (gateOf (begin l)) ts) d (run-ruled (begin l) ts a h)) in
+    subst (λ (o : Gate). Ruled (begin l) (terms l) o ts) g
+    (subst (λ (e : Terms). Ruled (begin l) e (gateOf (begin l)) ts) d (run-ruled (begin l) ts a h)) in
     record {
       told = t;
       ruled = r;
@@ -230,70 +228,3 @@ promise l ts z k =
           (ap (λ (rs : List Rec). take (length (admitted l ts)) rs) (r .more later)
           ∙ take-at (admitted l ts) (admittedFrom (after l ts) later) (length (admitted l ts)) refl));
     }
-
--- What does not tell the machine anything
-
-no-writes : (bs : List ByteWrite) → some bs ≡ false → bs ≡ []
-no-writes [] e = refl
-no-writes (b ∷ bs) e = untrue (sym e)
-
-module _ (d : Terms) where
-  silent-gate : (g : Gate) (q : Asked) → q .writes ≡ [] → q .clears ≡ false → gateAfter d g q ≡ g
-  unfolding gateAfter mappersAfter letInAll
-  silent-gate g q e c =
-      let p : passed d g q ≡ [] = none-granted _ (q .writes) e in
-      let z : g .used + 0 ≡ g .used = omega arith in
-      gate-same (gateAfter d g q) g (ap (λ (bs : List ByteWrite). mappersAfter (d .cartridge) (g .mapper) bs) p)
-      (ap (λ (b : Bool). cond b clearedUse (g .used + length (lets d g q) * width)) c
-      ∙ ap (λ (bs : List ByteWrite). g .used + length (letInAll (d .cartridge) (g .mapper) bs) * width) p
-      ∙ z)
-
-  silent-lets : (g : Gate) (q : Asked) → q .writes ≡ [] → lets d g q ≡ []
-  unfolding letInAll
-  silent-lets g q e = ap (λ (bs : List ByteWrite). letInAll (d .cartridge) (g .mapper) bs) (none-granted _ (q .writes) e)
-
-  tell-one : (g : Gate) (q : Asked) (qs : List Asked) → admittedBy d (gateAfter d g q) (telling qs) ≡ admittedBy d (gateAfter d g q) qs
-      → admittedBy d g (telling qs) ≡ admittedBy d g qs → (b : Bool) → (q .clears || some (q .writes)) ≡ b
-      → admittedBy d g (cond b (q ∷ []) [] ++ telling qs) ≡ admittedBy d g (q ∷ qs)
-  unfolding admittedBy
-  tell-one g q qs told silent true e = ap (λ (rs : List Rec). lets d g q ++ rs) told
-  tell-one g q qs told silent false e =
-      let n = neither (q .clears) (some (q .writes)) e in
-      let s = no-writes (q .writes) (n .1) in
-      silent
-      ∙ ap (λ (o : Gate). admittedBy d o qs) (sym (silent-gate g q s (n .0)))
-      ∙ ap (λ (rs : List Rec). rs ++ admittedBy d (gateAfter d g q) qs) (sym (silent-lets g q s))
-
-  tells : (g : Gate) (qs : List Asked) → admittedBy d g (telling qs) ≡ admittedBy d g qs
-  unfolding telling
-  tells g [] = refl
-  tells g (q ∷ qs) = tell-one g q qs (tells (gateAfter d g q) qs) (tells g qs) (q .clears || some (q .writes)) refl
-
-same-admitted : (l k : Lent) (ts us : List Turn) → Same l k → telling (askedAll (terms l) ts) ≡ telling (askedAll (terms k) us)
-    → admitted l ts ≡ admitted k us
-same-admitted l k ts us s e =
-    let d : terms l ≡ terms k =
-    terms-same (terms l) (terms k) (rw (s .banks, s .code)) (s .colour) (rw (s .banks, s .code, s .kind)) (s .log) in
-    let g : opening l ≡ opening k = gate-same (opening l) (opening k) (rw (s .kind)) refl in
-    sym (tells (terms l) (opening l) (askedAll (terms l) ts))
-    ∙ ap (λ (qs : List Asked). admittedBy (terms l) (opening l) qs) e
-    ∙ ap (λ (o : Terms). admittedBy o (opening l) (telling (askedAll (terms k) us))) d
-    ∙ ap (λ (o : Gate). admittedBy (terms k) o (telling (askedAll (terms k) us))) g
-    ∙ tells (terms k) (opening k) (askedAll (terms k) us)
-
-pub independent : Independent
-independent l k ts us s y z h j e =
-    let a = same-admitted l k ts us s e in
-    let t = promise l ts y h .told in
-    let u = promise k us z j .told in (
-      t .save ∙ ap (λ (i : List ℕ). applyAll i (admitted l ts)) (s .image) ∙ ap (λ (rs : List Rec). applyAll (k .image) rs) a ∙ sym (u .save),
-      t .log ∙ ap recordsOf a ∙ sym (u .log),
-    )
-
-pub wide-example : WideExample
-unfolding letInAll letIn mapperAfter inSave regionOf mbc.start mbc.after5 mbc.enable5 mbc.ram5 mbc.chosenRam mbc.ramBanks mbc.source mbc.ramSource mbc.ramLen mbc.mapped
-wide-example = refl
-
-pub example : Example
-unfolding letInAll letIn mapperAfter inSave regionOf mbc.start mbc.after2 mbc.enable2 mbc.source mbc.ramSource mbc.ramLen mbc.mapped
-example = refl

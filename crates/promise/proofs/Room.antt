@@ -1,4 +1,5 @@
--- A bus that can go on refuses a call over lent memories by 4 where a length is wrong, a write besides for want of room alone, and no clearing; none by 3.
+-- A bus that can go on refuses a call over lent memories by 4 where a length is wrong, a write besides for want of room alone, no clearing, and no
+-- call by 3.
 use mathlib.Core.Bool.{Bool, true, false, cond, _&&_, _||_, or-false}
 use mathlib.Core.List.{List, [], _∷_}
 use mathlib.Core.Path.{_≡_, refl, ap, sym, subst, _∙_}
@@ -84,7 +85,8 @@ logs : (own : List ℕ) → length own ≤ logLimit → (k : Lending) → leb (l
 logs own h Own = le-leb (length own) logLimit h
 logs own h (Another l) = refl
 
-log-reaches : (used : ℕ) (own : List ℕ) → used ≤ length own → length own ≤ logLimit → (k : Lending) → MistakenLog k → used ≤ length (lentOf k own)
+log-reaches : (used : ℕ) (own : List ℕ) → used ≤ length own → length own ≤ logLimit → (k : Lending) → MistakenLog k
+    → used ≤ length (lentOf k own)
 log-reaches used own h e Own m = h
 log-reaches used own h e (Another l) m = omega (arith, h, e, m)
 
@@ -113,7 +115,8 @@ where-true : (f : Bool) (x y z : ℕ) → (f ≡ true → x ≡ y) → cond f x 
 where-true true x y z h = h refl
 where-true false x y z h = refl
 
-two-lengths : (a b : Bool) → cond (eqb (cond a done wrongLength) done) (cond b done wrongLength) (cond a done wrongLength) ≡ cond (a && b) done wrongLength
+two-lengths : (a b : Bool)
+    → cond (eqb (cond a done wrongLength) done) (cond b done wrongLength) (cond a done wrongLength) ≡ cond (a && b) done wrongLength
 two-lengths true b = refl
 two-lengths false b = refl
 
@@ -165,7 +168,9 @@ module _ (w : World) (a : Able w) where
 
     pub lent-number : refusedWrite (t .read) (lentTo w t) ≡ cond (fits (termsOf w) t) done wrongLength
     unfolding writeRefused lentRefused orElse logRefused lengthsRefused lengthsFit fits
-    lent-number = rw (state-open, saves (termsOf w .ram) (w .save) (a .save) (t .save), logs (w .log) (a .log) (t .log)) (two-lengths (memoriesFit (termsOf w) t) (logFits (t .log)))
+    lent-number =
+        rw (state-open, saves (termsOf w .ram) (w .save) (a .save) (t .save), logs (w .log) (a .log) (t .log))
+        (two-lengths (memoriesFit (termsOf w) t) (logFits (t .log)))
 
     pub lent-good : fits (termsOf w) t ≡ true → Good (lentTo w t)
     lent-good e = write-good (t .read) (lentTo w t) (lent-number ∙ ap (λ (b : Bool). cond b done wrongLength) e)
@@ -174,7 +179,8 @@ module _ (w : World) (a : Able w) where
     room-same : fits (termsOf w) t ≡ true → (n : ℕ) → ltb (length (lentTo w t .log)) (w .state .core .used + n) ≡ ltb (free w) n
     unfolding fits
     room-same e n =
-        ap (λ (l : List ℕ). ltb (length l) (w .state .core .used + n)) (own-log (w .log) (t .log) (h .1) (both-true (memoriesFit (termsOf w) t) (logFits (t .log)) e .1))
+        ap (λ (l : List ℕ). ltb (length l) (w .state .core .used + n))
+        (own-log (w .log) (t .log) (h .1) (both-true (memoriesFit (termsOf w) t) (logFits (t .log)) e .1))
         ∙ free-room (length (w .log)) (w .state .core .used) n (able-use .1)
 
     room-ruled : (b : Bool) (n k : ℕ)
@@ -202,7 +208,8 @@ module _ (w : World) (a : Able w) where
     word-number i b h =
         let t = turn x v u k j (call.WriteWord i b) in
         rw (lent-number t h)
-        (room-number (fits (termsOf w) t) ((inSave i || inSave (nextIndex i)) && ltb (length (lentTo w t .log)) (w .state .core .used + 2 * width)) (lentTo w t) _
+        (room-number (fits (termsOf w) t)
+        ((inSave i || inSave (nextIndex i)) && ltb (length (lentTo w t .log)) (w .state .core .used + 2 * width)) (lentTo w t) _
         ∙ room-ruled t h (inSave i || inSave (nextIndex i)) (2 * width) (wordOwed i))
 
     -- the machine rules the same

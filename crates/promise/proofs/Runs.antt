@@ -10,7 +10,7 @@ use Rattle.savelog.specs.declared.Rec.{Rec}
 use Rattle.promise.specs.Admitted.{recordsOf}
 use Rattle.promise.specs.Bus.{kindOf}
 use Rattle.promise.specs.Calls.{writesOf}
-use Rattle.promise.specs.Gate.{Terms, Gate, ruled, gateAfter, admittedBy, ofWrite, ruledAll}
+use Rattle.promise.specs.Gate.{Terms, Gate, ruled, gateAfter, gatesAfter, admittedBy, ofWrite, ruledAll}
 use Rattle.promise.specs.Promise.{Without, Ruled, free, Refuses}
 use Rattle.promise.specs.Runs.{
   Turn,
@@ -54,7 +54,8 @@ on-from : {A : Type 0} (f : Terms → Gate → A) {w : World} {t : Turn} → Tur
     → f (termsOf (made w t .after)) (gateOf (made w t .after)) ≡ f (termsOf w) (gateAfter (termsOf w) (gateOf w) (asked (termsOf w) t))
 on-from f {w} {t} m = ap (λ (d : Terms). f d (gateOf (made w t .after))) (m .terms) ∙ ap (λ (g : Gate). f (termsOf w) g) (m .gate)
 
-admitted-more : {w : World} {t : Turn} (ts : List Turn) → Turned w t → admittedFrom w (t ∷ ts) ≡ first w t ++ admittedFrom (made w t .after) ts
+admitted-more : {w : World} {t : Turn} (ts : List Turn) → Turned w t
+    → admittedFrom w (t ∷ ts) ≡ first w t ++ admittedFrom (made w t .after) ts
 unfolding admittedBy askedAll
 admitted-more {w} {t} ts m =
     ap (λ (rs : List Rec). first w t ++ rs) (sym (on-from (λ (d : Terms) (g : Gate). admittedBy d g (askedAll d ts)) m))
@@ -114,6 +115,14 @@ run-agree w (t ∷ ts) a h =
     ∙ ap (λ (ns : List ℕ). ofWrite (writesOf (t .call)) (ruled (termsOf w .log) (gateOf w) (asked (termsOf w) t)) ++ ns)
     (run-agree u ts (m .able) (rest ts m (h .1)) ∙ on-from (λ (d : Terms) (g : Gate). ruledAll d g (askedAll d ts)) m)
 
+run-gate : (w : World) (ts : List Turn) → Able w → AllLend (termsOf w .ram) ts
+    → gateOf (run w ts) ≡ gatesAfter (termsOf w) (gateOf w) (askedAll (termsOf w) ts)
+unfolding run gatesAfter askedAll
+run-gate w [] a h = refl
+run-gate w (t ∷ ts) a h =
+    let m = turned w a t (h .0) in
+    run-gate (made w t .after) ts (m .able) (rest ts m (h .1)) ∙ on-from (λ (d : Terms) (g : Gate). gatesAfter d g (askedAll d ts)) m
+
 run-never : (w : World) (ts : List Turn) → Able w → AllLend (termsOf w .ram) ts → Without outOfRange (numbers w ts)
 unfolding numbers
 run-never w [] a h = tt
@@ -127,6 +136,7 @@ run-ruled w ts a h =
     let b = run-able w ts a h in
     record {
       agree = run-agree w ts a h;
+      gate = run-gate w ts a h;
       never = run-never w ts a h;
       able = b;
       next = subst (λ (d : Terms). Refuses d (free u) (Lends (d .ram)) (λ (t : Turn). made u t .number)) (run-terms w ts a h) (refuses u b);

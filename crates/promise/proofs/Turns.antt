@@ -1,5 +1,5 @@
--- A turn on a bus that can go on. If all lengths fit, the call is made on a world of the right lengths; if not, a call over lent memories is refused by 4, a
--- read changes nothing, and a call on the state does what it does with memories that fit. So it leaves what the machine of specs/Gate.antt says.
+-- A turn on a bus that can go on. If all lengths fit, the call is made on a world of the right lengths; if not, a call over lent memories is refused
+-- by 4, a read changes nothing, and a call on the state does what it does with memories that fit. So it leaves what the machine says.
 use mathlib.Core.Bool.{Bool, true, false, cond}
 use mathlib.Core.List.{List, [], _∷_, _++_}
 use mathlib.Core.Path.{_≡_, refl, ap, sym, _∙_}
@@ -98,11 +98,17 @@ module _ (w : World) (a : Able w) (x : Fixed) (v u : List ℕ) where
     abbrev at : Call → Turn
     at c = turn x v u k j c
 
-    refused-still : (c : Call) (n : ℕ) → Moved (padded w a) c (outcome n 0 (padded w a)) → Moved w c (leaves w (at c) (outcome n 0 (lentTo w (at c))))
+    refused-still : (c : Call) (n : ℕ) → Moved (padded w a) c (outcome n 0 (padded w a))
+        → Moved w c (leaves w (at c) (outcome n 0 (lentTo w (at c))))
     refused-still c n s = still w a (at c) (w .state) n 0 s
 
+    read-still : (c : Call) → ((n b : ℕ) → Moved (padded w a) c (outcome n b (padded w a))) → {n b : ℕ}
+        → Moved w c (leaves w (at c) (outcome n b (lentTo w (at c))))
+    read-still c s {n} {b} = still w a (at c) (w .state) n b (s n b)
+
     by-number : (c : Call) (o : Outcome) → Moved (padded w a) c (outcome (refusedWrite x (lentTo w (at c))) 0 (padded w a))
-        → refusedWrite x (lentTo w (at c)) ≡ wrongLength → Moved w c (leaves w (at c) (unless (refusedWrite x (lentTo w (at c))) (lentTo w (at c)) o))
+        → refusedWrite x (lentTo w (at c)) ≡ wrongLength
+        → Moved w c (leaves w (at c) (unless (refusedWrite x (lentTo w (at c))) (lentTo w (at c)) o))
     by-number c o s e =
         by-unless (λ (o : Outcome). Moved w c (leaves w (at c) o)) (refusedWrite x (lentTo w (at c))) (lentTo w (at c)) o
         (λ z. absurd (omega (arith, e, z))) (λ h. refused-still c _ s)
@@ -112,10 +118,10 @@ module _ (w : World) (a : Able w) (x : Fixed) (v u : List ℕ) where
 
     moved-unfit : (c : Call) → refusedWrite x (lentTo w (at c)) ≡ wrongLength → Moved w c (made w (at c))
     unfolding step kindOf writesOf
-    moved-unfit (call.ReadByte i) e = still w a (at (call.ReadByte i)) (w .state) _ _ (moved-read (padded w a) (padded-good w a) (call.ReadByte i) reading refl _ _)
-    moved-unfit (call.ReadWord i) e = still w a (at (call.ReadWord i)) (w .state) _ _ (moved-read (padded w a) (padded-good w a) (call.ReadWord i) reading refl _ _)
+    moved-unfit (call.ReadByte i) e = read-still (call.ReadByte i) (moved-read (padded w a) (padded-good w a) (call.ReadByte i) reading refl)
+    moved-unfit (call.ReadWord i) e = read-still (call.ReadWord i) (moved-read (padded w a) (padded-good w a) (call.ReadWord i) reading refl)
     moved-unfit (call.ReadCgbLcdRam i bank) e =
-        still w a (at (call.ReadCgbLcdRam i bank)) (w .state) _ _ (moved-read (padded w a) (padded-good w a) (call.ReadCgbLcdRam i bank) reading refl _ _)
+        read-still (call.ReadCgbLcdRam i bank) (moved-read (padded w a) (padded-good w a) (call.ReadCgbLcdRam i bank) reading refl)
     moved-unfit (call.WriteByte i b) e =
         let c = call.WriteByte i b in
         by-unless (λ (o : Outcome). Moved w c (leaves w (at c) o)) _ (lentTo w (at c)) _
@@ -178,7 +184,8 @@ pub record Turned (w : World) (t : Turn) : Type 0 where
   pub terms : termsOf (made w t .after) ≡ termsOf w
   pub gate : gateOf (made w t .after) ≡ gateAfter (termsOf w) (gateOf w) (asked (termsOf w) t)
   pub save : made w t .after .save ≡ applyAll (w .save) (first w t)
-  pub log : joined (copiedBefore (kindOf (t .call)) (made w t .number) (usedBytes w)) ++ usedBytes (made w t .after) ≡ usedBytes w ++ recordsOf (first w t)
+  pub log : joined (copiedBefore (kindOf (t .call)) (made w t .number) (usedBytes w)) ++ usedBytes (made w t .after)
+      ≡ usedBytes w ++ recordsOf (first w t)
   pub agree : ofWrite (writesOf (t .call)) (made w t .number)
       ≡ ofWrite (writesOf (t .call)) (ruled (length (w .log)) (gateOf w) (asked (termsOf w) t))
 

@@ -17,8 +17,8 @@ use Rattle.promise.specs.Calls.{ByteWrite}
 unfoldable pub granted : ℕ → List ByteWrite → List ByteWrite
 granted n bs = cond (refused n) [] bs
 
--- "after the earlier writes": a byte write in 0000..7FFF or A000..BFFF, where the bus asks the mapper, leaves the mapper that its rules give; no other
--- changes it. (One in A000..BFFF that the log has no room for is refused by 2, so it is not among these.)
+-- "after the earlier writes": a byte write in 0000..7FFF or A000..BFFF, where the bus asks the mapper, leaves the mapper that its rules give; no
+-- other changes it. (One in A000..BFFF that the log has no room for is refused by 2, so it is not among these.)
 unfoldable pub mapperAfter : Cartridge → Mapper → ByteWrite → Mapper
 mapperAfter c m b = cond (mapped (b .index)) (after c m (b .index) (b .value)) m
 

@@ -1,5 +1,5 @@
--- Who is refused, and so what is admitted, without asking the bus: a machine that is told the cartridge's description, the log's length and what each call
--- asks for. It holds no memory and no register but the mapper's, and does not make the calls.
+-- Who is refused, and so what is admitted, without asking the bus: a machine that is told the cartridge's description, the log's length and what
+-- each call asks for. It holds no memory and no register but the mapper's, and makes no call: `step` is not named here.
 use mathlib.Core.Bool.{Bool, cond, _&&_, _||_}
 use mathlib.Core.List.{List, [], _∷_, _++_}
 use Prim.Native.Nat.{ℕ, _+_, _-_, _*_}
@@ -31,8 +31,8 @@ pub record Gate : Type 0 where
   pub mapper : Mapper
   pub used : ℕ
 
--- A write's number (document 01, "Numbers a call gives back"): 4 for a wrong length; else 2, "byte write in A000..BFFF", "word write with either index there",
--- for want of room, which is "4 free bytes, a word write 8" (document 02); else 1 where the host owes a sound write, or 0.
+-- A write's number (document 01, "Numbers a call gives back"): 4 for a wrong length; else 2, "byte write in A000..BFFF", "word write with either
+-- index there", for want of room, which is "4 free bytes, a word write 8" (document 02); else 1 where the host owes a sound write, or 0.
 -- A call with no byte write needs no number here: nothing of it can be let in, and a clearing is always done.
 unfoldable pub ruled : ℕ → Gate → Asked → ℕ
 ruled log g a =
@@ -53,6 +53,10 @@ gateAfter d g a =
       mapper = mappersAfter (d .cartridge) (g .mapper) (passed d g a);
       used = cond (a .clears) clearedUse (g .used + length (lets d g a) * width);
     }
+
+unfoldable pub gatesAfter : Terms → Gate → List Asked → Gate
+gatesAfter d g [] = g
+gatesAfter d g (a ∷ rest) = gatesAfter d (gateAfter d g a) rest
 
 -- the admitted writes of a list of calls
 unfoldable pub admittedBy : Terms → Gate → List Asked → List Rec

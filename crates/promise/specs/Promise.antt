@@ -1,5 +1,5 @@
 -- Demand 3, over every list of calls: `promise_holds` has it as its contract.
-use mathlib.Core.Bool.{cond, _&&_, _||_}
+use mathlib.Core.Bool.{Bool, true, false, cond, _&&_, _||_}
 use mathlib.Core.List.{List, [], _∷_, _++_}
 use mathlib.Core.Path.{_≡_}
 use Prim.Native.Nat.{ℕ, _-_, _*_, _/_, _%_, _<_, _≤_}
@@ -15,7 +15,7 @@ use Rattle.promise.specs.Bus.call as call
 use Rattle.promise.specs.Bus.on as on
 use Rattle.promise.specs.Calls.{ByteWrite, byte, writesOf}
 use Rattle.promise.specs.Admitted.{letInAll, recordsOf}
-use Rattle.promise.specs.Gate.{Terms, Gate, ruledAll, admittedBy, telling}
+use Rattle.promise.specs.Gate.{Terms, Gate, Asked, gatesAfter, admittedBy, ruledAll, telling}
 use Rattle.promise.specs.Runs.{
   Fitting,
   Turn,
@@ -74,9 +74,9 @@ pub record Told (image left : List ℕ) (copies : List (List ℕ)) (cs : List Ca
 abbrev pub free : World → ℕ
 free w = length (w .log) - w .state .core .used
 
--- "that were not refused": the number of one more call, where so many bytes of the log are free. 4 where a length that is lent with it is wrong; else no
--- write is refused but for room, "byte write in A000..BFFF", "word write with either index there" (document 01), which "now needs 4 free bytes, a word
--- write 8" (document 02); no clearing is refused at all, and no call by 3
+-- "that were not refused": the number of one more call, where so many bytes of the log are free. 4 where a length that is lent with it is wrong;
+-- else no write is refused but for room, "byte write in A000..BFFF", "word write with either index there" (document 01), which "now needs 4 free
+-- bytes, a word write 8" (document 02); no clearing is refused at all, and no call by 3
 pub record Refuses (d : Terms) (room : ℕ) (May : Turn → Type 0) (number : Turn → ℕ) : Type 0 where
   pub bytes : (t : Turn) → May t → (i v : ℕ) → t .call ≡ call.WriteByte i v
       → number t ≡ cond (fits d t) (cond (inSave i && ltb room width) noRoom (byteOwed i)) wrongLength
@@ -93,6 +93,8 @@ Without k (n ∷ ns) = (n ≡ k → ⊥) × Without k ns
 pub record Ruled (w : World) (d : Terms) (g : Gate) (ts : List Turn) : Type 0 where
   -- the numbers that the bus gave to the writes are those that the machine rules, one by one
   pub agree : ofWrites (calls ts) (numbers w ts) ≡ ruledAll d g (askedAll d ts)
+  -- and the bus keeps the mapper and the use that the machine does
+  pub gate : gateOf (run w ts) ≡ gatesAfter d g (askedAll d ts)
   -- no call was refused by 3
   pub never : Without outOfRange (numbers w ts)
   -- the bus that is left is in range, and can go on: this is what one more call gives
@@ -101,7 +103,8 @@ pub record Ruled (w : World) (d : Terms) (g : Gate) (ts : List Turn) : Type 0 wh
   -- what is used of the log is whole records, and lies within it
   pub within : (run w ts .state .core .used % width ≡ 0) × (run w ts .state .core .used ≤ length (run w ts .log))
   -- other calls may follow: the admitted writes of these come first, and the copies so far are the first bytes of the later ones
-  pub more : (later : List Turn) → admittedBy d g (askedAll d (ts ++ later)) ≡ admittedBy d g (askedAll d ts) ++ admittedFrom (run w ts) later
+  pub more : (later : List Turn)
+      → admittedBy d g (askedAll d (ts ++ later)) ≡ admittedBy d g (askedAll d ts) ++ admittedFrom (run w ts) later
   pub grows : (later : List Turn) → AllLend (d .ram) later
       → joined (copiesFrom w (ts ++ later)) ≡ joined (copiesFrom w ts) ++ recordsOf (admittedFrom (run w ts) later)
 
@@ -119,8 +122,8 @@ Promise = (l : Lent) (ts : List Turn) → start l .number ≡ done → AllLend (
 abbrev pub Begins : Type 0
 Begins = (l : Lent) → Fitting l → start l .number ≡ done
 
--- Save and log depend on the description, the image, the log's length, and the writes and clearings alone: not on a byte of ROM, video memory, work memory or
--- the sound window, nor on reads, transfers, timer, buttons or screen among the calls
+-- Save and log depend on the description, the image, the log's length, and the writes and clearings alone: not on a byte of ROM, video memory, work
+-- memory or the sound window, nor on reads, transfers, timer, buttons or screen among the calls
 pub record Same (l k : Lent) : Type 0 where
   pub kind : l .kind ≡ k .kind
   pub banks : l .banks ≡ k .banks
@@ -145,11 +148,12 @@ pub record Continued (w : World) (ts : List Turn) : Type 0 where
   pub save : run w ts .save ≡ applyAll (w .save) (admittedFrom w ts)
   pub log : joined (copiesFrom w ts) ≡ usedBytes w ++ recordsOf (admittedFrom w ts)
   pub ruled : Ruled w (termsOf w) (gateOf w) ts
-  -- if what its log held gives its save over some older image, all copies over that image give the save at the end, and the first n bytes of them what
-  -- their whole records give
+  -- if what its log held gives its save over some older image, all copies over that image give the save at the end, and the first n bytes of them
+  -- what their whole records give
   pub older : (image : List ℕ) → recovery image (usedBytes w) ≡ outcome done (w .save) → Typed (calls ts)
       → (recoverAll image (copiesFrom w ts) ≡ run w ts .save)
-      × ((n : ℕ) → recoverAll image (cutCopies n (copiesFrom w ts)) ≡ applyAll image (take (n / width) (records (usedBytes w) ++ admittedFrom w ts)))
+      × ((n : ℕ)
+      → recoverAll image (cutCopies n (copiesFrom w ts)) ≡ applyAll image (take (n / width) (records (usedBytes w) ++ admittedFrom w ts)))
       × ((n : ℕ) → Recovers image (cutCopies n (copiesFrom w ts)))
   -- an unused log: all as from a fresh bus
   pub unused : w .state .core .used ≡ 0 → Told (w .save) (run w ts .save) (copiesFrom w ts) (calls ts) (admittedFrom w ts)
@@ -168,3 +172,19 @@ abbrev pub WideExample : Type 0
 WideExample =
     letInAll (cartridgeOf 2 4) (mapperOf 3) (byte 0x0000 0x0A ∷ byte 0x4000 0x0F ∷ byte 0xBFFF 0xAB ∷ [])
     ≡ stored 131071 0xAB ∷ []
+
+-- and the machine, for this Mbc2 with a log of one record: RAM is enabled; a byte is stored; the next has no room, 2; one is lent a wrong length, 4;
+-- the log is cleared; a byte is stored
+abbrev pub wrote : Bool → ℕ → ℕ → Asked
+wrote fits i v = record { fits = fits; writes = byte i v ∷ []; clears = false }
+
+abbrev pub cleared : Asked
+cleared = record { fits = true; writes = []; clears = true }
+
+abbrev pub RoomExample : Type 0
+RoomExample =
+    let d : Terms = record { cartridge = cartridgeOf 2 0; colour = false; ram = 512; log = 4 } in
+    let g : Gate = record { mapper = mapperOf 2; used = 0 } in
+    let asks : List Asked =
+    wrote true 0x0000 0x0A ∷ wrote true 0xA000 0xAB ∷ wrote true 0xA001 0x01 ∷ wrote false 0xA001 0x02 ∷ cleared ∷ wrote true 0xA001 0x03 ∷ [] in
+    (ruledAll d g asks ≡ 0 ∷ 0 ∷ 2 ∷ 4 ∷ 0 ∷ []) × (admittedBy d g asks ≡ stored 0 0x0B ∷ stored 1 0x03 ∷ [])

@@ -40,8 +40,9 @@ abbrev pub keeps : Lending → List ℕ → List ℕ → List ℕ
 keeps Own own left = left
 keeps (Another l) own left = own
 
--- "any list of bus calls, refused ones too". A call's ROM, sound window, video memory and work memory are of any bytes and any length, so "what the last one
--- left" is one case of many: the host changes the window when it pays a sound write, it may draw, and a wrong length is refused by 4.
+-- "any list of bus calls, refused ones too". A call's ROM, sound window, video memory and work memory are of any bytes and any length, so that what
+-- "the last one left" is one case of many: the host changes the window when it pays a sound write, and a wrong length is refused by 4 where the call
+-- is lent it. (A call on the state alone is lent nothing, and does its work whatever a turn brings.)
 pub record Turn : Type 0 where
   pub read : Fixed
   pub vram : List ℕ
@@ -77,7 +78,8 @@ lentTo w t = world (w .state) (t .vram) (t .wram) (lentOf (t .save) (w .save)) (
 abbrev pub leaves : World → Turn → Outcome → Outcome
 leaves w t o =
     outcome (o .number) (o .value)
-    (world (o .after .state) (o .after .vram) (o .after .wram) (keeps (t .save) (w .save) (o .after .save)) (keeps (t .log) (w .log) (o .after .log)))
+    (world (o .after .state) (o .after .vram) (o .after .wram) (keeps (t .save) (w .save) (o .after .save))
+    (keeps (t .log) (w .log) (o .after .log)))
 
 abbrev pub made : World → Turn → Outcome
 made w t = leaves w t (step (t .read) (lentTo w t) (t .call))
@@ -99,7 +101,7 @@ ofWrites [] ns = []
 ofWrites (c ∷ cs) [] = []
 ofWrites (c ∷ cs) (n ∷ ns) = ofWrite (writesOf c) n ++ ofWrites cs ns
 
--- What the machine of specs/Gate.antt is told: of a turn's memories their lengths alone (document 01, "Cartridge and buffers"). The host's own are right
+-- What the machine of specs/Gate.antt is told: of a turn's memories their lengths alone (document 01, "Cartridge and buffers"). The host's own fit.
 
 abbrev pub saveFits : ℕ → Lending → Bool
 saveFits ram Own = true
