@@ -1,8 +1,9 @@
 // A line taken apart: a letter, a space, the input's bytes, a space, the answer's bytes. Each byte is two uppercase hex digits; no bytes are "-".
 ghost use mathlib.Core.Path.{_≡_};
 ghost use Prim.Native.Nat.{_+_, _*_, _≤_, _<_};
-ghost use lib.ListN.{length};
-ghost use Rattle.lines.specs.Text.{digitOf, hexDigit, byteOf, Holds};
+ghost use lib.Dec.{eqb};
+ghost use lib.ListN.{length, drop};
+ghost use Rattle.lines.specs.Text.{digitOf, hexDigit, byteOf, bytesIn, isField, widthOf, puts, parsed, lineOf, Holds};
 
 pub enum Pair {
     Byte(u8),
@@ -54,9 +55,10 @@ fn byte(high: u8, low: u8) -> Pair
     Pair::Byte(h * 16 + l)
 }
 
-// Puts the n bytes that stand from `from` on into `out`; false where a digit is wrong.
+// Puts the n bytes that stand from `from` on into `out`, up to the first that has a wrong digit; false where there is one.
 fn decode(s: &[u8], from: usize, n: usize, out: &mut [u8]) -> bool
     requires { ⌜ (from + n * 2 ≤ length (now s)) × Holds n (now out) ⌝ }
+    ensures { λ r. ⌜ (r ≡ eqb (length (bytesIn n (drop from (now (s .entry))))) n) × (now (out .exit) ≡ puts (bytesIn n (drop from (now (s .entry)))) (now (out .entry))) ⌝ }
 {
     let mut i = 0;
     while i < n {
@@ -73,7 +75,7 @@ fn decode(s: &[u8], from: usize, n: usize, out: &mut [u8]) -> bool
 // How many characters n bytes are: "-" for none.
 fn width(n: usize) -> usize
     requires { ⌜ n ≤ 64 ⌝ }
-    ensures { λ r. ⌜ (1 ≤ r) × ((n * 2 ≤ r) × (r ≤ 128)) ⌝ }
+    ensures { λ r. ⌜ (r ≡ widthOf n) × ((1 ≤ r) × ((n * 2 ≤ r) × (r ≤ 128))) ⌝ }
 {
     if n == 0 {
         return 1;
@@ -84,6 +86,7 @@ fn width(n: usize) -> usize
 // The n bytes of one field.
 fn field(s: &[u8], from: usize, n: usize, out: &mut [u8]) -> bool
     requires { ⌜ (from < length (now s)) × ((from + n * 2 ≤ length (now s)) × Holds n (now out)) ⌝ }
+    ensures { λ r. ⌜ (r ≡ isField n (drop from (now (s .entry)))) × (now (out .exit) ≡ puts (bytesIn n (drop from (now (s .entry)))) (now (out .entry))) ⌝ }
 {
     if n == 0 {
         return s[from] == b'-';
@@ -94,6 +97,7 @@ fn field(s: &[u8], from: usize, n: usize, out: &mut [u8]) -> bool
 // Input and answer of a line, after its letter; false where it has another form.
 pub fn parse(s: &[u8], takes: usize, gives: usize, given: &mut [u8], answer: &mut [u8]) -> bool
     requires { ⌜ Holds takes (now given) × Holds gives (now answer) ⌝ }
+    ensures { λ r. ⌜ parsed r (now (given .exit)) (now (answer .exit)) ≡ lineOf takes gives (now (s .entry)) (now (given .entry)) (now (answer .entry)) ⌝ }
 {
     let middle = 2 + width(takes);
     if s.len() != middle + 1 + width(gives) {

@@ -1,3 +1,4 @@
 pub mod Digit
 pub mod Behind
 pub mod Fresh
+pub mod Walking

@@ -1,13 +1,18 @@
 // walk: the bus walk. Reads commands from standard input to its end, a line each, makes their calls on one bus, and prints a line for each
 // (document 01, "Corners that decide", the last paragraph). It takes no argument, and ends early where its answers cannot be written.
 ghost use Prim.Native.Nat.{_+_, _≤_};
+ghost use mathlib.Core.List.{_++_, []};
+ghost use mathlib.Core.Logic.{_⊎_};
 ghost use mathlib.Core.Path.{_≡_};
-ghost use lib.ListN.{length};
-ghost use mathlib.Core.Bool.{true, false};
+ghost use lib.ListN.{length, take};
+ghost use mathlib.Core.Bool.{true, false, cond};
 ghost use Rattle.bus.specs.Fresh.{startedBy};
+ghost use Rattle.commands.specs.Walk.{strangeText};
 ghost use Rattle.lines.specs.Contents.{Filled};
-ghost use Rattle.lines.specs.Reader.{Inside};
-ghost use Rattle.walk.specs.Line.{romByte};
+ghost use Rattle.lines.specs.Reader.{Inside, pending, standing};
+ghost use Rattle.memory.specs.World.{world, fixed};
+ghost use Rattle.walk.specs.Line.{romByte, walked};
+ghost use Rattle.walk.specs.Walk.{after, oneLine, place, Stepped, Ran, Whole};
 use commands::text;
 use libc::STDERR_FILENO;
 use lines::reader;
@@ -24,12 +29,21 @@ struct Kept {
     used: usize,
 }
 
-// These, and where the reader stands. `long`: the line that is read does not fit the buffer, and its first part is dropped.
+// These, and where the reader stands. `long`: the line that is read does not fit the buffer, and its first part is dropped. `more`: the walk goes on.
+// `lost`: it does not, as answers could not be written.
 struct State {
     kept: Kept,
     reader: Reader,
     long: bool,
     more: bool,
+    lost: bool,
+}
+
+// The bus after the walk, and how it ended.
+struct Ended {
+    memory: Memory,
+    more: bool,
+    lost: bool,
 }
 
 // How many bytes wait to be printed, with room for a line more behind them. What could not be written is lost.
@@ -40,7 +54,7 @@ struct Waiting {
 
 fn strange(kept: Kept, out: &mut [u8]) -> Kept
     requires { ⌜ kept .used + 10 ≤ length (now out) ⌝ }
-    ensures { λ r. ⌜ r .used ≤ length (now (out .exit)) ⌝ }
+    ensures { λ r. ⌜ (take (r .used) (now (out .exit)) ≡ take (kept .used) (now (out .entry)) ++ strangeText) × ((r .memory ≡ kept .memory) × (r .used ≤ length (now (out .exit)))) ⌝ }
 {
     let memory = kept.memory;
     let text = text::strange();
@@ -64,7 +78,7 @@ fn line(
     sound: &[u8],
 ) -> Kept
     requires { ⌜ kept .used + 10 ≤ length (now out) ⌝ }
-    ensures { λ r. ⌜ r .used ≤ length (now (out .exit)) ⌝ }
+    ensures { λ r. ⌜ (walked (take (r .used) (now (out .exit))) (world (r .memory) (now (vram .exit)) (now (wram .exit)) (now (save .exit)) (now (log .exit))) ≡ after (take (kept .used) (now (out .entry))) (oneLine (fixed (now (rom .entry)) (now (sound .entry))) (world (kept .memory) (now (vram .entry)) (now (wram .entry)) (now (save .entry)) (now (log .entry))) long (now (s .entry)))) × (r .used ≤ length (now (out .exit))) ⌝ }
 {
     if long {
         return strange(kept, out);
@@ -82,7 +96,7 @@ fn line(
 // The input's end: it ends a line that did not fit the buffer.
 fn end(kept: Kept, long: bool, out: &mut [u8]) -> Kept
     requires { ⌜ kept .used + 10 ≤ length (now out) ⌝ }
-    ensures { λ r. ⌜ r .used ≤ length (now (out .exit)) ⌝ }
+    ensures { λ r. ⌜ (take (r .used) (now (out .exit)) ≡ take (kept .used) (now (out .entry)) ++ cond long strangeText []) × ((r .memory ≡ kept .memory) × (r .used ≤ length (now (out .exit)))) ⌝ }
 {
     if long {
         return strange(kept, out);
@@ -104,7 +118,7 @@ fn printed(used: usize, out: &[u8]) -> Waiting
 // The answers are printed where every line that was read is answered, before more is waited for, and where there is no room for a line more, of ten bytes.
 fn shown(used: usize, reader: Reader, out: &[u8]) -> Waiting
     requires { ⌜ (used ≤ length (now out)) × (10 ≤ length (now out)) ⌝ }
-    ensures { λ r. ⌜ r .used + 10 ≤ length (now (out .entry)) ⌝ }
+    ensures { λ r. ⌜ (r .used + 10 ≤ length (now (out .entry))) × ((r .used ≡ used) ⊎ (r .used ≡ 0)) ⌝ }
 {
     if reader.end <= reader.at {
         return printed(used, out);
@@ -131,8 +145,8 @@ fn step(
     log: &mut [u8],
     sound: &[u8],
 ) -> State
-    requires { ⌜ Inside (length (now buf)) (state .reader) × (waiting .used + 10 ≤ length (now out)) ⌝ }
-    ensures { λ r. ⌜ Inside (length (now (buf .exit))) (r .reader) × ((r .kept .used ≤ length (now (out .exit))) × (waiting .lost ≡ true → r .more ≡ false)) ⌝ }
+    requires { ⌜ Inside (length (now buf)) (state .reader) × ((waiting .used + 10 ≤ length (now out)) × (13 ≤ length (now buf))) ⌝ }
+    ensures { λ r. ⌜ (Inside (length (now (buf .exit))) (r .reader) × (r .kept .used ≤ length (now (out .exit)))) × Stepped (fixed (now (rom .entry)) (now (sound .entry))) (waiting .lost) (place (world (state .kept .memory) (now (vram .entry)) (now (wram .entry)) (now (save .entry)) (now (log .entry))) (take (waiting .used) (now (out .entry))) (state .long) (pending (now (buf .entry)) (state .reader)) (state .reader .more)) (r .more) (r .lost) (place (world (r .kept .memory) (now (vram .exit)) (now (wram .exit)) (now (save .exit)) (now (log .exit))) (take (r .kept .used) (now (out .exit))) (r .long) (pending (now (buf .exit)) (r .reader)) (r .reader .more)) ⌝ }
 {
     let before = state.kept;
     let reader = state.reader;
@@ -148,6 +162,7 @@ fn step(
             reader: reader,
             long: long,
             more: false,
+            lost: true,
         };
     }
     let read = reader::next(buf, reader);
@@ -172,30 +187,34 @@ fn step(
             reader: next,
             long: false,
             more: true,
+            lost: false,
         },
         Found::Long => State {
             kept: kept,
             reader: next,
             long: true,
             more: true,
+            lost: false,
         },
         Found::Read => State {
             kept: kept,
             reader: next,
             long: long,
             more: true,
+            lost: false,
         },
         Found::End => State {
             kept: end(kept, long, out),
             reader: next,
             long: false,
             more: false,
+            lost: false,
         },
     }
 }
 
 fn start(memory: Memory) -> State
-    ensures { λ r. ⌜ Inside 0 (r .reader) × (r .kept .used ≤ 0) ⌝ }
+    ensures { λ r. ⌜ ((r .kept .memory ≡ memory) × (r .kept .used ≡ 0)) × ((r .reader ≡ standing 0 0 true) × ((r .long ≡ false) × ((r .more ≡ true) × (r .lost ≡ false)))) ⌝ }
 {
     State {
         kept: Kept {
@@ -205,10 +224,38 @@ fn start(memory: Memory) -> State
         reader: reader::new(),
         long: false,
         more: true,
+        lost: false,
     }
 }
 
-// All of the input. A proved loop has to end: it counts its turns down from a number that no run uses up.
+// Step after step. A proved loop has to end: it counts its turns down from a number that no run uses up.
+fn run(
+    from: State,
+    buf: &mut [u8],
+    out: &mut [u8],
+    rom: &[u8],
+    vram: &mut [u8],
+    wram: &mut [u8],
+    save: &mut [u8],
+    log: &mut [u8],
+    sound: &[u8],
+) -> State
+    requires { ⌜ (Inside (length (now buf)) (from .reader) × (from .kept .used ≤ length (now out))) × (((13 ≤ length (now buf)) × (10 ≤ length (now out))) × (from .more ≡ true)) ⌝ }
+    ensures { λ r. ⌜ (r .kept .used ≤ length (now (out .exit))) × Ran (fixed (now (rom .entry)) (now (sound .entry))) (place (world (from .kept .memory) (now (vram .entry)) (now (wram .entry)) (now (save .entry)) (now (log .entry))) (take (from .kept .used) (now (out .entry))) (from .long) (pending (now (buf .entry)) (from .reader)) (from .reader .more)) (r .more) (r .lost) (place (world (r .kept .memory) (now (vram .exit)) (now (wram .exit)) (now (save .exit)) (now (log .exit))) (take (r .kept .used) (now (out .exit))) (r .long) (pending (now (buf .exit)) (r .reader)) (r .reader .more)) ⌝ }
+{
+    let mut state = from;
+    let mut turns = u64::MAX;
+    while turns > 0 && state.more {
+        let kept = state.kept;
+        let reader = state.reader;
+        let waiting = shown(kept.used, reader, out);
+        state = step(state, waiting, buf, out, rom, vram, wram, save, log, sound);
+        turns -= 1;
+    }
+    state
+}
+
+// All of the input.
 fn walk(
     memory: Memory,
     rom: &[u8],
@@ -217,31 +264,30 @@ fn walk(
     save: &mut [u8],
     log: &mut [u8],
     sound: &[u8],
-) {
+) -> Ended
+    ensures { λ r. ⌜ (r .more ≡ false → r .lost ≡ false → Whole (fixed (now (rom .entry)) (now (sound .entry))) (world memory (now (vram .entry)) (now (wram .entry)) (now (save .entry)) (now (log .entry))) (world (r .memory) (now (vram .exit)) (now (wram .exit)) (now (save .exit)) (now (log .exit)))) ⌝ }
+{
     let mut buf = io::large_buffer();
     let mut out = io::large_buffer();
-    let mut state = start(memory);
-    let mut turns = u64::MAX;
-    while turns > 0 && state.more {
-        let kept = state.kept;
-        let reader = state.reader;
-        let waiting = shown(kept.used, reader, &out);
-        state = step(
-            state,
-            waiting,
-            &mut buf,
-            &mut out,
-            rom,
-            vram,
-            wram,
-            save,
-            log,
-            sound,
-        );
-        turns -= 1;
-    }
+    let state = run(
+        start(memory),
+        &mut buf,
+        &mut out,
+        rom,
+        vram,
+        wram,
+        save,
+        log,
+        sound,
+    );
     let kept = state.kept;
     out::flush(&out, kept.used);
+    let next = kept.memory;
+    Ended {
+        memory: next,
+        more: state.more,
+        lost: state.lost,
+    }
 }
 
 fn fill_rom(rom: &mut [u8])

@@ -3,6 +3,7 @@ ghost use Prim.Native.Nat.{_+_, _≤_};
 ghost use mathlib.Core.Path.{_≡_};
 ghost use mathlib.Core.List.{_++_};
 ghost use lib.ListN.{length, take};
+ghost use Rattle.commands.specs.Walk.{textOf};
 use commands::text::Text;
 use libc::STDERR_FILENO;
 use libc::STDOUT_FILENO;
@@ -29,7 +30,7 @@ fn append(out: &mut [u8], used: usize, all: [u8; 10], size: usize) -> usize
 
 pub fn put(out: &mut [u8], used: usize, text: Text) -> usize
     requires { ⌜ (used + 10 ≤ length (now out)) × (text .size ≤ 10) ⌝ }
-    ensures { λ r. ⌜ r ≤ length (now (out .exit)) ⌝ }
+    ensures { λ r. ⌜ (take r (now (out .exit)) ≡ take used (now (out .entry)) ++ textOf text) × (r ≤ length (now (out .exit))) ⌝ }
 {
     let all = text.bytes;
     append(out, used, all, text.size)

@@ -1,12 +1,17 @@
--- What the reader gives lies within its buffer, what waits to be printed within the other. Only where nothing is lost is there more.
-use mathlib.Core.Path.{refl, sym, _∙_}
+-- Each arm is a step from a place to the next; what the reader gives lies within its buffer, what waits to be printed within the other.
+use Rattle.walk.proofs.Walking.{step-line, step-long, step-read, step-end, step-lost}
+use Rattle.memory.specs.declared.Memory.{Memory}
+use Rattle.memory.specs.World.{world, fixed}
+use Rattle.lines.specs.Reader.{pending}
+use lib.ListN.{take}
 use native.Mathlib.Omega.{arith}
+use mathlib.Core.Path.{ap}
 use borrow.Author.Needs.{needs}
 use Rattle.walk.proofs.step.Statement.{statement}
 use Rattle.walk.proofs.step.Tie as tie
 
 returns : tie.Need-returns
-returns c = (c .before .before .before .before .before .before .before .before .before .before .before .before .pre .0, (omega (arith, c .before .before .before .before .before .before .before .before .before .before .before .before .pre .1), λ _. refl))
+returns c = let a = c .before .before .before .before .before .before .before .before .before .before .before .before .args in let x = fixed (a .rom .now) (a .sound .now) in let w = world (a .state .kept .memory) (a .vram .now) (a .wram .now) (a .save .now) (a .log .now) in let t = take (a .waiting .used) (a .out .now) in ((c .before .before .before .before .before .before .before .before .before .before .before .before .pre .0, omega (arith, c .before .before .before .before .before .before .before .before .before .before .before .before .pre .1 .0)), step-lost x w t (a .state .long) (a .waiting .lost) (pending (a .buf .now) (a .state .reader)) (a .state .reader .more))
 
 next-requires : tie.Need-next-requires
 next-requires c κs = search needs
@@ -57,19 +62,19 @@ same-length-6 : tie.Need-same-length-6
 same-length-6 c = search needs
 
 returns-2 : tie.Need-returns-2
-returns-2 c = (c .before .before .before .before .before .before .before .before .before .before .before .before .before .before .before .before .before .before .before .before .before .before .before .next .ensures .1 .1, (c .before .before .before .before .before .before .before .before .before .before .line .ensures, λ h. sym h ∙ c .before .before .before .before .before .before .before .before .before .before .before .before .before .before .before .before .before .before .before .before .before .before .before .before .before .if1 .left))
+returns-2 c = let a = c .before .before .before .before .before .before .before .before .before .before .before .before .before .before .before .before .before .before .before .before .before .before .before .before .before .before .before .before .before .before .before .before .before .before .before .before .before .args in let x = fixed (a .rom .now) (a .sound .now) in let w = world (a .state .kept .memory) (a .vram .now) (a .wram .now) (a .save .now) (a .log .now) in let t = take (a .waiting .used) (a .out .now) in let n = c .before .before .before .before .before .before .before .before .before .before .before .before .before .before .before .before .before .before .before .before .before .before .before .next in let l = c .before .before .before .before .before .before .before .before .before .before .line in ((n .ensures .0 .1 .1, l .ensures .1), step-line (pending (a .buf .now) (a .state .reader)) (a .state .reader .more) (n .last .0) (n .result) (n .ensures .1) x w t (a .state .long) (a .waiting .lost) (c .before .before .before .before .before .before .before .before .before .before .before .before .before .before .before .before .before .before .before .before .before .before .before .before .before .if1 .left) _ _ (l .ensures .0) (c .before .before .before .before .before .before .before .before .before .before .before .before .before .before .before .before .before .before .enum-told .given .1))
 
 same-length-7 : tie.Need-same-length-7
 same-length-7 c = search needs
 
 returns-3 : tie.Need-returns-3
-returns-3 c = (c .before .before .before .before .before .next .ensures .1 .1, (omega (arith, c .before .before .before .before .before .before .before .before .before .before .before .before .before .before .before .before .before .before .before .pre .1), λ h. sym h ∙ c .before .before .before .before .before .before .before .if1 .left))
+returns-3 c = let a = c .before .before .before .before .before .before .before .before .before .before .before .before .before .before .before .before .before .before .before .args in let x = fixed (a .rom .now) (a .sound .now) in let w = world (a .state .kept .memory) (a .vram .now) (a .wram .now) (a .save .now) (a .log .now) in let t = take (a .waiting .used) (a .out .now) in let n = c .before .before .before .before .before .next in ((n .ensures .0 .1 .1, omega (arith, c .before .before .before .before .before .before .before .before .before .before .before .before .before .before .before .before .before .before .before .pre .1 .0)), step-long (pending (a .buf .now) (a .state .reader)) (a .state .reader .more) (n .last .0) (n .result) (n .ensures .1) x w t (a .state .long) (a .waiting .lost) (c .before .before .before .before .before .before .before .if1 .left) (c .enum-told2 .given .1) (omega (arith, c .before .before .before .before .before .before .before .before .before .before .before .before .before .before .before .before .before .before .before .pre .1 .1, same-length-7 c)))
 
 same-length-8 : tie.Need-same-length-8
 same-length-8 c = search needs
 
 returns-4 : tie.Need-returns-4
-returns-4 c = (c .before .before .before .before .before .next .ensures .1 .1, (omega (arith, c .before .before .before .before .before .before .before .before .before .before .before .before .before .before .before .before .before .before .before .pre .1), λ h. sym h ∙ c .before .before .before .before .before .before .before .if1 .left))
+returns-4 c = let a = c .before .before .before .before .before .before .before .before .before .before .before .before .before .before .before .before .before .before .before .args in let x = fixed (a .rom .now) (a .sound .now) in let w = world (a .state .kept .memory) (a .vram .now) (a .wram .now) (a .save .now) (a .log .now) in let t = take (a .waiting .used) (a .out .now) in let n = c .before .before .before .before .before .next in ((n .ensures .0 .1 .1, omega (arith, c .before .before .before .before .before .before .before .before .before .before .before .before .before .before .before .before .before .before .before .pre .1 .0)), step-read (pending (a .buf .now) (a .state .reader)) (a .state .reader .more) (n .last .0) (n .result) (n .ensures .1) x w t (a .state .long) (a .waiting .lost) (c .before .before .before .before .before .before .before .if1 .left) (c .enum-told3 .given .1))
 
 same-length-9 : tie.Need-same-length-9
 same-length-9 c = search needs
@@ -78,7 +83,7 @@ same-length-10 : tie.Need-same-length-10
 same-length-10 c = search needs
 
 returns-5 : tie.Need-returns-5
-returns-5 c = (c .before .before .before .before .before .before .before .before .before .next .ensures .1 .1, (c .before .before .end .ensures, λ _. refl))
+returns-5 c = let a = c .before .before .before .before .before .before .before .before .before .before .before .before .before .before .before .before .before .before .before .before .before .before .before .args in let x = fixed (a .rom .now) (a .sound .now) in let w = world (a .state .kept .memory) (a .vram .now) (a .wram .now) (a .save .now) (a .log .now) in let t = take (a .waiting .used) (a .out .now) in let n = c .before .before .before .before .before .before .before .before .before .next in let l = c .before .before .end in ((n .ensures .0 .1 .1, l .ensures .1 .1), step-end (pending (a .buf .now) (a .state .reader)) (a .state .reader .more) (n .last .0) (n .result) (n .ensures .1) x w t (a .state .long) (a .waiting .lost) (c .before .before .before .before .before .before .before .before .before .before .before .if1 .left) _ _ (ap (λ (m : Memory). world m (a .vram .now) (a .wram .now) (a .save .now) (a .log .now)) (l .ensures .1 .0)) (l .ensures .0) (c .before .before .before .before .enum-told4 .given .1))
 
 pub step-spec : {M : Type 1} → statement M
 step-spec =

@@ -1,0 +1,83 @@
+-- The bus walk over a whole input: its lines one after the other, each on what the last one left (document 01, "Corners that decide", the last paragraph).
+use mathlib.Core.Bool.{Bool, true, false, cond}
+use mathlib.Core.List.{List, [], _∷_, _++_}
+use mathlib.Core.Path.{_≡_}
+use Prim.Native.Nat.{ℕ}
+use Rattle.commands.specs.Walk.{strangeText}
+use Rattle.lines.specs.Reader.{linesOf}
+use Rattle.memory.specs.World.{World, Fixed}
+use Rattle.walk.specs.Line.{Walked, walked, lineWalked}
+
+-- a text before what is printed
+abbrev pub after : List ℕ → Walked → Walked
+after t a = walked (t ++ a .text) (a .after)
+
+-- each line on the world that the last one left; the texts are joined
+unfoldable pub walkLines : Fixed → World → List (List ℕ) → Walked
+walkLines x w [] = walked [] w
+walkLines x w (s ∷ rest) = after (lineWalked x w s .text) (walkLines x (lineWalked x w s .after) rest)
+
+-- all of an input
+abbrev pub walkAll : Fixed → World → List ℕ → Walked
+walkAll x w input = walkLines x w (linesOf input)
+
+-- The walk on its way
+
+-- one line; of a `long` one the first part did not fit the buffer and is dropped: it has no known form
+abbrev pub oneLine : Fixed → World → Bool → List ℕ → Walked
+oneLine x w long s = cond long (walked strangeText w) (lineWalked x w s)
+
+-- lines of which the first is long; the input's end ends it too
+abbrev pub longFirst : Fixed → World → List (List ℕ) → Walked
+longFirst x w [] = walked strangeText w
+longFirst x w (s ∷ rest) = after strangeText (walkLines x w rest)
+
+abbrev pub onward : Fixed → World → Bool → List ℕ → Walked
+onward x w long s = cond long (longFirst x w (linesOf s)) (walkLines x w (linesOf s))
+
+-- where the walk stands: the bus with its memories, the answers that wait to be printed, what is read and not yet answered; `more`: there may be more to read
+pub record Place : Type 0 where
+  pub world : World
+  pub waiting : List ℕ
+  pub long : Bool
+  pub rest : List ℕ
+  pub more : Bool
+
+abbrev pub place : World → List ℕ → Bool → List ℕ → Bool → Place
+place w t long rest more = record { world = w; waiting = t; long = long; rest = rest; more = more }
+
+-- all that is printed from a place on, and what is left at the end, where `future` is still to be read
+abbrev pub ahead : Fixed → Place → List ℕ → Walked
+ahead x p future = after (p .waiting) (onward x (p .world) (p .long) (p .rest ++ future))
+
+-- where the input has ended nothing is still to be read
+abbrev pub Coming : Place → List ℕ → Type 0
+Coming p future = p .more ≡ false → future ≡ []
+
+-- From a place to another: `input` is what the system gave on the way, `printed` what was printed. Whatever comes then, the walk prints and leaves the same
+pub record Goes (x : Fixed) (printed : List ℕ) (p q : Place) : Type 0 where
+  pub input : List ℕ
+  pub closed : p .more ≡ false → (input ≡ []) × (q .more ≡ false)
+  pub same : (future : List ℕ) → Coming q future → ahead x p (input ++ future) ≡ after printed (ahead x q future)
+
+-- the input has ended, and all of it is answered
+abbrev pub Over : Place → Type 0
+Over p = (p .more ≡ false) × ((p .long ≡ false) × (p .rest ≡ []))
+
+-- one step of the reader prints nothing; where answers are lost nothing is done and the walk ends, and else it ends only at the input's end
+pub record Stepped (x : Fixed) (lost : Bool) (p : Place) (more gone : Bool) (q : Place) : Type 0 where
+  pub goes : Goes x [] p q
+  pub ends : more ≡ false → gone ≡ false → Over q
+  pub stops : lost ≡ true → more ≡ false
+
+-- the loop: as many steps as there are
+pub record Ran (x : Fixed) (p : Place) (more gone : Bool) (q : Place) : Type 0 where
+  pub printed : List ℕ
+  pub goes : Goes x printed p q
+  pub ends : more ≡ false → gone ≡ false → Over q
+
+-- a walk to the input's end: what it leaves is what walking the whole input leaves
+pub record Whole (x : Fixed) (w after : World) : Type 0 where
+  pub input : List ℕ
+  pub text : List ℕ
+  pub all : walkAll x w input ≡ walked text after
