@@ -1,4 +1,5 @@
--- A C host between two entries: what it holds in its hands, and which entry makes a call (specs/Entry.antt). Lists of entries fold it (crate boundary).
+-- A C host between two entries: what it holds in its hands, and which entry makes a call (specs/Entry.antt). Lists of entries fold it (crate
+-- boundary).
 use mathlib.Core.List.{List, []}
 use Prim.Native.Nat.{ℕ}
 use Rattle.dispatch.specs.Kinds.{Kind, Reading, Clearing, Other, stateKind}
@@ -41,7 +42,7 @@ onReading x h c = asks h (readEntry x (h .image) (h .vram) (h .wram) (h .save) c
 abbrev pub onWorld : Fixed → Held → Call → Left
 onWorld x h c = worldEntry x (h .image) (h .vram) (h .wram) (h .save) (h .log) c
 
--- the entry of each call, as the contracts of crate host have them
+-- the entry of each call: that those of crate host are these is the contract of `enter` (crate enter)
 unfoldable pub entry : Fixed → Held → Call → Left
 entry x h (call.ReadByte i) = onReading x h (call.ReadByte i)
 entry x h (call.ReadWord i) = onReading x h (call.ReadWord i)

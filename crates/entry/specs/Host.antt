@@ -1,5 +1,5 @@
--- What a host asks of an image and sets in it beside the calls of the bus: the parts of the state that its drawing and its log need (document 01, "Added
--- by us besides: .. C boundary"). A refusal changes no lent byte and gives 0.
+-- What a host asks of an image and sets in it beside the calls of the bus: the parts of the state that its drawing and its log need (document 01,
+-- "Added by us besides: .. C boundary"). A refusal changes no lent byte and gives 0.
 use mathlib.Core.Bool.{cond}
 use mathlib.Core.List.{List, [], _∷_, _++_}
 use Prim.Native.Nat.{ℕ, zero, suc, _+_, _*_, _%_}
@@ -86,8 +86,8 @@ unfoldable pub overflowEntry : List ℕ → Given
 overflowEntry i =
     cond (eqb (loadCall i .number) done) (given done (leftOf (timerOf (loadCall i .state)))) (given (loadCall i .number) 0)
 
--- A block of bytes, into what is lent for it: each is what a read gives, at the index and those behind it, and FFFF is followed by 0000. Refused as the
--- first of them is, then by 4 if it is longer than all there is to read
+-- A block of bytes, into what is lent for it: each is what a read gives, at the index and those behind it, and FFFF is followed by 0000. Refused as
+-- the first of them is, then by 4 if it is longer than all there is to read
 
 abbrev pub blockLimit : ℕ
 blockLimit = 65536
@@ -113,8 +113,8 @@ useEntry i u =
     (cond (useInRange u logLimit) (changed done (imageOf (withUsed (loadCall i .state) u))) (changed outOfRange i))
     (changed (loadCall i .number) i)
 
--- What this library is, as one number: its version, 65,536 for each major, 256 for each minor and 1 for each patch, in bits 63..32; an image's length in
--- bits 31..8; a record's in bits 7..0
+-- What this library is, as one number: its version, 65,536 for each major, 256 for each minor and 1 for each patch, in bits 63..32; an image's
+-- length in bits 31..8; a record's in bits 7..0
 
 abbrev pub version : ℕ
 version = 3 * 65536 + 0 * 256 + 0
