@@ -237,6 +237,7 @@ module _ (w : World) (s : Sound w) (ts : List Turn) (h : TurnsTyped ts) where
               ∙ ap (λ (l : List ℕ). take (length (joined (copiesFrom w ts))) l) (r .grows later k)
               ∙ take-at (joined (copiesFrom w ts)) _ (length (joined (copiesFrom w ts))) refl
               ∙ ap joined (sym c);
+          stood = λ later. ap (λ (k : Held). k .save) (same .same-held) ∙ r .stood later;
         }
 
 -- the calls' words are words
@@ -264,7 +265,6 @@ kept-at l ts z s m h =
       told = told-held (begin l) s ts h (k .told);
       typed = calls-typed ts h;
       ruled = ruled-held (begin l) s ts h (terms l) (opening l) (k .ruled);
-      stood = λ later. ap (λ (o : Held). o .save) (same (begin l) s ts h .same-held) ∙ k .stood later;
     }
 
 pub entry-promise : EntryPromise

@@ -12,7 +12,7 @@ use Rattle.memory.specs.World.{World}
 use Rattle.numbers.specs.Numbers.{done, outOfRange}
 use Rattle.packing.specs.Packing.{Below}
 use Rattle.promise.specs.Admitted.{recordsOf}
-use Rattle.promise.specs.Gate.{Terms, Gate, ruledAll}
+use Rattle.promise.specs.Gate.{Terms, Gate, admittedBy, ruledAll}
 use Rattle.promise.specs.Promise.{Typed, Recovers, Told, Refuses, Without}
 use Rattle.promise.specs.Runs.{
   Fitting,
@@ -71,6 +71,9 @@ pub record EntryRuled (h : Held) (d : Terms) (g : Gate) (ts : List Turn) : Type 
   -- the copies so far are the first bytes of the later ones
   pub grows : (later : List Turn) → AllLend (d .ram) later → TurnsTyped later
       → take (length (joined (entryCopies h ts))) (joined (entryCopies h (ts ++ later))) ≡ joined (entryCopies h ts)
+  -- and the save as it stood is the one at the start with as many of all admitted writes as these calls had
+  pub stood : (later : List Turn)
+      → entryRun h ts .save ≡ applyAll (h .save) (take (length (admittedBy d g (askedAll d ts))) (admittedBy d g (askedAll d (ts ++ later))))
 
 -- What a host holds after the fresh entry, given an image buffer of any bytes
 abbrev pub freshly : List ℕ → Lent → Fresh
@@ -86,7 +89,6 @@ pub record EntryKept (l : Lent) (h : Held) (ts : List Turn) : Type 0 where
   -- the values are of their C types, so that records are read back as they were written
   pub typed : Typed (calls ts)
   pub ruled : EntryRuled h (terms l) (opening l) ts
-  pub stood : (later : List Turn) → entryRun h ts .save ≡ applyAll (l .image) (take (length (admitted l ts)) (admitted l (ts ++ later)))
 
 abbrev pub EntryPromise : Type 0
 EntryPromise =

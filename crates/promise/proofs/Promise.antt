@@ -5,7 +5,6 @@ use mathlib.Core.Path.{_≡_, refl, ap, sym, subst, _∙_}
 use Prim.Native.Nat.{ℕ, _-_, _/_}
 use native.Mathlib.Omega.{arith}
 use lib.ListN.{length, take}
-use lib.Seq.{take-at}
 use Rattle.bus.specs.Fresh.{Begun}
 use Rattle.dispatch.proofs.Starts.{Started, started, by-begun}
 use Rattle.mbc.specs.Mbc.{cartridgeOf, ramLen}
@@ -221,10 +220,4 @@ promise l ts z k =
     record {
       told = t;
       ruled = r;
-      stood = λ later.
-          t .save
-          ∙ ap (λ (rs : List Rec). applyAll (l .image) rs)
-          (sym
-          (ap (λ (rs : List Rec). take (length (admitted l ts)) rs) (r .more later)
-          ∙ take-at (admitted l ts) (admittedFrom (after l ts) later) (length (admitted l ts)) refl));
     }

@@ -2,6 +2,8 @@
 use mathlib.Core.List.{List, [], _∷_, _++_, append-assoc}
 use mathlib.Core.Path.{_≡_, refl, ap, sym, subst, _∙_}
 use Prim.Native.Nat.{ℕ}
+use lib.ListN.{length, take}
+use lib.Seq.{take-at}
 use Rattle.memory.specs.World.{World}
 use Rattle.numbers.specs.Numbers.{outOfRange}
 use Rattle.savelog.proofs.Prefix.{applyAll-append}
@@ -148,4 +150,11 @@ run-ruled w ts a h =
           ∙ ap (λ (l : List ℕ). usedBytes w ++ l) (records-join (admittedFrom w ts) (admittedFrom u later))
           ∙ sym (append-assoc (usedBytes w) (recordsOf (admittedFrom w ts)) (recordsOf (admittedFrom u later)))
           ∙ ap (λ (l : List ℕ). l ++ recordsOf (admittedFrom u later)) (sym (run-log w ts a h));
+      stood = λ later.
+          let n = length (admittedFrom w ts) in
+          run-save w ts a h
+          ∙ ap (λ (rs : List Rec). applyAll (w .save) rs)
+          (sym
+          (ap (λ (rs : List Rec). take n rs) (admitted-append w ts later a h)
+          ∙ take-at (admittedFrom w ts) (admittedFrom u later) n refl));
     }

@@ -102,17 +102,18 @@ pub record Ruled (w : World) (d : Terms) (g : Gate) (ts : List Turn) : Type 0 wh
   pub next : Refuses d (free (run w ts)) (Lends (d .ram)) (λ t. made (run w ts) t .number)
   -- what is used of the log is whole records, and lies within it
   pub within : (run w ts .state .core .used % width ≡ 0) × (run w ts .state .core .used ≤ length (run w ts .log))
-  -- other calls may follow: the admitted writes of these come first, and the copies so far are the first bytes of the later ones
+  -- other calls may follow: the admitted writes of these come first, the copies so far are the first bytes of the later ones, and "the save as it
+  -- stood" is the one at the start with as many of all admitted writes as these calls had
   pub more : (later : List Turn)
       → admittedBy d g (askedAll d (ts ++ later)) ≡ admittedBy d g (askedAll d ts) ++ admittedFrom (run w ts) later
   pub grows : (later : List Turn) → AllLend (d .ram) later
       → joined (copiesFrom w (ts ++ later)) ≡ joined (copiesFrom w ts) ++ recordsOf (admittedFrom (run w ts) later)
+  pub stood : (later : List Turn)
+      → run w ts .save ≡ applyAll (w .save) (take (length (admittedBy d g (askedAll d ts))) (admittedBy d g (askedAll d (ts ++ later))))
 
 pub record Kept (l : Lent) (ts : List Turn) : Type 0 where
   pub told : Told (l .image) (after l ts .save) (copies l ts) (calls ts) (admitted l ts)
   pub ruled : Ruled (begin l) (terms l) (opening l) ts
-  -- "the save as it stood": whatever calls follow, it is the image with as many of all admitted writes as these calls had
-  pub stood : (later : List Turn) → after l ts .save ≡ applyAll (l .image) (take (length (admitted l ts)) (admitted l (ts ++ later)))
 
 -- "Take a fresh bus over a save image and any list of bus calls"
 abbrev pub Promise : Type 0
