@@ -1,6 +1,6 @@
 -- The promises over every list of calls: on a bus that can go on, and so on a fresh one.
 use mathlib.Core.Bool.{Bool, true, false, cond}
-use mathlib.Core.List.{List, [], _∷_, _++_}
+use mathlib.Core.List.{List, [], _++_}
 use mathlib.Core.Path.{_≡_, refl, ap, sym, subst, _∙_}
 use Prim.Native.Nat.{ℕ, _-_, _/_}
 use native.Mathlib.Omega.{arith}
@@ -43,7 +43,6 @@ use Rattle.promise.specs.Runs.{
   run,
   after,
   askedAll,
-  ramOf,
   terms,
   opening,
   admitted,

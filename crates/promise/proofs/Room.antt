@@ -3,7 +3,7 @@
 use mathlib.Core.Bool.{Bool, true, false, cond, _&&_, _||_, or-false}
 use mathlib.Core.List.{List, [], _∷_}
 use mathlib.Core.Path.{_≡_, refl, ap, sym, subst, _∙_}
-use Prim.Native.Nat.{ℕ, _+_, _-_, _*_, _%_, _<_, _≤_}
+use Prim.Native.Nat.{ℕ, _+_, _-_, _*_, _%_, _≤_}
 use native.Mathlib.Omega.{arith}
 use lib.Dec.{eqb, ltb, leb}
 use lib.ListN.{length, replicate, length-replicate}
@@ -18,7 +18,7 @@ use Rattle.savelog.specs.Log.{width, logLimit, useInRange}
 use Rattle.promise.specs.Bus.{Outcome, Call, inSave, inSound, nextIndex, byteOwed, wordOwed, step}
 use Rattle.promise.specs.Bus.call as call
 use Rattle.promise.specs.Bus.on as on
-use Rattle.promise.specs.Calls.{byte, writesOf, some, reaches, sounds}
+use Rattle.promise.specs.Calls.{writesOf, reaches, sounds}
 use Rattle.promise.specs.Gate.{ruled, ofWrite}
 use Rattle.promise.specs.Promise.{free, Refuses}
 use Rattle.promise.specs.Runs.{
@@ -27,7 +27,6 @@ use Rattle.promise.specs.Runs.{
   Another,
   lentOf,
   Turn,
-  MistakenSave,
   MistakenLog,
   Lends,
   lentTo,

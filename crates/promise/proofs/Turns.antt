@@ -31,8 +31,6 @@ use Rattle.promise.specs.Runs.{
   lentOf,
   keeps,
   Turn,
-  MistakenSave,
-  MistakenLog,
   Lends,
   lentTo,
   leaves,
