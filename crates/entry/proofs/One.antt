@@ -4,24 +4,25 @@ use mathlib.Core.Path.{_≡_, ap, sym, _∙_}
 use Prim.Native.Nat.{ℕ}
 use lib.IntN.{ℤ}
 use Rattle.image.specs.Load.{Stored, stored}
+use Rattle.numbers.specs.One.{OnlyOne}
 use Rattle.savelog.specs.Convert.{Conversion, converted}
 use Rattle.savelog.specs.Log.{Outcome, outcome}
 use Rattle.entry.specs.Entries.{Held, kept}
 use Rattle.entry.specs.Entry.{Changed, changed, Given, given, Left, left, Fresh, fresh, Mapped, mapped}
 use Rattle.entry.specs.Host.{Shown, shown}
-use Rattle.entry.specs.One.{OneValue, OneBytes, OneBoth, OneHeld, OneBegun, OneShown, OneEntry}
+use Rattle.entry.specs.One.{OneBoth, OneBegun, OneShown, OneEntry}
 
 -- two values that are both the same part of o
 part : {A B : Type 0} (f : A → B) {p q o : A} → p ≡ o → q ≡ o → f p ≡ f q
 part f e g = ap f (e ∙ sym g)
 
-one-held : (o : Left) → OneHeld (λ (m : ℕ) (v : ℕ) (h : Held). left m v (h .image) (h .vram) (h .wram) (h .save) (h .log) ≡ o)
+one-held : (o : Left) → OneBoth (λ (m : ℕ) (v : ℕ) (h : Held). left m v (h .image) (h .vram) (h .wram) (h .save) (h .log) ≡ o)
 one-held o m n v w a b e g = (part (λ (r : Left). r .number) e g, part (λ (r : Left). r .value) e g, part (λ (r : Left). kept r) e g)
 
-one-changed : (o : Changed) → OneBytes (λ (m : ℕ) (a : List ℕ). changed m a ≡ o)
+one-changed : (o : Changed) → OnlyOne (λ (m : ℕ) (a : List ℕ). changed m a ≡ o)
 one-changed o m n a b e g = (part (λ (r : Changed). r .number) e g, part (λ (r : Changed). r .image) e g)
 
-one-given : (o : Given) → OneValue (λ (m : ℕ) (v : ℕ). given m v ≡ o)
+one-given : (o : Given) → OnlyOne (λ (m : ℕ) (v : ℕ). given m v ≡ o)
 one-given o m n v w e g = (part (λ (r : Given). r .number) e g, part (λ (r : Given). r .value) e g)
 
 one-fresh : (o : Fresh) → OneBegun (λ (m : ℕ) (i : List ℕ) (v : List ℕ) (w : List ℕ). fresh m i v w ≡ o)
@@ -53,10 +54,10 @@ one-shown o n d l s m n′ d′ l′ s′ m′ y c a w y′ c′ a′ w′ e g =
   part (λ (r : Shown). r .window) e g,
 )
 
-one-stored : (o : Stored) → OneBytes (λ (m : ℕ) (a : List ℕ). stored m a ≡ o)
+one-stored : (o : Stored) → OnlyOne (λ (m : ℕ) (a : List ℕ). stored m a ≡ o)
 one-stored o m n a b e g = (part (λ (r : Stored). r .number) e g, part (λ (r : Stored). r .bytes) e g)
 
-one-recovered : (o : Outcome) → OneBytes (λ (m : ℕ) (a : List ℕ). outcome m a ≡ o)
+one-recovered : (o : Outcome) → OnlyOne (λ (m : ℕ) (a : List ℕ). outcome m a ≡ o)
 one-recovered o m n a b e g = (part (λ (r : Outcome). r .number) e g, part (λ (r : Outcome). r .save) e g)
 
 one-converted : (o : Conversion) → OneBoth (λ (m : ℕ) (v : ℕ) (a : List ℕ). converted m v a ≡ o)
@@ -88,5 +89,4 @@ one-entry =
       recovers = λ save log. one-recovered _;
       converts = λ from to source target. one-converted _;
       version = λ m n e g. e ∙ sym g;
-      stores = λ m i. one-stored _;
     }

@@ -13,7 +13,7 @@ use Rattle.dispatch.specs.declared.StateCall.{StateCall}
 use Rattle.image.specs.Load.{stored}
 use Rattle.memory.specs.World.{Fixed, fixed}
 use Rattle.savelog.specs.Convert.{converted, conversion}
-use Rattle.savelog.specs.Log.{outcome, recovery}
+pub use Rattle.savelog.specs.Log.{Recovers}
 use Rattle.savelog.specs.declared.Form.{Form}
 use Rattle.entry.specs.Entries.{Held, entry}
 use Rattle.entry.specs.Entry.{
@@ -104,10 +104,7 @@ SetsUse i used number after = changed number after ≡ useEntry i used
 abbrev pub GivesCycles : List ℕ → ℕ → ℕ → Type 0
 GivesCycles i number value = given number value ≡ overflowEntry i
 
--- No image: recovery over a save, a log converted from one form into bytes for another, the version
-
-abbrev pub Recovers : List ℕ → List ℕ → ℕ → List ℕ → Type 0
-Recovers save log number after = outcome number after ≡ recovery save log
+-- No image: recovery over a save (crate savelog, `Recovers`), a log converted from one form into bytes for another, the version
 
 abbrev pub Converts : Form → Form → List ℕ → List ℕ → ℕ → ℕ → List ℕ → Type 0
 Converts from to source target number value after = converted number value after ≡ conversion from to source target

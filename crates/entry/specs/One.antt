@@ -7,9 +7,8 @@ use lib.IntN.{ℤ}
 use Rattle.dispatch.specs.Lent.{Lent}
 use Rattle.dispatch.specs.declared.Call.{Call}
 use Rattle.dispatch.specs.declared.StateCall.{StateCall}
-use Rattle.image.specs.Load.{stored, storeCall}
 use Rattle.memory.specs.World.{Fixed}
-use Rattle.memory.specs.declared.Memory.{Memory}
+use Rattle.numbers.specs.One.{OnlyOne}
 use Rattle.savelog.specs.declared.Form.{Form}
 use Rattle.entry.specs.Contracts.{
   Enters,
@@ -35,19 +34,11 @@ use Rattle.entry.specs.Contracts.{
 use Rattle.entry.specs.Entries.{Held}
 use Rattle.entry.specs.declared.HostNumber.{HostNumber}
 
--- a contract that one outcome fits: a number and a value; a number and bytes; all three; number, value and all that a host holds
+-- a contract that one outcome fits: of a number and a value, or a number and bytes, it is `OnlyOne` (crate numbers); of a number, a value, and bytes or all that
+-- a host holds
 
-abbrev pub OneValue : (ℕ → ℕ → Type 0) → Type 0
-OneValue P = (m n v w : ℕ) → P m v → P n w → (m ≡ n) × (v ≡ w)
-
-abbrev pub OneBytes : (ℕ → List ℕ → Type 0) → Type 0
-OneBytes P = (m n : ℕ) (a b : List ℕ) → P m a → P n b → (m ≡ n) × (a ≡ b)
-
-abbrev pub OneBoth : (ℕ → ℕ → List ℕ → Type 0) → Type 0
-OneBoth P = (m n v w : ℕ) (a b : List ℕ) → P m v a → P n w b → (m ≡ n) × (v ≡ w) × (a ≡ b)
-
-abbrev pub OneHeld : (ℕ → ℕ → Held → Type 0) → Type 0
-OneHeld P = (m n v w : ℕ) (a b : Held) → P m v a → P n w b → (m ≡ n) × (v ≡ w) × (a ≡ b)
+abbrev pub OneBoth : {B : Type 0} → (ℕ → ℕ → B → Type 0) → Type 0
+OneBoth {B} P = (m n v w : ℕ) (a b : B) → P m v a → P n w b → (m ≡ n) × (v ≡ w) × (a ≡ b)
 
 abbrev pub OneBegun : (ℕ → List ℕ → List ℕ → List ℕ → Type 0) → Type 0
 OneBegun P =
@@ -59,24 +50,22 @@ OneShown P =
     → (n ≡ n′) × (d ≡ d′) × (l ≡ l′) × (s ≡ s′) × (m ≡ m′) × (y ≡ y′) × (c ≡ c′) × (a ≡ a′) × (w ≡ w′)
 
 pub record OneEntry : Type 0 where
-  pub enters : (x : Fixed) (h : Held) (c : Call) → OneHeld (Enters x h c)
-  pub changes : (i : List ℕ) (c : StateCall) → OneBytes (Changes i c)
-  pub asks : (i : List ℕ) (c : StateCall) → OneValue (Asks i c)
-  pub reads : (x : Fixed) (i v w s : List ℕ) (c : Call) → OneValue (Reads x i v w s c)
-  pub reads-vram : (i v : List ℕ) (index bank : ℕ) → OneValue (ReadsVram i v index bank)
+  pub enters : (x : Fixed) (h : Held) (c : Call) → OneBoth (Enters x h c)
+  pub changes : (i : List ℕ) (c : StateCall) → OnlyOne (Changes i c)
+  pub asks : (i : List ℕ) (c : StateCall) → OnlyOne (Asks i c)
+  pub reads : (x : Fixed) (i v w s : List ℕ) (c : Call) → OnlyOne (Reads x i v w s c)
+  pub reads-vram : (i v : List ℕ) (index bank : ℕ) → OnlyOne (ReadsVram i v index bank)
   pub begins : (i : List ℕ) (l : Lent) → OneBegun (Begins i l)
-  pub mapper-reads : (i rom save : List ℕ) (index : ℕ) → OneValue (MapperReads i rom save index)
+  pub mapper-reads : (i rom save : List ℕ) (index : ℕ) → OnlyOne (MapperReads i rom save index)
   pub mapper-writes : (i : List ℕ) (index byte : ℕ) → OneBoth (MapperWrites i index byte)
-  pub fills-colors : (i out : List ℕ) → OneBytes (FillsColors i out)
-  pub fills-oam : (i out : List ℕ) → OneBytes (FillsOam i out)
-  pub fills-block : (x : Fixed) (i v w s out : List ℕ) (index : ℕ) → OneBytes (FillsBlock x i v w s out index)
+  pub fills-colors : (i out : List ℕ) → OnlyOne (FillsColors i out)
+  pub fills-oam : (i out : List ℕ) → OnlyOne (FillsOam i out)
+  pub fills-block : (x : Fixed) (i v w s out : List ℕ) (index : ℕ) → OnlyOne (FillsBlock x i v w s out index)
   pub shows : (i : List ℕ) → OneShown (Shows i)
-  pub sets : (i : List ℕ) (n : HostNumber) → OneBytes (Sets i n)
-  pub gives-use : (i : List ℕ) → OneValue (GivesUse i)
-  pub sets-use : (i : List ℕ) (used : ℕ) → OneBytes (SetsUse i used)
-  pub gives-cycles : (i : List ℕ) → OneValue (GivesCycles i)
-  pub recovers : (save log : List ℕ) → OneBytes (Recovers save log)
+  pub sets : (i : List ℕ) (n : HostNumber) → OnlyOne (Sets i n)
+  pub gives-use : (i : List ℕ) → OnlyOne (GivesUse i)
+  pub sets-use : (i : List ℕ) (used : ℕ) → OnlyOne (SetsUse i used)
+  pub gives-cycles : (i : List ℕ) → OnlyOne (GivesCycles i)
+  pub recovers : (save log : List ℕ) → OnlyOne (Recovers save log)
   pub converts : (from to : Form) (source target : List ℕ) → OneBoth (Converts from to source target)
   pub version : (m n : ℕ) → IsVersion m → IsVersion n → m ≡ n
-  -- and the image's store, which is no entry
-  pub stores : (m : Memory) (i : List ℕ) → OneBytes (λ (n : ℕ) (a : List ℕ). stored n a ≡ storeCall m i)
