@@ -284,3 +284,6 @@ pub ran-whole : (x : Fixed) (w : World) (t : List ℕ) (long : Bool) (rest : Lis
     → t ≡ [] → long ≡ false → rest ≡ [] → m ≡ true → Ran x (place w t long rest m) more gone q → more ≡ false → gone ≡ false → Whole x w (q .world)
 ran-whole x w t long rest m more gone q e f g h r i j =
     walked-whole x w (r .printed) q (rw (e, f, g, h) at (r .goes)) (r .ends i j)
+
+pub worlds-same : {m n : Memory} {v v′ w w′ : List ℕ} (s l : List ℕ) → m ≡ n → v ≡ v′ → w ≡ w′ → world m v w s l ≡ world n v′ w′ s l
+worlds-same s l e f g = rw (e, f, g)

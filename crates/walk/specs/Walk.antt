@@ -3,10 +3,13 @@ use mathlib.Core.Bool.{Bool, true, false, cond}
 use mathlib.Core.List.{List, [], _∷_, _++_}
 use mathlib.Core.Path.{_≡_}
 use Prim.Native.Nat.{ℕ}
+use lib.ListN.{replicate}
+use Rattle.bus.specs.Fresh.{startedBy}
 use Rattle.commands.specs.Walk.{strangeText}
+use Rattle.lines.specs.Contents.{Filled}
 use Rattle.lines.specs.Reader.{linesOf}
-use Rattle.memory.specs.World.{World, Fixed}
-use Rattle.walk.specs.Line.{Walked, walked, lineWalked}
+use Rattle.memory.specs.World.{World, Fixed, world}
+use Rattle.walk.specs.Line.{Walked, walked, lineWalked, romByte}
 
 -- a text before what is printed
 abbrev pub after : List ℕ → Walked → Walked
@@ -20,6 +23,12 @@ walkLines x w (s ∷ rest) = after (lineWalked x w s .text) (walkLines x (lineWa
 -- all of an input
 abbrev pub walkAll : Fixed → World → List ℕ → Walked
 walkAll x w input = walkLines x w (linesOf input)
+
+-- how it begins: "fresh monochrome, Mbc1, N 2, code 2, RAM zero, ROM byte at a is a modulo 256, sound window zero, log 4,095 bytes"
+abbrev pub Begins : Fixed → World → Type 0
+Begins x w =
+    (w ≡ world (startedBy 1 2 2 false) (replicate 8192 0) (replicate 8192 0) (replicate 8192 0) (replicate 4095 0))
+    × ((x .sound ≡ replicate 48 0) × Filled romByte (x .rom) 32768)
 
 -- The walk on its way
 

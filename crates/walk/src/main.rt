@@ -4,7 +4,7 @@ ghost use Prim.Native.Nat.{_+_, _≤_};
 ghost use mathlib.Core.List.{_++_, []};
 ghost use mathlib.Core.Logic.{_⊎_};
 ghost use mathlib.Core.Path.{_≡_};
-ghost use lib.ListN.{length, take};
+ghost use lib.ListN.{length, take, replicate};
 ghost use mathlib.Core.Bool.{true, false, cond};
 ghost use Rattle.bus.specs.Fresh.{startedBy};
 ghost use Rattle.commands.specs.Walk.{strangeText};
@@ -12,7 +12,7 @@ ghost use Rattle.lines.specs.Contents.{Filled};
 ghost use Rattle.lines.specs.Reader.{Inside, pending, standing};
 ghost use Rattle.memory.specs.World.{world, fixed};
 ghost use Rattle.walk.specs.Line.{romByte, walked};
-ghost use Rattle.walk.specs.Walk.{after, oneLine, place, Stepped, Ran, Whole};
+ghost use Rattle.walk.specs.Walk.{after, Begins, oneLine, place, Stepped, Ran, Whole};
 use commands::text;
 use libc::STDERR_FILENO;
 use lines::reader;
@@ -265,6 +265,7 @@ fn walk(
     log: &mut [u8],
     sound: &[u8],
 ) -> Ended
+    requires { ⌜ Begins (fixed (now rom) (now sound)) (world memory (now vram) (now wram) (now save) (now log)) ⌝ }
     ensures { λ r. ⌜ (r .more ≡ false → r .lost ≡ false → Whole (fixed (now (rom .entry)) (now (sound .entry))) (world memory (now (vram .entry)) (now (wram .entry)) (now (save .entry)) (now (log .entry))) (world (r .memory) (now (vram .exit)) (now (wram .exit)) (now (save .exit)) (now (log .exit)))) ⌝ }
 {
     let mut buf = io::large_buffer();
@@ -310,7 +311,7 @@ fn begin(
     sound: &[u8],
 ) -> Memory
     requires { ⌜ (length (now rom) ≡ 32768) × ((length (now vram) ≡ 8192) × ((length (now wram) ≡ 8192) × ((length (now save) ≡ 8192) × ((length (now log) ≡ 4095) × (length (now sound) ≡ 48))))) ⌝ }
-    ensures { λ r. ⌜ r ≡ startedBy 1 2 2 false ⌝ }
+    ensures { λ r. ⌜ (r ≡ startedBy 1 2 2 false) × ((now (vram .exit) ≡ replicate 8192 0) × (now (wram .exit) ≡ replicate 8192 0)) ⌝ }
 {
     let begun = bus::fresh::fresh(1, 2, 2, false, rom, vram, wram, save, log, sound);
     begun.memory

@@ -1,6 +1,7 @@
 -- The lengths are those that the description asks for.
 use mathlib.Core.Path.{ap, _∙_}
-use lib.ListN.{length}
+use Prim.Native.Nat.{ℕ}
+use lib.ListN.{length, replicate}
 use borrow.Author.Needs.{needs}
 use Rattle.walk.proofs.Fresh.{walk-begins}
 use Rattle.bus.specs.Fresh.{Begun}
@@ -20,10 +21,16 @@ returns : tie.Need-returns
 returns c =
     let a = c .before .before .before .before .before .before .before .before .before .before .before .before .before .before .args in
     let p = c .before .before .before .before .before .before .before .before .before .before .before .before .before .before .pre in
-    ap (λ (b : Begun). b .state)
-    (c .before .before .before .before .before .fresh .ensures
+    let e =
+    c .before .before .before .before .before .fresh .ensures
     ∙ walk-begins (length (a .rom .now)) (length (a .save .now)) (length (a .log .now)) (length (a .sound .now)) (a .vram .now) (a .wram .now)
-    (p .0) (p .1 .0) (p .1 .1 .0) (p .1 .1 .1 .0) (p .1 .1 .1 .1 .0) (p .1 .1 .1 .1 .1))
+    (p .0) (p .1 .0) (p .1 .1 .0) (p .1 .1 .1 .0) (p .1 .1 .1 .1 .0) (p .1 .1 .1 .1 .1) in (
+      ap (λ (b : Begun). b .state) e,
+      (
+        ap (λ (b : Begun). b .vram) e ∙ ap (λ (n : ℕ). replicate n 0) (p .1 .0),
+        ap (λ (b : Begun). b .wram) e ∙ ap (λ (n : ℕ). replicate n 0) (p .1 .1 .0),
+      ),
+    )
 
 pub begin-spec : {M : Type 1} → statement M
 begin-spec = tie.close (tie.spec fresh-requires same-length same-length-2 returns)
