@@ -1,4 +1,4 @@
--- Laws of bits. The bits of a number made of two by its weights are theirs; so are those of a remainder, a quotient, an `or`, and of a bit made 1 or 0.
+-- Laws of bits: of a remainder, a quotient, two numbers side by side, an `or`, and of a bit made 1 or 0.
 use mathlib.Core.Bool.{Bool, false, cond}
 use mathlib.Core.Path.{_≡_, refl, sym, ap, _∙_}
 use Prim.Native.Nat.{ℕ, zero, suc, _+_, _-_, _*_, _/_, _%_, _^_, _<_, _≤_, max}
@@ -38,6 +38,12 @@ low-mod (suc n) v =
     ap (λ (x : ℕ). v / 2 ^ n % 2 * 2 ^ n + x) (low-mod n v)
     ∙ sym (mod-pow-add v 1 n)
     ∙ ap (λ (k : ℕ). v % 2 ^ k) (one-add n)
+
+pub low-same : (n x y : ℕ) → ((j : ℕ) → j < n → bit x j ≡ bit y j) → low n x ≡ low n y
+unfolding low
+low-same zero x y h = refl
+low-same (suc n) x y h =
+    ap (λ (b : ℕ). b * 2 ^ n + low n x) (h n (omega arith)) ∙ ap (λ (z : ℕ). bit y n * 2 ^ n + z) (low-same n x y (λ j l. h j (omega arith)))
 
 -- a remainder has the bits below its power, and no other
 pub bit-mod : (v n k : ℕ) → bit (v % 2 ^ n) k ≡ cond (ltb k n) (bit v k) 0

@@ -46,7 +46,8 @@ module _ (c : Controller) (b : Button) (j : ℕ) where
   down : isSet (c .released) (bitOf b) ≡ false → bit (c .released) j ≡ cond (eqb j (bitOf b)) 0 (bit (c .released) j)
   down f =
       by-cond (λ (x : ℕ). bit (c .released) j ≡ x) (eqb j (bitOf b)) 0 (bit (c .released) j)
-      (λ t. ap (λ (i : ℕ). bit (c .released) i) (eqb-true j (bitOf b) t) ∙ bit-clear (c .released) (bitOf b) (sym (is-set (c .released) (bitOf b)) ∙ f))
+      (λ t. ap (λ (i : ℕ). bit (c .released) i) (eqb-true j (bitOf b) t)
+      ∙ bit-clear (c .released) (bitOf b) (sym (is-set (c .released) (bitOf b)) ∙ f))
       (λ n. refl)
 
   press-bit : bit (afterPress c b .released) j ≡ cond (eqb j (bitOf b)) 0 (bit (c .released) j)

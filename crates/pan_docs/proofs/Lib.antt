@@ -5,6 +5,7 @@ pub mod Ones
 pub mod LyLyc
 pub mod Banks
 pub mod Mbc1
+pub mod Mbc1Writes
 pub mod Mbc2
 pub mod Mbc5
 pub mod Colour

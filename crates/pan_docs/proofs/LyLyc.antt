@@ -3,16 +3,19 @@ use mathlib.Core.Bool.{Bool, true, false, cond, _&&_}
 use mathlib.Core.Path.{_≡_, refl, sym, ap, _∙_, subst}
 use Prim.Native.Nat.{ℕ, _+_, _-_, _*_, _/_, _%_, _<_, _≤_}
 use native.Mathlib.Omega.{arith}
+use lib.Bits.{bitAnd, and-zero-l}
 use lib.Dec.{eqb}
-use borrow.Author.Tests.{eqb-true, eqb-false, eq-eqb, ne-eqb}
+use borrow.Author.Tests.{eqb-true, eqb-false, eq-eqb, ne-eqb, lt-ltb}
 use Rattle.bit_utils.specs.Bits.{isSet, setBit}
-use Rattle.lcd.specs.Lcd.{with-compare, lcdRequested, lycSignalled, lyEqual, lyDiffers, lyCompared, lycWritten, statusPut, modeSignalled, statusWritten}
+use Rattle.lcd.specs.Lcd.{with-compare, lcdRequested, lycSignalled, lyEqual, lyDiffers}
+use Rattle.lcd.specs.Lcd.{lyCompared, lycWritten, statusPut, modeSignalled, statusWritten}
 use Rattle.lcd.specs.PanDocs.{modeSelected}
 use Rattle.lcd.specs.declared.Screen.{Screen}
 use Rattle.rules.proofs.Tests.{by-cond, cond-both, cond-true, cond-false, untrue}
 use Rattle.pan_docs.specs.Bits.{bit}
 use Rattle.pan_docs.specs.LyLyc.{equal, raises, on, Compared, StatusBits, LyIsLyc}
-use Rattle.pan_docs.proofs.Bits.{is-set, bit-below, bit-shifted, bit-left, bit-right, bit-set-here, bit-set-other, bit-unset-here, bit-unset-other}
+use Rattle.pan_docs.proofs.Bits.{is-set, bit-below, bit-shifted, bit-left}
+use Rattle.pan_docs.proofs.Bits.{bit-right, bit-set-here, bit-set-other, bit-unset-here, bit-unset-other}
 
 eqb-sym : (a b : ℕ) (t : Bool) → eqb a b ≡ t → eqb b a ≡ t
 eqb-sym a b true e = eq-eqb b a (sym (eqb-true a b e))
@@ -188,6 +191,31 @@ module _ (s : Screen) (v : ℕ) where
   status-off o =
       ap (λ (u : Screen). bit (u .status) 2) (cond-false _ _ (statusPut s v) (shows-off s o)) ∙ read-only (s .status) v 2 (omega arith)
 
+  -- what was requested stays so
+  stays-requested : (t : Screen) → bit (t .flags) 1 ≡ 1 → bit (lyCompared t .flags) 1 ≡ 1
+  stays-requested t e = by-disabled (t .lcd .disabled) refl
+    where
+      by-raises : (d : t .lcd .disabled ≡ false) (b : Bool) → raises t ≡ b → bit (lyCompared t .flags) 1 ≡ 1
+      by-raises d true r = compared t d .requested r
+      by-raises d false r = ap (λ (x : ℕ). bit x 1) (compared t d .not-requested r) ∙ e
+
+      by-disabled : (b : Bool) → t .lcd .disabled ≡ b → bit (lyCompared t .flags) 1 ≡ 1
+      by-disabled true d = ap (λ (u : Screen). bit (u .flags) 1) (disabled t d) ∙ e
+      by-disabled false d = by-raises d (raises t) refl
+
+  mode-source : bit (s .control) 7 ≡ 1 → s .lcd .signal ≡ 0 → s .lcd .mode < 3 → bit v (3 + s .lcd .mode) ≡ 1 → bit (statusWritten s v .flags) 1 ≡ 1
+  unfolding statusWritten modeSignalled modeSelected
+  mode-source o z l e =
+      let t = statusPut s v in
+      let none : eqb (t .lcd .signal) 0 ≡ true = eq-eqb _ 0 (ap (λ (x : ℕ). bitAnd x (v / 8 % 16)) z ∙ and-zero-l (v / 8 % 16)) in
+      let chosen : isSet (t .status) (3 + s .lcd .mode) ≡ true =
+      is-set (t .status) (3 + s .lcd .mode) ∙ eq-eqb _ 1 (selected (s .status) v (3 + s .lcd .mode) (omega arith) (omega arith) ∙ e)
+      in
+      let m : modeSelected (t .status) (t .lcd .mode) ≡ true = cond-true _ _ _ (lt-ltb (s .lcd .mode) 3 l) ∙ chosen in
+      let r : modeSignalled t ≡ lcdRequested t = cond-true _ _ _ none ∙ cond-true _ _ _ m in
+      ap (λ (u : Screen). bit (u .flags) 1) (cond-true _ (lyCompared (modeSignalled t)) _ (shows-on s o))
+      ∙ stays-requested (modeSignalled t) (ap (λ (u : Screen). bit (u .flags) 1) r ∙ bit-set-here (s .flags % 32) 1)
+
 pub ly-is-lyc : LyIsLyc
 ly-is-lyc =
     record {
@@ -199,4 +227,5 @@ ly-is-lyc =
       status-written = status-written;
       status-equal = status-equal;
       status-off = status-off;
+      mode-source = mode-source;
     }

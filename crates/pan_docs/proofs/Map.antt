@@ -16,7 +16,8 @@ use Rattle.mmu.specs.PanDocs.{echo, vramAt, wramAt}
 use Rattle.registers.proofs.Rest.{colour-shown}
 use Rattle.registers.specs.Page.{readRegister, writeRegister}
 use Rattle.pan_docs.specs.Bits.{low}
-use Rattle.pan_docs.specs.Map.{FirstBank, SwitchableBank, Video, CartridgeRam, WorkZero, WorkSwitchable, Echo, Objects, NotUsable, Io, High, InterruptEnable, map, Mapped, MemoryMap}
+use Rattle.pan_docs.specs.Map.{FirstBank, SwitchableBank, Video, CartridgeRam, WorkZero, WorkSwitchable, Echo}
+use Rattle.pan_docs.specs.Map.{Objects, NotUsable, Io, High, InterruptEnable, map, Mapped, MemoryMap}
 use Rattle.pan_docs.proofs.Bits.{low-mod}
 use Rattle.pan_docs.proofs.Rows.{only}
 
@@ -167,8 +168,8 @@ module _ (i : ℕ) where
     high-read k x w =
         let a : 0x80 ≤ low 8 i = omega (arith, low-eight i 0xFF00 refl h (omega arith)) in
         page-read x w
-        ∙ colour-shown _ _ _ _ _ (low 8 i) (omega arith) (λ z. omega arith) (λ z. omega arith) (λ z. omega arith) (λ z. omega arith) (λ z. omega arith)
-        (λ z. omega arith) (λ z. omega arith)
+        ∙ colour-shown _ _ _ _ _ (low 8 i) (omega arith) (λ z. omega arith) (λ z. omega arith) (λ z. omega arith) (λ z. omega arith)
+        (λ z. omega arith) (λ z. omega arith) (λ z. omega arith)
 
   io : 0xFF00 ≤ i → i ≤ 0xFF7F → Mapped i Io
   io h l = let k : i ≤ 0xFFFF = omega arith in record { region = in-page h k; read = page-read h k; write = page-put h k }
@@ -198,5 +199,25 @@ echoed i h l =
 
 pub memory-map : MemoryMap
 memory-map i h =
-    only i (Mapped i) map 0x0000 65536 refl (omega arith) h
-    (first-bank i, (switchable-bank i, (video i, (cartridge-ram i, (first-work i, (switched-work i, (echoed i, (objects i, (not-usable i, (io i, (high i, (interrupt-enable i, tt))))))))))))
+    only i (Mapped i) map 0x0000 65536 refl (omega arith) h (
+      first-bank i,
+      (
+        switchable-bank i,
+        (
+          video i,
+          (
+            cartridge-ram i,
+            (
+              first-work i,
+              (
+                switched-work i,
+                (
+                  echoed i,
+                  (objects i, (not-usable i, (io i, (high i, (interrupt-enable i, tt))))),
+                ),
+              ),
+            ),
+          ),
+        ),
+      ),
+    )

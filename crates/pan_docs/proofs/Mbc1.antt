@@ -20,7 +20,8 @@ use Rattle.pan_docs.proofs.Banks.{enables-bits, masked-as, parts, acts,
 use Rattle.pan_docs.proofs.Rows.{only}
 
 -- five bits and the upper ones
-bank-bits : (five upper j x y : ℕ) → (j < 5 → actsAsOne 5 five j ≡ x) → (5 ≤ j → bit upper (j - 5) ≡ y) → bit (mbc1Bank five upper) j ≡ cond (ltb j 5) x y
+pub bank-bits : (five upper j x y : ℕ) → (j < 5 → actsAsOne 5 five j ≡ x) → (5 ≤ j → bit upper (j - 5) ≡ y)
+    → bit (mbc1Bank five upper) j ≡ cond (ltb j 5) x y
 bank-bits five upper j x y p q =
     parts 5 _ upper (acts-small 32 (five % 32) (lit< tt) (omega arith)) j x y (λ h. acts 5 five j h ∙ p h) q
 
@@ -29,7 +30,7 @@ module _ (c : Cartridge) (m : Registers) (v : ℕ) where
   unfolding enable1
   enabled d = cond-false (eqb (c .code) 0) m _ (ne-eqb (c .code) 0 d) ∙ ap (λ (b : Bool). withEnabled m b) (enables-bits v)
 
-  low-bank : Does RomBank c m v (low1 c m v)
+  pub low-bank : Does RomBank c m v (low1 c m v)
   unfolding low1
   low-bank f =
       record {
@@ -37,10 +38,11 @@ module _ (c : Cartridge) (m : Registers) (v : ℕ) where
         bank =
             λ n e.
             masked-as n (mbc1Bank v (cond (m .mode) 0 (m .high))) e _
-            (λ j. bank-bits v (cond (m .mode) 0 (m .high)) j _ _ (λ h. refl) (λ h. ap (λ (x : ℕ). bit x (j - 5)) (cond-false (m .mode) 0 (m .high) f)));
+            (λ j. bank-bits v (cond (m .mode) 0 (m .high)) j _ _ (λ h. refl)
+            (λ h. ap (λ (x : ℕ). bit x (j - 5)) (cond-false (m .mode) 0 (m .high) f)));
       }
 
-  upper-bits : m .mode ≡ false → Upper c m (high1 c m v) v
+  pub upper-bits : m .mode ≡ false → Upper c m (high1 c m v) v
   unfolding high1
   upper-bits f =
       subst (λ (t : Registers). Upper c m t v) (sym (cond-false (m .mode) _ _ f))

@@ -1,12 +1,15 @@
 -- MBC5: the window of an index, then its register.
-use mathlib.Core.Bool.{Bool, true, cond}
-use mathlib.Core.Path.{_≡_, refl, ap, _∙_}
-use Prim.Native.Nat.{ℕ, _+_, _-_, _*_, _/_, _%_, _^_, _≤_}
+use mathlib.Core.Bool.{Bool, true, false, cond}
+use mathlib.Core.List.{List, [], _∷_}
+use mathlib.Core.Path.{sym, subst, _≡_, refl, ap, _∙_}
+use Prim.Native.Nat.{ℕ, _+_, _-_, _*_, _/_, _%_, _^_, _≤_, _<_}
 use native.Mathlib.Omega.{arith}
 use lib.Dec.{eqb, ltb}
 use lib.Pow.{pow-pos}
-use borrow.Author.Tests.{eqb-true, eqb-false, ne-eqb, lt-ltb, le-ltb}
-use Rattle.mbc.specs.Mbc.{ramBanks, ramSource, chosenRam, enable5, low5, ninth5, ram5, after5, withEnabled5}
+use borrow.Author.Tests.{eqb-true, eqb-false, ne-eqb, lt-ltb, le-ltb, ltb-true, ltb-false}
+use Rattle.mbc.proofs.Cases.Mbc5Exact.{one-field}
+use Rattle.mbc.specs.Mbc.{Apart, apartOf, apartStart, apartAfter, apartAll, shown, ramBanks}
+use Rattle.mbc.specs.Mbc.{ramSource, chosenRam, enable5, low5, ninth5, ram5, after5, withEnabled5}
 use Rattle.mbc.specs.PanDocs.{mbc5Bank}
 use Rattle.mbc.specs.declared.cartridge.Cartridge.{Cartridge}
 use Rattle.mbc.specs.declared.mbc.Mapper.the-variants.{Mbc5}
@@ -15,10 +18,11 @@ use Rattle.mbc.specs.declared.mbc5.Mbc5.{Mbc5 as Registers}
 use Rattle.rules.proofs.Tests.{by-cond, cond-true, cond-false}
 use Rattle.pan_docs.specs.Bits.{bit, low}
 use Rattle.pan_docs.specs.Banks.{Masked}
-use Rattle.pan_docs.specs.Mbc5.{RamEnable, LowEight, Ninth, RamBank, rows, nine, Does, Mbc5Rules}
+use Rattle.pan_docs.specs.Rows.{Row, rowsAt, wroteIn, wroteAll}
+use Rattle.pan_docs.specs.Mbc5.{RamEnable, LowEight, Ninth, RamBank, rows, nine, Does, Register, wrote, written, Mbc5Rules, Mbc5Writes}
 use Rattle.pan_docs.proofs.Bits.{bit-mod, bit-below, bit-above, bit-shifted}
 use Rattle.pan_docs.proofs.Banks.{enables-bits, masked-as, parts, ram-place}
-use Rattle.pan_docs.proofs.Rows.{only}
+use Rattle.pan_docs.proofs.Rows.{only, none-past}
 
 ninth-bit : (x j : ℕ) → 8 ≤ j → bit (x % 2) (j - 8) ≡ cond (eqb j 8) (bit x 0) 0
 ninth-bit x j h =
@@ -99,3 +103,45 @@ mbc5-rules =
       none = λ c m i v h. none c m v i h;
       ram = ram;
     }
+
+-- over a list of writes: the two registers by rows are those of crate mbc, and `one-field` is of these
+module _ (a : Apart) (i v : ℕ) where
+  outside : i < 0x2000 → apartAfter a i v ≡ a
+  unfolding apartAfter
+  outside h = rw (lt-ltb i 0x2000 h)
+
+  in-eight : 0x2000 ≤ i → i ≤ 0x2FFF → apartAfter a i v ≡ apartOf v (a .ninth)
+  unfolding apartAfter
+  in-eight h l = rw (le-ltb i 0x2000 h, lt-ltb i 0x3000 (omega arith))
+
+  in-one : 0x3000 ≤ i → i ≤ 0x3FFF → apartAfter a i v ≡ apartOf (a .eight) v
+  unfolding apartAfter
+  in-one h l = rw (le-ltb i 0x2000 (omega arith), le-ltb i 0x3000 h, lt-ltb i 0x4000 (omega arith))
+
+  past : 0x4000 ≤ i → apartAfter a i v ≡ a
+  unfolding apartAfter
+  past h = rw (le-ltb i 0x2000 (omega arith), le-ltb i 0x3000 (omega arith), le-ltb i 0x4000 h)
+
+  step-by : (b : Bool) → ltb i 0x6000 ≡ b → apartAfter a i v ≡ wroteIn wrote (rowsAt rows i) a v
+  step-by true t =
+      let r =
+      only i (λ r. apartAfter a i v ≡ wrote r a v) rows 0x0000 0x6000 refl (omega arith) (ltb-true i 0x6000 t)
+      ((λ h l. outside (omega arith)), (in-eight, (in-one, ((λ h l. past h), tt))))
+      in
+      r .holds ∙ sym (ap (λ (l : List (Row Register)). wroteIn wrote l a v) (r .alone))
+  step-by false f =
+      let h = ltb-false i 0x6000 f in
+      past (omega arith) ∙ sym (ap (λ (l : List (Row Register)). wroteIn wrote l a v) (none-past i rows 0x0000 0x6000 refl h))
+
+  step : apartAfter a i v ≡ wroteIn wrote (rowsAt rows i) a v
+  step = step-by (ltb i 0x6000) refl
+
+all : (a : Apart) (ws : List (ℕ × ℕ)) → apartAll a ws ≡ wroteAll wrote rows a ws
+all a [] = refl
+all a (w ∷ ws) =
+    ap (λ (b : Apart). apartAll b ws) (step a (w .0) (w .1)) ∙ all (wroteIn wrote (rowsAt rows (w .0)) a (w .1)) ws
+
+pub mbc5-writes : Mbc5Writes
+mbc5-writes c n ws d e =
+    subst (Masked n _) (sym (one-field c ws d ∙ ap (shown (c .banks)) (all apartStart ws)))
+    (masked-as n (mbc5Bank (written ws .eight) (written ws .ninth)) e _ (bank-bits (written ws .eight) (written ws .ninth)))

@@ -1,17 +1,22 @@
 -- The palettes: a colour is three parts side by side.
-use mathlib.Core.Path.{_≡_, ap, _∙_}
-use Prim.Native.Nat.{ℕ, _+_, _-_, _*_, _%_, _^_, _<_, _≤_}
+use mathlib.Core.Bool.{Bool, true, false, cond}
+use mathlib.Core.List.{List}
+use mathlib.Core.Path.{_≡_, refl, sym, ap, _∙_}
+use Prim.Native.Nat.{ℕ, zero, suc, _+_, _-_, _*_, _/_, _%_, _^_, _<_, _≤_}
 use native.Mathlib.Omega.{arith}
-use lib.Dec.{ltb}
+use lib.Dec.{eqb, ltb}
+use lib.ListN.{getD, length}
+use native.Mathlib.Nat.{zero-add}
+use Rattle.palette.proofs.Memory.{read-same, read-other}
 use borrow.Author.Tests.{eq-eqb, ne-eqb, ltb-true, ltb-false}
 use Rattle.palette.specs.Palette.{moved, writeData, withData}
-use Rattle.palette.specs.PanDocs.{numberOf, nextAddress}
+use Rattle.palette.specs.PanDocs.{addressOf, moves, nextAddress, numberOf, channels, lowByte, highByte, isHigh, colorAt, byteAt, putAt}
 use Rattle.palette.specs.declared.Color.{Color}
 use Rattle.palette.specs.declared.Palette.{Palette}
-use Rattle.rules.proofs.Tests.{by-cond, cond-true, cond-false}
+use Rattle.rules.proofs.Tests.{by-cond, cond-both, cond-true, cond-false}
 use Rattle.pan_docs.specs.Bits.{bit, low}
-use Rattle.pan_docs.specs.Palettes.{colourBits, PaletteBits}
-use Rattle.pan_docs.proofs.Bits.{low-mod, bit-below, bit-above, bit-left, bit-right, is-set}
+use Rattle.pan_docs.specs.Palettes.{colourBits, place, PaletteBits}
+use Rattle.pan_docs.proofs.Bits.{low-mod, bit-zero, bit-shifted, bit-below, bit-above, bit-left, bit-right, is-set}
 
 module _ (c : Color) (j : ℕ) where
   abbrev below : ℕ
@@ -54,6 +59,45 @@ module _ (p : Palette) (v : ℕ) where
   stays e =
       ap (λ (q : Palette). q .index) (cond-false _ _ (withData p v) (is-set (p .index) 7 ∙ ne-eqb (bit (p .index) 7) 1 (λ d. omega arith)))
 
+-- the two bytes of a colour
+half : (n b j : ℕ) → b < 2 → j < 8 → bit (cond (eqb b 1) (highByte n) (lowByte n)) j ≡ bit n (b * 8 + j)
+half n zero j h l = bit-below n 8 j l ∙ ap (λ (i : ℕ). bit n i) (sym (zero-add j))
+half n (suc zero) j h l = bit-shifted n 8 j
+half n (suc (suc b)) j h l = absurd (omega arith)
+
+bytes : (colors : List Color) (q c b j : ℕ) → c < 4 → b < 2 → j < 8
+    → bit (byteAt colors (place q c b)) j ≡ colourBits (getD colors (q * 4 + c) (channels 0)) (b * 8 + j)
+unfolding byteAt
+bytes colors q c b j h l k =
+    let e : place q c b / 2 ≡ q * 4 + c = omega arith in
+    let f : place q c b % 2 ≡ b = omega arith in
+    let n = numberOf (colorAt colors (place q c b)) in
+    ap (λ (t : Bool). bit (cond t (highByte n) (lowByte n)) j) (is-set (place q c b) 0 ∙ ap (λ (x : ℕ). eqb x 1) (bit-zero (place q c b) ∙ f))
+    ∙ half n b j l k
+    ∙ colours (colorAt colors (place q c b)) (b * 8 + j)
+    ∙ ap (λ (i : ℕ). colourBits (getD colors i (channels 0)) (b * 8 + j)) e
+
+module _ (p : Palette) (v : ℕ) where
+  colours-put : writeData p v .colors ≡ putAt (p .colors) (low 6 (p .index)) v
+  unfolding moved
+  colours-put =
+      let e : moved (withData p v) .colors ≡ p .colors = cond-both (λ (q : Palette). q .colors ≡ p .colors) (moves (p .index)) refl refl in
+      ap (λ (l : List Color). putAt l (addressOf (p .index)) v) e ∙ ap (λ (a : ℕ). putAt (p .colors) a v) (sym (low-mod 6 (p .index)))
+
+  seven : (t : Bool) (j : ℕ) → j < 7 → bit (cond t (v % 128) v) j ≡ bit v j
+  seven true j h = bit-below v 7 j h
+  seven false j h = refl
+
+  written : (j : ℕ) → length (p .colors) ≡ 32 → v < 256 → j < 7 → bit (byteAt (writeData p v .colors) (low 6 (p .index))) j ≡ bit v j
+  written j l h k =
+      let a = low 6 (p .index) in
+      ap (λ (l : List Color). bit (byteAt l a) j) colours-put
+      ∙ ap (λ (x : ℕ). bit x j) (read-same (p .colors) a v h (omega (arith, low-mod 6 (p .index))))
+      ∙ seven (isHigh a) j k
+
+  others : (a : ℕ) → v < 256 → (low 6 (p .index) ≡ a → ⊥) → byteAt (writeData p v .colors) a ≡ byteAt (p .colors) a
+  others a h d = ap (λ (l : List Color). byteAt l a) colours-put ∙ read-other (p .colors) (low 6 (p .index)) v h a d
+
 up-low : (x : ℕ) → low 6 (128 + nextAddress x) ≡ (low 6 x + 1) % 64
 up-low x = rw (low-mod 6 (128 + nextAddress x), low-mod 6 x) (omega arith)
 
@@ -64,6 +108,7 @@ up-high x = omega arith
 pub palette-bits : PaletteBits
 palette-bits =
     record {
+      bytes = bytes;
       colours = colours;
       moves =
           λ p v e. (
@@ -71,4 +116,6 @@ palette-bits =
             ap (λ (x : ℕ). bit x 7) (step-up p v e) ∙ up-high (p .index),
           );
       stays = stays;
+      written = written;
+      others = others;
     }

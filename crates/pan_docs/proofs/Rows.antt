@@ -19,6 +19,15 @@ abbrev pub Each : {A : Type 0} → (A → Type 0) → ℕ → List (Row A) → T
 Each P i [] = Unit
 Each P i (r ∷ rs) = (r .first ≤ i → i ≤ r .last → P (r .what)) × Each P i rs
 
+ends : {A : Type 0} (rs : List (Row A)) (a end : ℕ) → follow a rs end ≡ true → a ≤ end
+ends [] a end e = omega (arith, eqb-true a end e)
+ends (r ∷ rs) a end e =
+    let p = both-true (eqb (r .first) a) _ e in
+    let q = both-true (leb a (r .last)) _ (p .1) in
+    let l = leb-true a (r .last) (q .0) in
+    let b = ends rs (suc (r .last)) end (q .1) in
+    omega arith
+
 module _ {A : Type 0} (i : ℕ) where
   within-row : (r : Row A) → r .first ≤ i → i ≤ r .last → within i r ≡ true
   within-row r h k = rw (le-leb (r .first) i h, le-leb i (r .last) k)
@@ -68,4 +77,18 @@ module _ {A : Type 0} (i : ℕ) where
       let p = both-true (eqb (r .first) a) _ e in
       let q = both-true (leb a (r .last)) _ (p .1) in
       let f = eqb-true (r .first) a (p .0) in
-      here-or-later P r rs end (q .1) (omega arith) (x .0 (omega arith)) (λ k. only P rs (suc (r .last)) end (q .1) k l (x .1)) (leb i (r .last)) refl
+      here-or-later P r rs end (q .1) (omega arith) (x .0 (omega arith))
+      (λ k. only P rs (suc (r .last)) end (q .1) k l (x .1)) (leb i (r .last)) refl
+
+  -- and past the end in none
+  pub none-past : (rs : List (Row A)) (a end : ℕ) → follow a rs end ≡ true → end ≤ i → rowsAt rs i ≡ []
+  unfolding rowsAt
+  none-past [] a end e h = refl
+  none-past (r ∷ rs) a end e h =
+      let p = both-true (eqb (r .first) a) _ e in
+      let q = both-true (leb a (r .last)) _ (p .1) in
+      let f = eqb-true (r .first) a (p .0) in
+      let l = leb-true a (r .last) (q .0) in
+      let b = ends rs (suc (r .last)) end (q .1) in
+      ap (λ (t : Bool). cond t (r ∷ rowsAt rs i) (rowsAt rs i)) (past-row r (omega arith) (omega arith))
+      ∙ none-past rs (suc (r .last)) end (q .1) h

@@ -5,7 +5,12 @@ use mathlib.Core.Path.{_≡_, refl, sym, ap, _∙_}
 use Prim.Native.Nat.{ℕ, zero, suc, _+_, _*_, _/_, _%_, _<_}
 use native.Mathlib.Omega.{arith}
 use lib.Dec.{eqb}
-use lib.ListN.{getD}
+use lib.ListN.{length, getD}
+use lib.Seq.{getD-set-same}
+use Rattle.memory.specs.declared.Memory.{Memory}
+use Rattle.registers.specs.Page.{writeRegister}
+use Rattle.registers.specs.Register.{registerOf, byteAs}
+use Rattle.registers.specs.State.{loaded}
 use lib.Pow.{field}
 use borrow.Author.Tests.{lt-ltb, le-ltb}
 use Rattle.timer.specs.PanDocs.{period, stepTima}
@@ -47,5 +52,9 @@ module _ (t : Timer) where
       let e = cond-false _ _ _ (le-ltb (t .tima) 255 (omega arith)) in
       (ap (λ (u : Timer). u .tima) e, ap (λ (u : Timer). bit (u .flags) 2) e ∙ bit-set-here (t .flags % 32) 2)
 
+reset : (m : Memory) (v : ℕ) → length (m .page) ≡ 256 → loaded (writeRegister m 0x04 v) 0x04 ≡ 0x00
+unfolding registerOf byteAs
+reset m v l = getD-set-same (m .page) 0x04 0x00 0 (omega arith)
+
 pub timer-bits : TimerBits
-timer-bits = record { rate = rate; counts = λ tac. is-set tac 2; div = div; steps = steps; passes = passes }
+timer-bits = record { rate = rate; counts = λ tac. is-set tac 2; div = div; reset = reset; steps = steps; passes = passes }

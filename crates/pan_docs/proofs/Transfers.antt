@@ -116,12 +116,14 @@ module _ (m : Memory) (v : ℕ) (e : m .core .banks .colour ≡ true) where
       ap (λ (n : Memory). bit (n .core .hdma .destination) j) (cond-true (m .core .banks .colour) _ _ e)
       ∙ destination-bits v (m .core .hdma .destination) j
 
-  destination-low : (j : ℕ) → bit (writeRegister m 0x54 v .core .hdma .destination) j ≡ destinationBits (highByte (m .core .hdma .destination)) (bit v) j
+  destination-low : (j : ℕ)
+      → bit (writeRegister m 0x54 v .core .hdma .destination) j ≡ destinationBits (highByte (m .core .hdma .destination)) (bit v) j
   unfolding registerOf destinationLowPut destinationLow
   destination-low j =
       ap (λ (n : Memory). bit (n .core .hdma .destination) j) (cond-true (m .core .banks .colour) _ _ e)
       ∙ destination-bits (m .core .hdma .destination / 256) v j
-      ∙ ap (λ (x : ℕ). cond (ltb j 4) 0 (cond (ltb j 8) (bit v j) (cond (ltb j 13) x (cond (eqb j 15) 1 0)))) (bit-shifted (m .core .hdma .destination) 8 (j - 8))
+      ∙ ap (λ (x : ℕ). cond (ltb j 4) 0 (cond (ltb j 8) (bit v j) (cond (ltb j 13) x (cond (eqb j 15) 1 0))))
+      (bit-shifted (m .core .hdma .destination) 8 (j - 8))
 
 module _ (h : Hdma) (mode v : ℕ) where
   bit-off : bit v 7 ≡ 0 → isSet v 7 ≡ false

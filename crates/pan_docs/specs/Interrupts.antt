@@ -1,4 +1,5 @@
--- Pan Docs, "Interrupts": "FFFF enables, FF0F requests: bit 0 VBlank, 1 LCD, 2 Timer, 3 Serial, 4 Joypad. The lowest bit that is set in both is served first."
+-- Pan Docs, "Interrupts": "FFFF enables, FF0F requests: bit 0 VBlank, 1 LCD, 2 Timer, 3 Serial, 4 Joypad. The lowest bit that is set in both is
+-- served first."
 use mathlib.Core.List.{List, [], _∷_}
 use mathlib.Core.Path.{_≡_}
 use Prim.Native.Nat.{ℕ, _<_}

@@ -1,5 +1,6 @@
--- Pan Docs, "Joypad Input": "bit 5 at 0 selects the action buttons, bit 4 at 0 the directions; bits 3..0 read 0 where a selected key is down: 3 Down or Start,
--- 2 Up or Select, 1 Left or B, 0 Right or A." Departs with neither kind selected or both, in bits 7..6, and in when the interrupt is requested: nothing is stated there.
+-- Pan Docs, "Joypad Input": "bit 5 at 0 selects the action buttons, bit 4 at 0 the directions; bits 3..0 read 0 where a selected key is down:
+-- 3 Down or Start, 2 Up or Select, 1 Left or B, 0 Right or A." Departs with neither kind selected or both, in bits 7..6, and in when the interrupt
+-- is requested: nothing is stated there.
 use mathlib.Core.Bool.{cond}
 use mathlib.Core.List.{List, [], _∷_}
 use mathlib.Core.Path.{_≡_}
@@ -10,7 +11,8 @@ use Rattle.joypad.specs.Joypad.{pressCall, releaseCall, padRead}
 use Rattle.joypad.specs.declared.Controller.{Controller}
 use Rattle.pan_docs.specs.Bits.{bit}
 
--- the lines of the buttons in document 01's order, Up, Down, Left, Right, A, B, Start, Select; the state holds the directions' four lines and above them the actions'
+-- the lines of the buttons in document 01's order, Up, Down, Left, Right, A, B, Start, Select; the state holds the directions' four lines and above
+-- them the actions'
 abbrev pub lines : List ℕ
 lines = 2 ∷ 3 ∷ 1 ∷ 0 ∷ (4 + 0) ∷ (4 + 1) ∷ (4 + 3) ∷ (4 + 2) ∷ []
 

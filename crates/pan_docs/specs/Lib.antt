@@ -13,3 +13,4 @@ pub mod Palettes
 pub mod Timer
 pub mod Interrupts
 pub mod Joypad
+pub mod PanDocs

@@ -1,8 +1,8 @@
--- Pan Docs, "LCD Status Registers": of FF41 "bits 6..3 select the interrupt sources LYC, mode 2, mode 1, mode 0; bit 2 is LY = LYC, bits 1..0 the mode, both
--- read-only"; "FF45 LYC is compared with" LY. The comparison is the Rust's `compare_ly_to_lyc`; LY is the scan line that the host sets.
+-- Pan Docs, "LCD Status Registers": of FF41 "bits 6..3 select the interrupt sources LYC, mode 2, mode 1, mode 0; bit 2 is LY = LYC, bits 1..0 the
+-- mode, both read-only"; "FF45 LYC is compared with" LY. The comparison is the Rust's `compare_ly_to_lyc`; LY is the scan line that the host sets.
 use mathlib.Core.Bool.{Bool, true, false, cond, _&&_}
 use mathlib.Core.Path.{_≡_}
-use Prim.Native.Nat.{ℕ, _<_, _≤_}
+use Prim.Native.Nat.{ℕ, _+_, _<_, _≤_}
 use lib.Dec.{eqb}
 use Rattle.lcd.specs.Lcd.{with-compare, lyCompared, lycWritten, statusWritten}
 use Rattle.lcd.specs.declared.Screen.{Screen}
@@ -49,3 +49,6 @@ pub record LyIsLyc : Type 0 where
   pub status-written : (s : Screen) (v : ℕ) → StatusBits s (statusWritten s v) v
   pub status-equal : (s : Screen) (v : ℕ) → on s → bit (statusWritten s v .status) 2 ≡ cond (equal s) 1 0
   pub status-off : (s : Screen) (v : ℕ) → bit (s .control) 7 ≡ 0 → bit (statusWritten s v .status) 2 ≡ bit (s .status) 2
+  -- "the interrupt sources .. mode 2, mode 1, mode 0": bit 3 + n is mode n's; written while that mode stands and no signal does, it requests
+  pub mode-source : (s : Screen) (v : ℕ) → bit (s .control) 7 ≡ 1 → s .lcd .signal ≡ 0 → s .lcd .mode < 3 → bit v (3 + s .lcd .mode) ≡ 1
+      → bit (statusWritten s v .flags) 1 ≡ 1

@@ -52,7 +52,8 @@ regionIn Io = region.Page
 regionIn High = region.Page
 regionIn InterruptEnable = region.Page
 
--- the byte that is read in a row: a bank's size is a power of two, and the low bits of the address are the place in it
+-- the byte that is read in a row: a bank's size is a power of two, and the low bits of the address are the place in it. Departs with MBC1 in banking
+-- mode, of which Pan Docs have the upper bits at 0000-3FFF too: the first bank is bank 0 here
 abbrev pub byteIn : What → Fixed → World → ℕ → ℕ
 byteIn FirstBank x w i = getD (x .rom) (low 14 i) 0
 byteIn SwitchableBank x w i = getD (x .rom) (romBank (w .state .core .mapper) * 2 ^ 14 + low 14 i) 0

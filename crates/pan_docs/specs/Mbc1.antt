@@ -4,14 +4,14 @@ use mathlib.Core.List.{List, [], _∷_}
 use mathlib.Core.Path.{_≡_}
 use Prim.Native.Nat.{ℕ, _+_, _-_, _*_, _^_, _<_, _≤_}
 use lib.Dec.{eqb, ltb}
-use Rattle.mbc.specs.Mbc.{ramBanks, ramSource, answer, withRom, withRam, withMode, withEnabled, withHigh, after1}
+use Rattle.mbc.specs.Mbc.{kindMbc1, start, romBank, afterAll, ramBanks, ramSource, answer, withRom, withRam, withMode, withEnabled, withHigh, after1}
 use Rattle.mbc.specs.declared.cartridge.Cartridge.{Cartridge}
 use Rattle.mbc.specs.declared.mbc.Answer.the-variants.{NotStored}
 use Rattle.mbc.specs.declared.mbc.Mapper.the-variants.{Mbc1}
 use Rattle.mbc.specs.declared.mbc.Source.the-variants.{Save, Fixed}
 use Rattle.mbc.specs.declared.mbc1.Mbc1.{Mbc1 as Registers}
 use Rattle.pan_docs.specs.Bits.{bit, low}
-use Rattle.pan_docs.specs.Rows.{Row, row, Only}
+use Rattle.pan_docs.specs.Rows.{Row, row, Only, wroteAll}
 use Rattle.pan_docs.specs.Banks.{lowFourA, actsAsOne, Masked}
 
 pub data Register : Type 0 where
@@ -30,8 +30,8 @@ joined five two j = cond (ltb j 5) (five j) (two (j - 5))
 abbrev pub two : ℕ → ℕ → ℕ
 two v j = cond (ltb j 2) (bit v j) 0
 
--- 4000-5FFF, not in banking mode: the upper ROM bank bits. Departs: the five bits are those of the masked bank, and the zero rule sees them so; where they
--- are not all 0 they are the register's
+-- 4000-5FFF, not in banking mode: the upper ROM bank bits. Departs: the five bits are those of the masked bank, and the zero rule sees them so;
+-- where they are not all 0 they are the register's
 pub record Upper (c : Cartridge) (m t : Registers) (v : ℕ) : Type 0 where
   pub kept : t ≡ withHigh m (low 2 v) (t .rom)
   pub bank : (n : ℕ) → c .banks ≡ 2 ^ n → (low 5 (m .rom) ≡ 0 → ⊥) → Masked n (joined (bit (m .rom)) (two v)) (t .rom)
@@ -64,3 +64,33 @@ pub record Mbc1Rules : Type 0 where
   -- on, it is the bank that the mode makes of the two bits, and in it the address's low 13 bits
   pub ram : (c : Cartridge) (m : Registers) (index : ℕ) → 0xA000 ≤ index → index ≤ 0xBFFF → m .enabled ≡ true
       → ramSource c (Mbc1 m) index ≡ Save (cond (m .mode) (m .ram) 0 * 2 ^ 13 + low 13 index)
+
+-- Over any list of writes: Pan Docs' two registers, whole as they were written
+
+pub record Two : Type 0 where
+  pub five : ℕ
+  pub upper : ℕ
+
+abbrev pub twoOf : ℕ → ℕ → Two
+twoOf a b = record { five = a; upper = b }
+
+-- a write to a register
+abbrev pub wrote : Register → Two → ℕ → Two
+wrote RamEnable a v = a
+wrote RomBank a v = twoOf v (a .upper)
+wrote UpperBits a v = twoOf (a .five) v
+wrote Mode a v = a
+
+-- after some writes; all else starts at 0
+abbrev pub written : List (ℕ × ℕ) → Two
+written = wroteAll wrote rows (twoOf 0 0)
+
+-- A cartridge without RAM banks (so never in banking mode) of 32 ROM banks or more (so that the zero rule sees all five bits) shows Pan Docs' bank,
+-- whatever is written. With fewer banks or in banking mode it departs, as said above
+abbrev pub Mbc1Writes : Type 0
+Mbc1Writes =
+    (c : Cartridge) (n : ℕ) (ws : List (ℕ × ℕ))
+    → c .banks ≡ 2 ^ n
+    → 5 ≤ n
+    → (c .code ≡ 3 → ⊥)
+    → Masked n (joined (actsAsOne 5 (written ws .five)) (two (written ws .upper))) (romBank (afterAll c (start kindMbc1) ws))

@@ -1,6 +1,6 @@
 -- Pan Docs, "MBC2", against crate mbc's rules: "0000-3FFF: address bit 8 at 0: RAM enable as above; at 1: four bits of the ROM bank, 0 acts as 1."
--- Departs, as document 01 follows the Rust: bit 8 at 0 enables in 0000-1FFF only, at 1 selects in 2000-3FFF only. "A000-A1FF: 512 half bytes; they repeat up to
--- BFFF". Departs: A200-BFFF reads 0.
+-- Departs, as document 01 follows the Rust: bit 8 at 0 enables in 0000-1FFF only, at 1 selects in 2000-3FFF only. "A000-A1FF: 512 half bytes; they
+-- repeat up to BFFF". Departs: A200-BFFF reads 0.
 use mathlib.Core.Bool.{true, false, cond}
 use mathlib.Core.Path.{_≡_}
 use Prim.Native.Nat.{ℕ, _^_, _≤_}

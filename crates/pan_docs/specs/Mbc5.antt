@@ -4,13 +4,14 @@ use mathlib.Core.List.{List, [], _∷_}
 use mathlib.Core.Path.{_≡_}
 use Prim.Native.Nat.{ℕ, _+_, _*_, _^_, _<_, _≤_}
 use lib.Dec.{eqb, ltb}
-use Rattle.mbc.specs.Mbc.{ramBanks, ramSource, withRom5, withRam5, withEnabled5, after5}
+use Rattle.mbc.specs.Mbc.{Apart, apartOf, kindMbc5, described, start, romBank}
+use Rattle.mbc.specs.Mbc.{afterAll, ramBanks, ramSource, withRom5, withRam5, withEnabled5, after5}
 use Rattle.mbc.specs.declared.cartridge.Cartridge.{Cartridge}
 use Rattle.mbc.specs.declared.mbc.Mapper.the-variants.{Mbc5}
 use Rattle.mbc.specs.declared.mbc.Source.the-variants.{Save}
 use Rattle.mbc.specs.declared.mbc5.Mbc5.{Mbc5 as Registers}
 use Rattle.pan_docs.specs.Bits.{bit, low}
-use Rattle.pan_docs.specs.Rows.{Row, row, Only}
+use Rattle.pan_docs.specs.Rows.{Row, row, Only, wroteAll}
 use Rattle.pan_docs.specs.Banks.{lowFourA, Masked}
 
 pub data Register : Type 0 where
@@ -48,3 +49,21 @@ pub record Mbc5Rules : Type 0 where
   -- A000-BFFF, enabled: the bank that is selected, and in it the address's low 13 bits
   pub ram : (c : Cartridge) (m : Registers) (index : ℕ) → 0xA000 ≤ index → index ≤ 0xBFFF → m .enabled ≡ true
       → ramSource c (Mbc5 m) index ≡ Save (m .ram * 2 ^ 13 + low 13 index)
+
+-- Over any list of writes: Pan Docs' two registers, whole as they were written, "bank 0 is bank 0"; they start at bank 1 (document 01)
+abbrev pub wrote : Register → Apart → ℕ → Apart
+wrote RamEnable a v = a
+wrote LowEight a v = apartOf v (a .ninth)
+wrote Ninth a v = apartOf (a .eight) v
+wrote RamBank a v = a
+
+abbrev pub written : List (ℕ × ℕ) → Apart
+written = wroteAll wrote rows (apartOf 1 0)
+
+-- whatever is written, their bank is shown, its bits beyond the cartridge's size masked
+abbrev pub Mbc5Writes : Type 0
+Mbc5Writes =
+    (c : Cartridge) (n : ℕ) (ws : List (ℕ × ℕ))
+    → described c (start kindMbc5) ≡ true
+    → c .banks ≡ 2 ^ n
+    → Masked n (nine (bit (written ws .eight)) (bit (written ws .ninth) 0)) (romBank (afterAll c (start kindMbc5) ws))

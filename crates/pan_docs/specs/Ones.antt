@@ -20,8 +20,9 @@ ones at bits = record { at = at; bits = bits }
 abbrev pub allEight : List ℕ
 allEight = 7 ∷ 6 ∷ 5 ∷ 4 ∷ 3 ∷ 2 ∷ 1 ∷ 0 ∷ []
 
--- Pan Docs, "Interrupts": "FF0F's upper three bits read 1"; "LCD Status Registers", of FF41: "bit 7 reads 1"; "CGB Registers", of FF4F: "bits 7..1 read 1",
--- by document 01 on a monochrome machine too. Document 01 alone ("Reads with bits forced"): "FF07 F8"; "FF03, FF0E, FF4C give FF"
+-- Pan Docs, "Interrupts": "FF0F's upper three bits read 1"; "LCD Status Registers", of FF41: "bit 7 reads 1"; "CGB Registers", of FF4F:
+-- "bits 7..1 read 1", by document 01 on a monochrome machine too. Document 01 alone ("Reads with bits forced"): "FF07 F8";
+-- "FF03, FF0E, FF4C give FF"
 abbrev pub alwaysOnes : List Ones
 alwaysOnes =
     ones 0x0F (7 ∷ 6 ∷ 5 ∷ [])
@@ -43,7 +44,7 @@ colourOnes =
     ∷ ones 0x70 (6 ∷ [])
     ∷ []
 
--- "Monochrome: C0, FF, FF, FF in that order": FF69, FF6B, FF70, FF76, FF77
+-- "Monochrome: C0, FF, FF, FF in that order": FF69, FF6B, FF70, FF76, FF77 (FF68 and FF6A give C0, whatever is stored)
 abbrev pub monochromeOnes : List Ones
 monochromeOnes =
     ones 0x69 allEight ∷ ones 0x6B allEight ∷ ones 0x70 allEight ∷ ones 0x76 allEight ∷ ones 0x77 allEight ∷ []

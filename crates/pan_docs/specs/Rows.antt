@@ -26,3 +26,13 @@ pub record Only {A : Type 0} (rows : List (Row A)) (index : ℕ) (P : A → Type
   pub of : Row A
   pub alone : rowsAt rows index ≡ of ∷ []
   pub holds : P (of .what)
+
+-- A write to the registers in whose rows an index lies, each of which does f; and some writes, each an index and a value
+
+abbrev pub wroteIn : {A S : Type 0} → (A → S → ℕ → S) → List (Row A) → S → ℕ → S
+wroteIn f [] s v = s
+wroteIn f (r ∷ rs) s v = wroteIn f rs (f (r .what) s v) v
+
+abbrev pub wroteAll : {A S : Type 0} → (A → S → ℕ → S) → List (Row A) → S → List (ℕ × ℕ) → S
+wroteAll f rows s [] = s
+wroteAll f rows s (w ∷ ws) = wroteAll f rows (wroteIn f (rowsAt rows (w .0)) s (w .1)) ws
