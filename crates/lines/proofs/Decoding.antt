@@ -59,7 +59,8 @@ module _ (s : List ℕ) (from n : ℕ) (out₀ out : List ℕ) (i : ℕ) (room :
       ∙ (ap (λ (l : List ℕ). take i out ++ l) (ap (λ (m : ℕ). bytesIn m (drop (from + i * 2) s)) k ∙ next-pair s (from + i * 2) (n - (i + 1)) Wrong e)
       ∙ append-nil (take i out))
 
-pub decoding-ends : (s : List ℕ) (from n : ℕ) (out₀ out : List ℕ) (i : ℕ) → Decoding s from n out₀ out i → n ≤ i → bytesIn n (drop from s) ≡ take i out
+pub decoding-ends : (s : List ℕ) (from n : ℕ) (out₀ out : List ℕ) (i : ℕ) → Decoding s from n out₀ out i → n ≤ i
+    → bytesIn n (drop from s) ≡ take i out
 unfolding bytesIn
 decoding-ends s from n out₀ out i inv h =
     let k : n - i ≡ 0 = omega arith in

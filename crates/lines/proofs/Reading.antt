@@ -7,8 +7,8 @@ use native.Mathlib.Numerals.{add-one}
 use native.Mathlib.Omega.{arith}
 use borrow.Author.Tests.{eqb-true}
 use lib.Dec.{eqb}
-use lib.ListN.{length, take, drop, getD, set, length-take, length-drop}
-use lib.Seq.{take-add, drop-at, length-take-le, take-suc-set, take-suc, drop-set-lt, drop-drop, getD-drop, take-take, take-append-le}
+use lib.ListN.{length, take, drop, getD, set, length-drop}
+use lib.Seq.{take-add, drop-at, length-take-le, take-suc-set, take-suc, drop-set-lt, drop-drop, getD-drop}
 use Rattle.rules.proofs.Tests.{untrue}
 use Rattle.bytes.specs.Bytes.{indexOf, indexAfter, slice}
 use Rattle.lines.specs.Reader.{begun, linesOf, fed, part}
@@ -57,10 +57,6 @@ clear [] h = refl
 clear (c ∷ s) h = clear-by c s (clear s) (eqb c 10) refl h
 
 -- The lines
-
-first-by : (b : Bool) → cond b true false ≡ false → b ≡ false
-first-by true e = untrue (sym e)
-first-by false e = refl
 
 clear-first : (c : ℕ) (s : List ℕ) → fed (c ∷ s) ≡ false → (eqb c 10 ≡ false) × (fed s ≡ false)
 unfolding fed

@@ -1,13 +1,12 @@
 -- A step of the reader: of the places that it goes by, each kind of step is what specs/Reader.antt says.
 use mathlib.Core.Bool.{Bool, true, false}
 use mathlib.Core.List.{List, [], _∷_, _++_}
-use mathlib.Core.Logic.{inl}
 use mathlib.Core.Path.{_≡_, refl, sym, ap, _∙_}
 use Prim.Native.Nat.{ℕ, suc, _+_, _-_, _≤_, _<_}
 use native.Mathlib.Omega.{arith}
 use lib.Dec.{ltb}
 use lib.ListN.{length, take, drop, length-drop}
-use lib.Seq.{take-add, take-take, take-all, drop-drop, length-take-le}
+use lib.Seq.{take-add, take-take, drop-drop, length-take-le}
 use Rattle.bytes.specs.Bytes.{indexOf, slice}
 use Rattle.lines.specs.Reader.{fed, part, standing, Ended, Last, Came, Dropped, Over}
 use Rattle.lines.specs.declared.reader.Found.{Found}

@@ -1,5 +1,5 @@
--- The lines of an input, and what a reader gives of them: "lines ended by a line feed or, unless empty, by the input's end" (document 01, "Corners that
--- decide", the last paragraph). A line feed is 10.
+-- The lines of an input, and what a reader gives of them: "lines ended by a line feed or, unless empty, by the input's end" (document 01,
+-- "Corners that decide", the last paragraph). A line feed is 10.
 use mathlib.Core.Bool.{Bool, true, false, cond}
 use mathlib.Core.List.{List, [], _∷_, _++_}
 use mathlib.Core.Logic.{_⊎_}

@@ -33,8 +33,8 @@ byteOf high low = cond (ltb high 16 && ltb low 16) (Byte (high * 16 + low)) Wron
 abbrev pub Holds : ℕ → List ℕ → Type 0
 Holds n bytes = (n ≤ 64) × (n ≤ length bytes)
 
--- A line: "a letter, a space, the input, a space, our answer". "Input and answer are bytes of two hexadecimal digits each .. no bytes are `-`." A space is
--- 32, - is 45
+-- A line: "A letter, the input's bytes, the output's bytes, as uppercase hex digits (`-` for no bytes)". Between them stands a space, which is 32;
+-- - is 45
 
 -- a byte, and those that come after it; no byte ends them
 abbrev pub andThen : Pair → List ℕ → List ℕ

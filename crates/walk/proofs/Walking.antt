@@ -105,7 +105,8 @@ module _ (x : Fixed) (w : World) (t : List ℕ) (long : Bool) where
       record {
         input = new;
         closed = λ c. untrue (sym c);
-        same = λ future come. ap (λ (l : List ℕ). after t (onward x w long l)) (sym (append-assoc rest new future) ∙ ap (λ (l : List ℕ). l ++ future) (sym e));
+        same = λ future come.
+            ap (λ (l : List ℕ). after t (onward x w long l)) (sym (append-assoc rest new future) ∙ ap (λ (l : List ℕ). l ++ future) (sym e));
       }
 
   -- the buffer is dropped
@@ -177,7 +178,8 @@ goes-on x u v p q r a b =
     }
 
 -- at the input's end, from the beginning
-pub walked-whole : (x : Fixed) (w : World) (printed : List ℕ) (q : Place) → Goes x printed (place w [] false [] true) q → Over q → Whole x w (q .world)
+pub walked-whole : (x : Fixed) (w : World) (printed : List ℕ) (q : Place) → Goes x printed (place w [] false [] true) q → Over q
+    → Whole x w (q .world)
 unfolding walkLines linesOf
 walked-whole x w printed q g o =
     record {
@@ -253,7 +255,7 @@ step-lost x w t long lost rest more =
 
 -- A turn of the loop: what waits is printed or not, and a step is made
 
-pub ran-on : (x : Fixed) (p : Place) (w : World) (t u v : List ℕ) (long : Bool) (rest : List ℕ) (m : Bool) (lost more gone : Bool) (q : Place) (a b : Bool)
+pub ran-on : (x : Fixed) (p : Place) (w : World) (t u v : List ℕ) (long : Bool) (rest : List ℕ) (m lost more gone : Bool) (q : Place) (a b : Bool)
     → t ≡ u ++ v → Ran x p a b (place w t long rest m) → Stepped x lost (place w v long rest m) more gone q → Ran x p more gone q
 ran-on x p w t u v long rest m lost more gone q a b e r s =
     let g = goes-on x u [] (place w t long rest m) (place w v long rest m) q (goes-printed x w t long u v rest m e) (s .goes) in

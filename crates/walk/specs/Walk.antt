@@ -1,4 +1,5 @@
--- The bus walk over a whole input: its lines one after the other, each on what the last one left (document 01, "Corners that decide", the last paragraph).
+-- The bus walk over a whole input: its lines one after the other, each on what the last one left (document 01, "Corners that decide", the
+-- last paragraph).
 use mathlib.Core.Bool.{Bool, true, false, cond}
 use mathlib.Core.List.{List, [], _∷_, _++_}
 use mathlib.Core.Path.{_≡_}
@@ -44,7 +45,8 @@ longFirst x w (s ∷ rest) = after strangeText (walkLines x w rest)
 abbrev pub onward : Fixed → World → Bool → List ℕ → Walked
 onward x w long s = cond long (longFirst x w (linesOf s)) (walkLines x w (linesOf s))
 
--- where the walk stands: the bus with its memories, the answers that wait to be printed, what is read and not yet answered; `more`: there may be more to read
+-- where the walk stands: the bus with its memories, the answers that wait to be printed, what is read and not yet answered;
+-- `more`: there may be more to read
 pub record Place : Type 0 where
   pub world : World
   pub waiting : List ℕ
@@ -63,7 +65,8 @@ ahead x p future = after (p .waiting) (onward x (p .world) (p .long) (p .rest ++
 abbrev pub Coming : Place → List ℕ → Type 0
 Coming p future = p .more ≡ false → future ≡ []
 
--- From a place to another: `input` is what the system gave on the way, `printed` what was printed. Whatever comes then, the walk prints and leaves the same
+-- From a place to another: `input` is what the system gave on the way, `printed` what was printed. Whatever comes then, the walk prints
+-- and leaves the same
 pub record Goes (x : Fixed) (printed : List ℕ) (p q : Place) : Type 0 where
   pub input : List ℕ
   pub closed : p .more ≡ false → (input ≡ []) × (q .more ≡ false)

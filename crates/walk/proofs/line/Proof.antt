@@ -12,13 +12,25 @@ same-length : tie.Need-same-length
 same-length c = search needs
 
 returns : tie.Need-returns
-returns c = let s = c .before .before .strange .ensures in let a = c .before .before .before .before .before .before .before .before .before .before .before .before .before .args in rw (c .before .before .before .before .if1 .taken) (walked-same (a .vram .now) (a .wram .now) (a .save .now) (a .log .now) (s .0) (s .1 .0), s .1 .1)
+returns c =
+    let s = c .before .before .strange .ensures in
+    let a = c .before .before .before .before .before .before .before .before .before .before .before .before .before .args in
+    rw (c .before .before .before .before .if1 .taken) (
+      walked-same (a .vram .now) (a .wram .now) (a .save .now) (a .log .now) (s .0) (s .1 .0),
+      s
+          .1 .1,
+    )
 
 line-requires : tie.Need-line-requires
 line-requires c κs = search needs
 
 put-requires : tie.Need-put-requires
-put-requires c κs = (c .before .before .before .before .before .before .before .before .before .before .before .before .before .before .before .before .before .before .before .before .before .before .before .before .before .before .pre, c .before .before .before .before .before .before .before .before .before .before .before .line .ensures .1)
+put-requires c κs = (
+  c .before .before .before .before .before .before .before .before .before .before .before .before .before .before .before .before .before
+      .before .before .before .before .before .before .before .before .before .pre,
+  c .before .before .before .before .before .before .before .before
+      .before .before .before .line .ensures .1,
+)
 
 same-length-2 : tie.Need-same-length-2
 same-length-2 c = search needs
@@ -36,7 +48,16 @@ same-length-6 : tie.Need-same-length-6
 same-length-6 c = search needs
 
 returns-2 : tie.Need-returns-2
-returns-2 c = let p = c .before .before .put .ensures in let a = c .before .before .before .before .before .before .before .before .before .before .before .before .before .before .before .before .before .before .before .before .before .before .before .before .before .before .before .before .before .args in rw (c .before .before .before .before .before .before .before .before .before .before .before .before .before .before .before .before .before .before .before .before .if1 .left) (line-said (take (a .kept .used) (a .out .now)) (c .before .before .before .before .before .before .before .before .before .before .before .before .before .before .line .ensures .0) (p .0), p .1)
+returns-2 c =
+    let p = c .before .before .put .ensures in
+    let a = c .before .before .before .before .before .before .before .before .before .before .before .before .before .before .before .before
+    .before .before .before .before .before .before .before .before .before .before .before .before .before .args in
+    rw (c .before .before .before .before .before .before .before .before .before .before .before .before .before .before .before .before .before
+    .before .before .before .if1 .left) (
+      line-said (take (a .kept .used) (a .out .now)) (c .before .before .before .before .before .before .before
+          .before .before .before .before .before .before .before .line .ensures .0) (p .0),
+      p .1,
+    )
 
 pub line-spec : {M : Type 1} → statement M
 line-spec =

@@ -61,7 +61,20 @@ slice-aggregate-walk-6 : tie.Need-slice-aggregate-walk-6
 slice-aggregate-walk-6 c = search needs
 
 walk-requires : tie.Need-walk-requires
-walk-requires c κs = let e = c .before .before .before .before .before .before .before .before .begin .ensures in (worlds-same _ _ (e .0) (e .1 .0) (e .1 .1), (refl, λ n h. c .before .before .before .before .before .before .before .before .before .before .before .before .before .before .before .before .fill-rom .ensures n (omega (arith, h, slice-aggregate-walk (c .before .before .before .before .before)))))
+walk-requires c κs =
+    let e = c .before .before .before .before .before .before .before .before .begin .ensures in (
+      worlds-same _ _ (e .0) (e .1 .0) (e .1 .1),
+      (
+        refl,
+        λ n h. c .before .before .before .before .before .before .before .before .before .before
+            .before .before .before .before .before .before .fill-rom .ensures n (omega (
+              arith,
+              h,
+              slice-aggregate-walk (c .before .before .before .before
+                  .before),
+            )),
+      ),
+    )
 
 returns-2 : tie.Need-returns-2
 returns-2 c = search needs

@@ -26,22 +26,75 @@ abbrev μ-loop : tie.MeasureT-loop
     turns
 
 loop-holds : tie.Need-loop-holds Inv-loop μ-loop
-loop-holds c = let a = c .before .before .before .before .before .before .before .before .args in let p = c .before .before .before .before .before .before .before .before .pre in ((p .0, p .1 .0), ((refl, refl), ((refl, (refl, (refl, refl))), ran-none (fixed (a .rom .now) (a .sound .now)) (world (a .from .kept .memory) (a .vram .now) (a .wram .now) (a .save .now) (a .log .now)) (take (a .from .kept .used) (a .out .now)) (a .from .long) (pending (a .buf .now) (a .from .reader)) (a .from .reader .more) (a .from .more) (a .from .lost) (p .1 .1))))
+loop-holds c =
+    let a = c .before .before .before .before .before .before .before .before .args in
+    let p = c .before .before .before .before .before .before .before .before .pre in (
+      (p .0, p .1 .0),
+      (
+        (refl, refl),
+        (
+          (refl, (refl, (refl, refl))),
+          ran-none (fixed (a .rom .now) (a .sound .now)) (world (a .from .kept .memory) (a
+              .vram .now) (a .wram .now) (a .save .now) (a .log .now)) (take (a .from .kept .used) (a .out .now)) (a .from .long) (pending (a .buf .now) (a
+              .from .reader)) (a .from .reader .more) (a .from .more) (a .from .lost) (p .1 .1),
+        ),
+      ),
+    )
 
 shown-requires : tie.Need-shown-requires Inv-loop μ-loop
 shown-requires c κs = let i = c .before .before .before .before .before .loop .inv in (i .0 .0 .1, i .0 .1 .1)
 
 step-requires : tie.Need-step-requires Inv-loop μ-loop
-step-requires c κs = let i = c .before .before .before .before .before .before .before .before .before .before .before .before .loop .inv in (i .0 .0 .0, (c .before .before .before .before .before .before .shown .ensures .0, i .0 .1 .0))
+step-requires c κs =
+    let i = c .before .before .before .before .before .before .before .before .before .before .before .before .loop .inv in
+    (i .0 .0 .0, (c .before .before .before .before .before .before .shown .ensures .0, i .0 .1 .0))
 
 sub-turns : tie.Need-sub-turns Inv-loop μ-loop
-sub-turns c = omega (arith, c .before .before .before .before .before .before .before .before .before .before .before .before .before .before .before .before .before .before .before .before .before .before .before .before .loop-test .taken)
+sub-turns c =
+    omega (
+      arith,
+      c .before .before .before .before .before .before .before .before .before .before .before .before .before .before .before .before
+          .before .before .before .before .before .before .before .before .loop-test .taken,
+    )
 
 loop-less : tie.Need-loop-less Inv-loop μ-loop
-loop-less c = omega (arith, c .before .before .before .before .before .before .before .before .before .before .before .before .before .before .before .before .before .before .before .before .before .before .before .before .loop-test .taken)
+loop-less c =
+    omega (
+      arith,
+      c .before .before .before .before .before .before .before .before .before .before .before .before .before .before .before .before
+          .before .before .before .before .before .before .before .before .loop-test .taken,
+    )
 
 loop-again : tie.Need-loop-again Inv-loop μ-loop
-loop-again c = let s = c .before .before .before .before .before .before .before .before .before .before .before .before .step in let k = c .before .before .before .before .before .before .before .before .before .before .before .before .step .kept in let l = c .before .before .before .before .before .before .before .before .before .before .before .before .before .before .before .before .before .before .before .before .before .before .before .before .before .loop in let i = c .before .before .before .before .before .before .before .before .before .before .before .before .before .before .before .before .before .before .before .before .before .before .before .before .before .loop .inv in ((s .ensures .0, (omega (arith, k, i), omega (arith, k, i))), ((omega (arith, k, i), omega (arith, k, i)), ((omega (arith, k, i), (omega (arith, k, i), (omega (arith, k, i), omega (arith, k, i)))), ran-next _ _ _ (l .out) (l .state .kept .used) (c .before .before .before .before .before .before .before .before .before .before .before .before .before .before .before .before .before .before .before .shown .result .used) _ _ _ _ _ _ _ _ _ (c .before .before .before .before .before .before .before .before .before .before .before .before .before .before .before .before .before .before .before .shown .ensures .1) (i .1 .1 .1) (s .ensures .1))))
+loop-again c =
+    let s = c .before .before .before .before .before .before .before .before .before .before .before .before .step in
+    let k = c .before .before .before .before .before .before .before .before .before .before .before .before .step .kept in
+    let l = c .before .before .before .before .before .before .before .before .before .before .before .before .before .before .before .before
+    .before .before .before .before .before .before .before .before .before .loop in
+    let i = c .before .before .before .before .before .before .before .before .before .before .before .before .before .before .before .before
+    .before .before .before .before .before .before .before .before .before .loop .inv in (
+      (s .ensures .0, (omega (arith, k, i), omega (arith, k, i))),
+      (
+        (omega (arith, k, i), omega (arith, k, i)),
+        (
+          (
+            omega (arith, k, i),
+            (
+              omega (
+                arith,
+                k,
+                i,
+              ),
+              (omega (arith, k, i), omega (arith, k, i)),
+            ),
+          ),
+          ran-next _ _ _ (l .out) (l .state .kept .used) (c .before .before .before .before .before
+              .before .before .before .before .before .before .before .before .before .before .before .before .before .before .shown .result .used) _ _ _ _ _
+              _ _ _ _ (c .before .before .before .before .before .before .before .before .before .before .before .before .before .before .before .before
+              .before .before .before .shown .ensures .1) (i .1 .1 .1) (s .ensures .1),
+        ),
+      ),
+    )
 
 same-length : tie.Need-same-length Inv-loop μ-loop
 same-length c = search needs

@@ -11,7 +11,22 @@ use Rattle.walk.proofs.step.Statement.{statement}
 use Rattle.walk.proofs.step.Tie as tie
 
 returns : tie.Need-returns
-returns c = let a = c .before .before .before .before .before .before .before .before .before .before .before .before .args in let x = fixed (a .rom .now) (a .sound .now) in let w = world (a .state .kept .memory) (a .vram .now) (a .wram .now) (a .save .now) (a .log .now) in let t = take (a .waiting .used) (a .out .now) in ((c .before .before .before .before .before .before .before .before .before .before .before .before .pre .0, omega (arith, c .before .before .before .before .before .before .before .before .before .before .before .before .pre .1 .0)), step-lost x w t (a .state .long) (a .waiting .lost) (pending (a .buf .now) (a .state .reader)) (a .state .reader .more))
+returns c =
+    let a = c .before .before .before .before .before .before .before .before .before .before .before .before .args in
+    let x = fixed (a .rom .now) (a .sound .now) in
+    let w = world (a .state .kept .memory) (a .vram .now) (a .wram .now) (a .save .now) (a .log .now) in
+    let t = take (a .waiting .used) (a .out .now) in (
+      (
+        c .before .before .before .before .before .before .before .before .before .before .before .before .pre .0,
+        omega (
+          arith,
+          c .before .before
+              .before .before .before .before .before .before .before .before .before .before .pre .1 .0,
+        ),
+      ),
+      step-lost x w t (a .state .long) (a .waiting
+          .lost) (pending (a .buf .now) (a .state .reader)) (a .state .reader .more),
+    )
 
 next-requires : tie.Need-next-requires
 next-requires c κs = search needs
@@ -62,19 +77,76 @@ same-length-6 : tie.Need-same-length-6
 same-length-6 c = search needs
 
 returns-2 : tie.Need-returns-2
-returns-2 c = let a = c .before .before .before .before .before .before .before .before .before .before .before .before .before .before .before .before .before .before .before .before .before .before .before .before .before .before .before .before .before .before .before .before .before .before .before .before .before .args in let x = fixed (a .rom .now) (a .sound .now) in let w = world (a .state .kept .memory) (a .vram .now) (a .wram .now) (a .save .now) (a .log .now) in let t = take (a .waiting .used) (a .out .now) in let n = c .before .before .before .before .before .before .before .before .before .before .before .before .before .before .before .before .before .before .before .before .before .before .before .next in let l = c .before .before .before .before .before .before .before .before .before .before .line in ((n .ensures .0 .1 .1, l .ensures .1), step-line (pending (a .buf .now) (a .state .reader)) (a .state .reader .more) (n .last .0) (n .result) (n .ensures .1) x w t (a .state .long) (a .waiting .lost) (c .before .before .before .before .before .before .before .before .before .before .before .before .before .before .before .before .before .before .before .before .before .before .before .before .before .if1 .left) _ _ (l .ensures .0) (c .before .before .before .before .before .before .before .before .before .before .before .before .before .before .before .before .before .before .enum-told .given .1))
+returns-2 c =
+    let a = c .before .before .before .before .before .before .before .before .before .before .before .before .before .before .before .before
+    .before .before .before .before .before .before .before .before .before .before .before .before .before .before .before .before .before .before
+    .before .before .before .args in
+    let x = fixed (a .rom .now) (a .sound .now) in
+    let w = world (a .state .kept .memory) (a .vram .now) (a .wram .now) (a .save .now) (a .log .now) in
+    let t = take (a .waiting .used) (a .out .now) in
+    let n = c .before .before .before .before .before .before .before .before .before .before .before .before .before .before .before .before
+    .before .before .before .before .before .before .before .next in
+    let l = c .before .before .before .before .before .before .before .before .before .before .line in (
+      (n .ensures .0 .1 .1, l .ensures .1),
+      step-line (pending (a .buf .now) (a .state .reader)) (a .state .reader .more) (n .last .0) (n .result) (n
+          .ensures .1) x w t (a .state .long) (a .waiting .lost) (c .before .before .before .before .before .before .before .before .before .before
+          .before .before .before .before .before .before .before .before .before .before .before .before .before .before .before .if1 .left) _ _ (l
+          .ensures .0) (c .before .before .before .before .before .before .before .before .before .before .before .before .before .before .before .before
+          .before .before .enum-told .given .1),
+    )
 
 same-length-7 : tie.Need-same-length-7
 same-length-7 c = search needs
 
 returns-3 : tie.Need-returns-3
-returns-3 c = let a = c .before .before .before .before .before .before .before .before .before .before .before .before .before .before .before .before .before .before .before .args in let x = fixed (a .rom .now) (a .sound .now) in let w = world (a .state .kept .memory) (a .vram .now) (a .wram .now) (a .save .now) (a .log .now) in let t = take (a .waiting .used) (a .out .now) in let n = c .before .before .before .before .before .next in ((n .ensures .0 .1 .1, omega (arith, c .before .before .before .before .before .before .before .before .before .before .before .before .before .before .before .before .before .before .before .pre .1 .0)), step-long (pending (a .buf .now) (a .state .reader)) (a .state .reader .more) (n .last .0) (n .result) (n .ensures .1) x w t (a .state .long) (a .waiting .lost) (c .before .before .before .before .before .before .before .if1 .left) (c .enum-told2 .given .1) (omega (arith, c .before .before .before .before .before .before .before .before .before .before .before .before .before .before .before .before .before .before .before .pre .1 .1, same-length-7 c)))
+returns-3 c =
+    let a = c .before .before .before .before .before .before .before .before .before .before .before .before .before .before .before .before
+    .before .before .before .args in
+    let x = fixed (a .rom .now) (a .sound .now) in
+    let w = world (a .state .kept .memory) (a .vram .now) (a .wram .now) (a .save .now) (a .log .now) in
+    let t = take (a .waiting .used) (a .out .now) in
+    let n = c .before .before .before .before .before .next in (
+      (
+        n .ensures .0 .1 .1,
+        omega (
+          arith,
+          c .before .before .before .before .before .before .before .before .before .before .before .before .before
+              .before .before .before .before .before .before .pre .1 .0,
+        ),
+      ),
+      step-long (pending (a .buf .now) (a .state .reader)) (a .state .reader .more) (n
+          .last .0) (n .result) (n .ensures .1) x w t (a .state .long) (a .waiting .lost) (c .before .before .before .before .before .before .before .if1
+          .left) (c .enum-told2 .given .1) (omega (
+            arith,
+            c .before .before .before .before .before .before .before .before .before .before .before
+                .before .before .before .before .before .before .before .before .pre .1 .1,
+            same-length-7 c,
+          )),
+    )
 
 same-length-8 : tie.Need-same-length-8
 same-length-8 c = search needs
 
 returns-4 : tie.Need-returns-4
-returns-4 c = let a = c .before .before .before .before .before .before .before .before .before .before .before .before .before .before .before .before .before .before .before .args in let x = fixed (a .rom .now) (a .sound .now) in let w = world (a .state .kept .memory) (a .vram .now) (a .wram .now) (a .save .now) (a .log .now) in let t = take (a .waiting .used) (a .out .now) in let n = c .before .before .before .before .before .next in ((n .ensures .0 .1 .1, omega (arith, c .before .before .before .before .before .before .before .before .before .before .before .before .before .before .before .before .before .before .before .pre .1 .0)), step-read (pending (a .buf .now) (a .state .reader)) (a .state .reader .more) (n .last .0) (n .result) (n .ensures .1) x w t (a .state .long) (a .waiting .lost) (c .before .before .before .before .before .before .before .if1 .left) (c .enum-told3 .given .1))
+returns-4 c =
+    let a = c .before .before .before .before .before .before .before .before .before .before .before .before .before .before .before .before
+    .before .before .before .args in
+    let x = fixed (a .rom .now) (a .sound .now) in
+    let w = world (a .state .kept .memory) (a .vram .now) (a .wram .now) (a .save .now) (a .log .now) in
+    let t = take (a .waiting .used) (a .out .now) in
+    let n = c .before .before .before .before .before .next in (
+      (
+        n .ensures .0 .1 .1,
+        omega (
+          arith,
+          c .before .before .before .before .before .before .before .before .before .before .before .before .before
+              .before .before .before .before .before .before .pre .1 .0,
+        ),
+      ),
+      step-read (pending (a .buf .now) (a .state .reader)) (a .state .reader .more) (n
+          .last .0) (n .result) (n .ensures .1) x w t (a .state .long) (a .waiting .lost) (c .before .before .before .before .before .before .before .if1
+          .left) (c .enum-told3 .given .1),
+    )
 
 same-length-9 : tie.Need-same-length-9
 same-length-9 c = search needs
@@ -83,7 +155,20 @@ same-length-10 : tie.Need-same-length-10
 same-length-10 c = search needs
 
 returns-5 : tie.Need-returns-5
-returns-5 c = let a = c .before .before .before .before .before .before .before .before .before .before .before .before .before .before .before .before .before .before .before .before .before .before .before .args in let x = fixed (a .rom .now) (a .sound .now) in let w = world (a .state .kept .memory) (a .vram .now) (a .wram .now) (a .save .now) (a .log .now) in let t = take (a .waiting .used) (a .out .now) in let n = c .before .before .before .before .before .before .before .before .before .next in let l = c .before .before .end in ((n .ensures .0 .1 .1, l .ensures .1 .1), step-end (pending (a .buf .now) (a .state .reader)) (a .state .reader .more) (n .last .0) (n .result) (n .ensures .1) x w t (a .state .long) (a .waiting .lost) (c .before .before .before .before .before .before .before .before .before .before .before .if1 .left) _ _ (ap (λ (m : Memory). world m (a .vram .now) (a .wram .now) (a .save .now) (a .log .now)) (l .ensures .1 .0)) (l .ensures .0) (c .before .before .before .before .enum-told4 .given .1))
+returns-5 c =
+    let a = c .before .before .before .before .before .before .before .before .before .before .before .before .before .before .before .before
+    .before .before .before .before .before .before .before .args in
+    let x = fixed (a .rom .now) (a .sound .now) in
+    let w = world (a .state .kept .memory) (a .vram .now) (a .wram .now) (a .save .now) (a .log .now) in
+    let t = take (a .waiting .used) (a .out .now) in
+    let n = c .before .before .before .before .before .before .before .before .before .next in
+    let l = c .before .before .end in (
+      (n .ensures .0 .1 .1, l .ensures .1 .1),
+      step-end (pending (a .buf .now) (a .state .reader)) (a .state .reader .more) (n .last .0) (n .result)
+          (n .ensures .1) x w t (a .state .long) (a .waiting .lost) (c .before .before .before .before .before .before .before .before .before .before
+          .before .if1 .left) _ _ (ap (λ (m : Memory). world m (a .vram .now) (a .wram .now) (a .save .now) (a .log .now)) (l .ensures .1 .0)) (l .ensures
+          .0) (c .before .before .before .before .enum-told4 .given .1),
+    )
 
 pub step-spec : {M : Type 1} → statement M
 step-spec =

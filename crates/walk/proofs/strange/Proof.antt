@@ -17,7 +17,12 @@ same-length : tie.Need-same-length
 same-length c = search needs
 
 returns : tie.Need-returns
-returns c = let a = c .before .before .before .before .before .before .before .args in (c .before .before .put .ensures .0 ∙ ap (λ (l : List ℕ). take (a .kept .used) (a .out .now) ++ l) (c .before .before .before .before .strange .ensures .0), (refl, c .before .before .put .ensures .1))
+returns c =
+    let a = c .before .before .before .before .before .before .before .args in (
+      c .before .before .put .ensures .0 ∙ ap (λ (l : List ℕ). take (a .kept .used) (a .out .now) ++ l) (c .before .before .before .before .strange
+          .ensures .0),
+      (refl, c .before .before .put .ensures .1),
+    )
 
 pub strange-spec : {M : Type 1} → statement M
 strange-spec = tie.close (tie.spec strange-requires put-requires same-length returns)

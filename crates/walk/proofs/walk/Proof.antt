@@ -26,7 +26,13 @@ slice-aggregate-run-2 : tie.Need-slice-aggregate-run-2
 slice-aggregate-run-2 c = search needs
 
 run-requires : tie.Need-run-requires
-run-requires c κs = let s = c .before .before .before .before .before .before .start .ensures in let at = ap (λ (r : Reader). r .at) (s .1 .0) in let end = ap (λ (r : Reader). r .end) (s .1 .0) in let k = c .before .before .before .before .before .before .before .before .large-buffer .ensures in let o = c .before .before .before .before .before .before .before .large-buffer2 .ensures in (((omega (arith, at, end), omega (arith, end)), omega (arith, s .0 .1)), ((omega (arith, k), omega (arith, o)), s .1 .1 .1 .0))
+run-requires c κs =
+    let s = c .before .before .before .before .before .before .start .ensures in
+    let at = ap (λ (r : Reader). r .at) (s .1 .0) in
+    let end = ap (λ (r : Reader). r .end) (s .1 .0) in
+    let k = c .before .before .before .before .before .before .before .before .large-buffer .ensures in
+    let o = c .before .before .before .before .before .before .before .large-buffer2 .ensures in
+    (((omega (arith, at, end), omega (arith, end)), omega (arith, s .0 .1)), ((omega (arith, k), omega (arith, o)), s .1 .1 .1 .0))
 
 slice-aggregate-flush : tie.Need-slice-aggregate-flush
 slice-aggregate-flush c = search needs
@@ -47,7 +53,15 @@ same-length-4 : tie.Need-same-length-4
 same-length-4 c = search needs
 
 returns : tie.Need-returns
-returns c = let s = c .before .before .before .before .before .before .before .before .before .before .before .before .before .before .before .before .before .before .before .before .before .start .ensures in λ more gone. rw (s .0 .0) at (ran-whole _ _ _ _ _ _ _ _ _ (ap (λ (n : ℕ). take n (c .before .before .before .before .before .before .before .before .before .before .before .before .before .before .before .before .before .before .before .before .before .before .large-buffer2 .result)) (s .0 .1)) (s .1 .1 .0) (ap (λ (r : Reader). pending (c .before .before .before .before .before .before .before .before .before .before .before .before .before .before .before .before .before .before .before .before .before .before .before .large-buffer .result) r) (s .1 .0)) (ap (λ (r : Reader). r .more) (s .1 .0)) (c .before .before .before .before .before .before .before .before .before .before .before .before .before .before .run .ensures .1) more gone)
+returns c =
+    let s = c .before .before .before .before .before .before .before .before .before .before .before .before .before .before .before .before
+    .before .before .before .before .before .start .ensures in
+    λ more gone. rw (s .0 .0) at (ran-whole _ _ _ _ _ _ _ _ _ (ap (λ (n : ℕ). take n (c .before .before .before .before .before .before .before
+    .before .before .before .before .before .before .before .before .before .before .before .before .before .before .before .large-buffer2 .result))
+    (s .0 .1)) (s .1 .1 .0) (ap (λ (r : Reader). pending (c .before .before .before .before .before .before .before .before .before .before .before
+    .before .before .before .before .before .before .before .before .before .before .before .before .large-buffer .result) r) (s .1 .0)) (ap (λ (r :
+    Reader). r .more) (s .1 .0)) (c .before .before .before .before .before .before .before .before .before .before .before .before .before .before
+    .run .ensures .1) more gone)
 
 pub walk-spec : {M : Type 1} → statement M
 walk-spec =

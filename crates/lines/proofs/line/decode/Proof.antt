@@ -17,7 +17,11 @@ abbrev μ-loop : tie.MeasureT-loop
 μ-loop s from n out₀ i₀ out i = n - i
 
 loop-holds : tie.Need-loop-holds Inv-loop μ-loop
-loop-holds c = let a = c .before .before .args in let z : a .n - 0 ≡ a .n = omega arith in let f : a .from + 0 ≡ a .from = omega arith in (omega arith, (refl, (rw (z, f), refl)))
+loop-holds c =
+    let a = c .before .before .args in
+    let z : a .n - 0 ≡ a .n = omega arith in
+    let f : a .from + 0 ≡ a .from = omega arith in
+    (omega arith, (refl, (rw (z, f), refl)))
 
 mul-at : tie.Need-mul-at Inv-loop μ-loop
 mul-at c = search needs
@@ -47,7 +51,24 @@ same-length : tie.Need-same-length Inv-loop μ-loop
 same-length c = search needs
 
 returns : tie.Need-returns Inv-loop μ-loop
-returns c = let a = c .before .before .before .before .before .before .before .before .before .args in let l = c .before .before .before .before .before .before .loop in let d = bytesIn (a .n) (drop (a .from) (a .s .now)) in let e = decoding-stops (a .s .now) (a .from) (a .n) (a .out .now) (l .out) (l .i) (c .before .before .before .before .before .before .before .before .before .pre .1 .1) (l .inv) (omega arith) (sym (c .enum-told .given .1) ∙ c .before .before .byte .ensures) in let k = put-length d (a .out .now) (l .out) (l .i) e (omega (arith, c .before .before .before .before .before .before .before .before .before .pre .1 .1)) (l .inv .1 .1 .1) in (sym (ne-eqb (length d) (a .n) (λ (h : length d ≡ a .n). omega (arith, k))), put-whole d (a .out .now) (l .out) (l .i) e (omega (arith, c .before .before .before .before .before .before .before .before .before .pre .1 .1)) (l .inv .1 .1 .1))
+returns c =
+    let a = c .before .before .before .before .before .before .before .before .before .args in
+    let l = c .before .before .before .before .before .before .loop in
+    let d = bytesIn (a .n) (drop (a .from) (a .s .now)) in
+    let e = decoding-stops (a .s .now) (a .from) (a .n) (a .out .now) (l .out) (l .i) (c .before .before .before .before .before .before .before
+    .before .before .pre .1 .1) (l .inv) (omega arith) (sym (c .enum-told .given .1) ∙ c .before .before .byte .ensures) in
+    let k = put-length d (a .out .now) (l .out) (l .i) e (omega (
+      arith,
+      c .before .before .before .before .before .before .before .before .before
+          .pre .1 .1,
+    )) (l .inv .1 .1 .1) in (
+      sym (ne-eqb (length d) (a .n) (λ (h : length d ≡ a .n). omega (arith, k))),
+      put-whole d (a .out .now) (l .out) (l .i) e (omega (
+        arith,
+        c
+            .before .before .before .before .before .before .before .before .before .pre .1 .1,
+      )) (l .inv .1 .1 .1),
+    )
 
 slice-write-out : tie.Need-slice-write-out Inv-loop μ-loop
 slice-write-out c = search needs
@@ -59,13 +80,29 @@ loop-less : tie.Need-loop-less Inv-loop μ-loop
 loop-less c = search needs
 
 loop-again : tie.Need-loop-again Inv-loop μ-loop
-loop-again c = let a = c .before .before .before .before .before .before .before .before .before .before .args in let l = c .before .before .before .before .before .before .before .loop in decoding-next (a .s .now) (a .from) (a .n) (a .out .now) (l .out) (l .i) (c .before .before .before .before .before .before .before .before .before .before .pre .1 .1) (l .inv) (omega arith) _ (sym (c .before .b .given .1) ∙ c .before .before .before .byte .ensures)
+loop-again c =
+    let a = c .before .before .before .before .before .before .before .before .before .before .args in
+    let l = c .before .before .before .before .before .before .before .loop in
+    decoding-next (a .s .now) (a .from) (a .n) (a .out .now) (l .out) (l .i) (c .before .before .before .before .before .before .before .before
+    .before .before .pre .1 .1) (l .inv) (omega arith) _ (sym (c .before .b .given .1) ∙ c .before .before .before .byte .ensures)
 
 same-length-2 : tie.Need-same-length-2 Inv-loop μ-loop
 same-length-2 c = search needs
 
 returns-2 : tie.Need-returns-2 Inv-loop μ-loop
-returns-2 c = let a = c .before .before .before .before .args in let l = c .before .loop in let d = bytesIn (a .n) (drop (a .from) (a .s .now)) in let e = decoding-ends (a .s .now) (a .from) (a .n) (a .out .now) (l .out) (l .i) (l .inv) (omega arith) in let k = put-length d (a .out .now) (l .out) (l .i) e (omega (arith, c .before .before .before .before .pre .1 .1)) (l .inv .1 .1 .1) in (sym (eq-eqb (length d) (a .n) (omega (arith, k))), put-whole d (a .out .now) (l .out) (l .i) e (omega (arith, c .before .before .before .before .pre .1 .1)) (l .inv .1 .1 .1))
+returns-2 c =
+    let a = c .before .before .before .before .args in
+    let l = c .before .loop in
+    let d = bytesIn (a .n) (drop (a .from) (a .s .now)) in
+    let e = decoding-ends (a .s .now) (a .from) (a .n) (a .out .now) (l .out) (l .i) (l .inv) (omega arith) in
+    let k = put-length d (a .out .now) (l .out) (l .i) e (omega (arith, c .before .before .before .before .pre .1 .1)) (l .inv .1 .1 .1) in (
+      sym (eq-eqb (length d) (a .n) (omega (arith, k))),
+      put-whole d (a .out .now) (l .out) (l .i) e (omega (
+        arith,
+        c .before .before .before .before
+            .pre .1 .1,
+      )) (l .inv .1 .1 .1),
+    )
 
 pub decode-spec : {M : Type 1} → statement M
 decode-spec =

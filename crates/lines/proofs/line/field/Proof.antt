@@ -22,7 +22,9 @@ same-length c = search needs
 
 returns-2 : tie.Need-returns-2
 unfolding isField
-returns-2 c = rw (ne-eqb (c .before .before .before .before .before .before .before .args .n) 0 (c .before .before .before .before .if1 .left)) (c .before .before .decode .ensures)
+returns-2 c =
+    rw (ne-eqb (c .before .before .before .before .before .before .before .args .n) 0 (c .before .before .before .before .if1 .left)) (c .before
+    .before .decode .ensures)
 
 pub field-spec : {M : Type 1} → statement M
 field-spec =

@@ -35,14 +35,28 @@ shared-slice-read-if2 c = search needs
 
 returns-2 : tie.Need-returns-2
 unfolding lineOf fieldsIn
-returns-2 c = rw (← c .before .before .before .before .width .ensures .0, ← c .before .before .before .width2 .ensures .0, eq-eqb _ _ (c .before .before .if1 .left), ne-eqb _ _ (c .if2 .taken))
+returns-2 c =
+    rw (
+      ← c .before .before .before .before .width .ensures .0,
+      ← c .before .before .before .width2 .ensures .0,
+      eq-eqb _ _ (c .before .before .if1
+          .left),
+      ne-eqb _ _ (c .if2 .taken),
+    )
 
 shared-slice-read-if3 : tie.Need-shared-slice-read-if3
 shared-slice-read-if3 c = search needs
 
 returns-3 : tie.Need-returns-3
 unfolding lineOf fieldsIn
-returns-3 c = rw (← c .before .before .before .before .before .before .width .ensures .0, ← c .before .before .before .before .before .width2 .ensures .0, eq-eqb _ _ (c .before .before .before .before .if1 .left), eq-eqb _ _ (c .before .before .if2 .left), ne-eqb _ _ (c .if3 .taken))
+returns-3 c =
+    rw (
+      ← c .before .before .before .before .before .before .width .ensures .0,
+      ← c .before .before .before .before .before .width2 .ensures .0,
+      eq-eqb _ _ (c .before .before .before .before .if1 .left),
+      eq-eqb _ _ (c .before .before .if2 .left),
+      ne-eqb _ _ (c .if3 .taken),
+    )
 
 field-requires : tie.Need-field-requires
 field-requires c κs = search needs
@@ -52,7 +66,20 @@ same-length c = search needs
 
 returns-4 : tie.Need-returns-4
 unfolding lineOf fieldsIn
-returns-4 c = rw (← c .before .before .before .before .before .before .before .before .before .before .before .width .ensures .0, ← c .before .before .before .before .before .before .before .before .before .before .width2 .ensures .0, eq-eqb _ _ (c .before .before .before .before .before .before .before .before .before .if1 .left), eq-eqb _ _ (c .before .before .before .before .before .before .before .if2 .left), eq-eqb _ _ (c .before .before .before .before .before .if3 .left), denied (c .before .before .before .field .ensures .0) (c .if4 .taken)) (ap (λ (l : List ℕ). parsed false l (c .before .before .before .before .before .before .before .before .before .before .before .before .before .before .before .args .answer .now)) (c .before .before .before .field .ensures .1))
+returns-4 c =
+    rw (
+      ← c .before .before .before .before .before .before .before .before .before .before .before .width .ensures .0,
+      ← c .before .before .before
+          .before .before .before .before .before .before .before .width2 .ensures .0,
+      eq-eqb _ _ (c .before .before .before .before .before .before
+          .before .before .before .if1 .left),
+      eq-eqb _ _ (c .before .before .before .before .before .before .before .if2 .left),
+      eq-eqb _ _ (c .before
+          .before .before .before .before .if3 .left),
+      denied (c .before .before .before .field .ensures .0) (c .if4 .taken),
+    ) (ap (λ (l : List ℕ). parsed
+    false l (c .before .before .before .before .before .before .before .before .before .before .before .before .before .before .before .args .answer
+    .now)) (c .before .before .before .field .ensures .1))
 
 add-field : tie.Need-add-field
 add-field c = search needs
@@ -68,7 +95,20 @@ same-length-3 c = search needs
 
 returns-5 : tie.Need-returns-5
 unfolding lineOf fieldsIn
-returns-5 c = rw (← c .before .before .before .before .before .before .before .before .before .before .before .before .before .before .before .width .ensures .0, ← c .before .before .before .before .before .before .before .before .before .before .before .before .before .before .width2 .ensures .0, eq-eqb _ _ (c .before .before .before .before .before .before .before .before .before .before .before .before .before .if1 .left), eq-eqb _ _ (c .before .before .before .before .before .before .before .before .before .before .before .if2 .left), eq-eqb _ _ (c .before .before .before .before .before .before .before .before .before .if3 .left), granted (c .before .before .before .before .before .before .before .field .ensures .0) (c .before .before .before .before .if4 .left)) (parsed-same (c .before .before .field2 .ensures .0) (c .before .before .before .before .before .before .before .field .ensures .1) (c .before .before .field2 .ensures .1))
+returns-5 c =
+    rw (
+      ← c .before .before .before .before .before .before .before .before .before .before .before .before .before .before .before .width .ensures
+          .0,
+      ← c .before .before .before .before .before .before .before .before .before .before .before .before .before .before .width2 .ensures .0,
+      eq-eqb _ _ (c .before .before .before .before .before .before .before .before .before .before .before .before .before .if1 .left),
+      eq-eqb _ _ (c
+          .before .before .before .before .before .before .before .before .before .before .before .if2 .left),
+      eq-eqb _ _ (c .before .before .before
+          .before .before .before .before .before .before .if3 .left),
+      granted (c .before .before .before .before .before .before .before .field .ensures
+          .0) (c .before .before .before .before .if4 .left),
+    ) (parsed-same (c .before .before .field2 .ensures .0) (c .before .before .before .before
+    .before .before .before .field .ensures .1) (c .before .before .field2 .ensures .1))
 
 pub parse-spec : {M : Type 1} → statement M
 parse-spec =

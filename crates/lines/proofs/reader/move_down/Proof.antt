@@ -38,7 +38,19 @@ loop-less : tie.Need-loop-less Inv-loop μ-loop
 loop-less c = search needs
 
 loop-again : tie.Need-loop-again Inv-loop μ-loop
-loop-again c = let l = c .before .before .loop in let a = c .before .before .before .args in let s = c .before .before .loop .inv in (omega arith, (simp length-set (s .1 .0), (moved-next (a .buf .now) (l .buf) (a .from) (l .i) (omega arith) (s .1 .0) (s .1 .1 .0) (s .1 .1 .1), rest-next (a .buf .now) (l .buf) (a .from) (l .i) (omega arith) (s .1 .0) (s .1 .1 .0) (s .1 .1 .1))))
+loop-again c =
+    let l = c .before .before .loop in
+    let a = c .before .before .before .args in
+    let s = c .before .before .loop .inv in (
+      omega arith,
+      (
+        simp length-set (s .1 .0),
+        (
+          moved-next (a .buf .now) (l .buf) (a .from) (l .i) (omega arith) (s .1 .0) (s .1 .1 .0) (s .1 .1 .1),
+          rest-next (a .buf .now) (l .buf) (a .from) (l .i) (omega arith) (s .1 .0) (s .1 .1 .0) (s .1 .1 .1),
+        ),
+      ),
+    )
 
 same-length : tie.Need-same-length Inv-loop μ-loop
 same-length c = search needs

@@ -16,10 +16,26 @@ same-length : tie.Need-same-length
 same-length c = search needs
 
 returns : tie.Need-returns
-returns c = let a = c .before .before .before .before .args in let p = c .before .before .before .before .pre in let e = c .before .find .ensures .0 in ((omega arith, (omega arith, (omega arith, omega arith))), inl (step-ended (a .buf .now) (a .reader .at) (a .reader .end) (p .0) (p .1) (c .before .find .result) e (c .if1 .taken) (a .reader .more)))
+returns c =
+    let a = c .before .before .before .before .args in
+    let p = c .before .before .before .before .pre in
+    let e = c .before .find .ensures .0 in (
+      (omega arith, (omega arith, (omega arith, omega arith))),
+      inl (step-ended (a .buf .now) (a .reader .at) (a .reader .end) (p .0) (p .1) (c
+          .before .find .result) e (c .if1 .taken) (a .reader .more)),
+    )
 
 fill-requires : tie.Need-fill-requires
-fill-requires c κs = let a = c .before .before .before .before .before .before .args in let p = c .before .before .before .before .before .before .pre in (p .0, (p .1, step-clear (a .buf .now) (a .reader .at) (a .reader .end) (p .0) (p .1) (c .before .before .before .find .result) (c .before .before .before .find .ensures .0) (omega arith)))
+fill-requires c κs =
+    let a = c .before .before .before .before .before .before .args in
+    let p = c .before .before .before .before .before .before .pre in (
+      p .0,
+      (
+        p .1,
+        step-clear (a .buf .now) (a .reader .at) (a .reader .end) (p .0) (p .1) (c .before .before .before .find .result) (c .before
+            .before .before .find .ensures .0) (omega arith),
+      ),
+    )
 
 same-length-2 : tie.Need-same-length-2
 same-length-2 c = search needs
@@ -28,13 +44,25 @@ returns-2 : tie.Need-returns-2
 returns-2 c = rw (c .before .before .before .before .if2 .taken) (c .before .before .fill .ensures)
 
 last-requires : tie.Need-last-requires
-last-requires c κs = let a = c .before .before .before .before .before .before .args in let p = c .before .before .before .before .before .before .pre in (p .0, (p .1, step-clear (a .buf .now) (a .reader .at) (a .reader .end) (p .0) (p .1) (c .before .before .before .find .result) (c .before .before .before .find .ensures .0) (omega arith)))
+last-requires c κs =
+    let a = c .before .before .before .before .before .before .args in
+    let p = c .before .before .before .before .before .before .pre in (
+      p .0,
+      (
+        p .1,
+        step-clear (a .buf .now) (a .reader .at) (a .reader .end) (p .0) (p .1) (c .before .before .before .find .result) (c .before
+            .before .before .find .ensures .0) (omega arith),
+      ),
+    )
 
 same-length-3 : tie.Need-same-length-3
 same-length-3 c = search needs
 
 returns-3 : tie.Need-returns-3
-returns-3 c = let p = c .before .before .before .before .before .before .before .pre in let g = c .last .ensures .0 in ((g .0, (omega (arith, g .1 .0), (g .1 .1 .0, omega (arith, g .1 .1 .1)))), rw (c .before .before .if2 .left) (c .last .ensures .1))
+returns-3 c =
+    let p = c .before .before .before .before .before .before .before .pre in
+    let g = c .last .ensures .0 in
+    ((g .0, (omega (arith, g .1 .0), (g .1 .1 .0, omega (arith, g .1 .1 .1)))), rw (c .before .before .if2 .left) (c .last .ensures .1))
 
 pub next-spec : {M : Type 1} → statement M
 next-spec =

@@ -27,7 +27,12 @@ same-length : tie.Need-same-length
 same-length c = search needs
 
 returns : tie.Need-returns
-returns c = let a = c .before .before .before .before .before .before .before .before .args in (omega (arith, same-length c), take-at _ _ (a .kept) (length-take-le (a .kept) (a .buf .now) (c .before .before .before .before .before .before .before .before .pre)))
+returns c =
+    let a = c .before .before .before .before .before .before .before .before .args in (
+      omega (arith, same-length c),
+      take-at _ _ (a .kept) (length-take-le (a .kept) (a .buf .now) (c .before .before .before .before .before .before
+          .before .before .pre)),
+    )
 
 sub-count : tie.Need-sub-count
 sub-count c = search needs
@@ -45,7 +50,12 @@ same-length-2 : tie.Need-same-length-2
 same-length-2 c = search needs
 
 returns-2 : tie.Need-returns-2
-returns-2 c = let a = c .before .before .before .before .before .before .before .before .before .args in (search needs, take-at _ _ (a .kept) (length-take-le (a .kept) (a .buf .now) (c .before .before .before .before .before .before .before .before .before .pre)))
+returns-2 c =
+    let a = c .before .before .before .before .before .before .before .before .before .args in (
+      search needs,
+      take-at _ _ (a .kept) (length-take-le (a .kept) (a .buf .now) (c .before .before .before .before .before .before .before .before
+          .before .pre)),
+    )
 
 pub read-on-spec : {M : Type 1} → statement M
 read-on-spec =
