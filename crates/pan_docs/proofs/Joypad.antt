@@ -1,16 +1,17 @@
 -- The joypad: FF00's low half by the selected kind, and each button's bit.
-use mathlib.Core.Bool.{true, false, cond, not}
+use mathlib.Core.Bool.{_&&_, true, false, cond, not}
 use mathlib.Core.Path.{_≡_, refl, sym, ap, _∙_}
 use Prim.Native.Nat.{ℕ, zero, suc, _+_, _*_, _/_, _%_, _<_}
 use native.Mathlib.Omega.{arith}
 use lib.Dec.{eqb}
 use borrow.Author.Tests.{eqb-true, eq-eqb, ne-eqb}
 use Rattle.bit_utils.specs.Bits.{isSet}
-use Rattle.joypad.specs.Joypad.{named, bitOf, afterPress, afterRelease, pressCall, releaseCall, directionsAnswer, padRead}
+use Rattle.joypad.specs.declared.Polled.{Polled}
+use Rattle.joypad.specs.Joypad.{polled, actionsAnswer, named, bitOf, afterPress, afterRelease, pressCall, releaseCall, directionsAnswer, padRead}
 use Rattle.joypad.specs.declared.Controller.{Controller}
 use Rattle.joypad.specs.declared.buttons.Button.{Button}
 use Rattle.joypad.specs.declared.buttons.Button.the-variants.{Up, Down, Left, Right, A, B, Start, Select}
-use Rattle.rules.proofs.Tests.{by-cond, cond-true, cond-false}
+use Rattle.rules.proofs.Tests.{by-cond, cond-both, cond-true, cond-false}
 use Rattle.pan_docs.specs.Bits.{bit, low}
 use Rattle.pan_docs.specs.Joypad.{lineOf, JoypadBits}
 use Rattle.pan_docs.proofs.Bits.{low-mod, is-set, bit-clear, bit-below, bit-shifted, bit-right, bit-set, bit-unset}
@@ -86,5 +87,11 @@ release c (suc (suc (suc (suc (suc (suc zero)))))) j h = release-bit c Start j
 release c (suc (suc (suc (suc (suc (suc (suc zero))))))) j h = release-bit c Select j
 release c (suc (suc (suc (suc (suc (suc (suc (suc n)))))))) j h = absurd (omega arith)
 
+update : (c : Controller) (control flags : ℕ) → polled c control flags .controller .state ≡ c .released
+unfolding polled
+update c control flags =
+    cond-both (λ (p : Polled). p .controller .state ≡ c .released) (actionsAnswer control && c .action) refl
+    (cond-both (λ (p : Polled). p .controller .state ≡ c .released) (directionsAnswer control && c .direction) refl refl)
+
 pub joypad-bits : JoypadBits
-joypad-bits = record { directions = directions; actions = actions; press = press; release = release }
+joypad-bits = record { directions = directions; actions = actions; press = press; release = release; update = update }

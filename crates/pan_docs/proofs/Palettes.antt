@@ -8,7 +8,7 @@ use lib.Dec.{eqb, ltb}
 use lib.ListN.{getD, length}
 use native.Mathlib.Nat.{zero-add}
 use Rattle.palette.proofs.Memory.{read-same, read-other}
-use borrow.Author.Tests.{eq-eqb, ne-eqb, ltb-true, ltb-false}
+use borrow.Author.Tests.{eqb-true, eq-eqb, ne-eqb, ltb-true, ltb-false}
 use Rattle.palette.specs.Palette.{moved, writeData, withData}
 use Rattle.palette.specs.PanDocs.{addressOf, moves, nextAddress, numberOf, channels, lowByte, highByte, isHigh, colorAt, byteAt, putAt}
 use Rattle.palette.specs.declared.Color.{Color}
@@ -84,16 +84,18 @@ module _ (p : Palette) (v : ℕ) where
       let e : moved (withData p v) .colors ≡ p .colors = cond-both (λ (q : Palette). q .colors ≡ p .colors) (moves (p .index)) refl refl in
       ap (λ (l : List Color). putAt l (addressOf (p .index)) v) e ∙ ap (λ (a : ℕ). putAt (p .colors) a v) (sym (low-mod 6 (p .index)))
 
-  seven : (t : Bool) (j : ℕ) → j < 7 → bit (cond t (v % 128) v) j ≡ bit v j
-  seven true j h = bit-below v 7 j h
-  seven false j h = refl
+  -- the high byte has seven bits
+  seven : (a : ℕ) (t : Bool) (j : ℕ) → isHigh a ≡ t → bit a 0 * 8 + j < 15 → bit (cond t (v % 128) v) j ≡ bit v j
+  seven a true j e h = let b = eqb-true (bit a 0) 1 (sym (is-set a 0) ∙ e) in bit-below v 7 j (omega arith)
+  seven a false j e h = refl
 
-  written : (j : ℕ) → length (p .colors) ≡ 32 → v < 256 → j < 7 → bit (byteAt (writeData p v .colors) (low 6 (p .index))) j ≡ bit v j
+  written : (j : ℕ) → length (p .colors) ≡ 32 → v < 256 → bit (low 6 (p .index)) 0 * 8 + j < 15
+      → bit (byteAt (writeData p v .colors) (low 6 (p .index))) j ≡ bit v j
   written j l h k =
       let a = low 6 (p .index) in
       ap (λ (l : List Color). bit (byteAt l a) j) colours-put
       ∙ ap (λ (x : ℕ). bit x j) (read-same (p .colors) a v h (omega (arith, low-mod 6 (p .index))))
-      ∙ seven (isHigh a) j k
+      ∙ seven a (isHigh a) j refl k
 
   others : (a : ℕ) → v < 256 → (low 6 (p .index) ≡ a → ⊥) → byteAt (writeData p v .colors) a ≡ byteAt (p .colors) a
   others a h d = ap (λ (l : List Color). byteAt l a) colours-put ∙ read-other (p .colors) (low 6 (p .index)) v h a d

@@ -7,7 +7,7 @@ use mathlib.Core.Path.{_≡_}
 use Prim.Native.Nat.{ℕ, _+_, _<_}
 use lib.Dec.{eqb}
 use lib.ListN.{getD}
-use Rattle.joypad.specs.Joypad.{pressCall, releaseCall, padRead}
+use Rattle.joypad.specs.Joypad.{pressCall, releaseCall, polled, padRead}
 use Rattle.joypad.specs.declared.Controller.{Controller}
 use Rattle.pan_docs.specs.Bits.{bit}
 
@@ -29,3 +29,5 @@ pub record JoypadBits : Type 0 where
       → bit (pressCall c button .controller .released) j ≡ cond (eqb j (lineOf button)) 0 (bit (c .released) j)
   pub release : (c : Controller) (button j : ℕ) → button < 8
       → bit (releaseCall c button .controller .released) j ≡ cond (eqb j (lineOf button)) 1 (bit (c .released) j)
+  -- an update makes the keys as they are the state that FF00 reads
+  pub update : (c : Controller) (control flags : ℕ) → polled c control flags .controller .state ≡ c .released

@@ -28,6 +28,6 @@ pub record PaletteBits : Type 0 where
       → (low 6 (writeData p v .index) ≡ (low 6 (p .index) + 1) % 64) × (bit (writeData p v .index) 7 ≡ 1)
   pub stays : (p : Palette) (v : ℕ) → bit (p .index) 7 ≡ 0 → writeData p v .index ≡ p .index
   -- a byte of data goes to the address, and no other byte changes (a colour's bit 15 is not there); there are 32 colours
-  pub written : (p : Palette) (v j : ℕ) → length (p .colors) ≡ 32 → v < 256 → j < 7
+  pub written : (p : Palette) (v j : ℕ) → length (p .colors) ≡ 32 → v < 256 → bit (low 6 (p .index)) 0 * 8 + j < 15
       → bit (byteAt (writeData p v .colors) (low 6 (p .index))) j ≡ bit v j
   pub others : (p : Palette) (v a : ℕ) → v < 256 → (low 6 (p .index) ≡ a → ⊥) → byteAt (writeData p v .colors) a ≡ byteAt (p .colors) a
