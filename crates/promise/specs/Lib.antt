@@ -2,6 +2,7 @@ pub mod Bus
 pub mod Calls
 pub mod Admitted
 pub mod Gate
+pub mod Described
 pub mod Runs
 pub mod Promise
 pub mod Each

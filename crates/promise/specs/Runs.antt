@@ -3,28 +3,29 @@
 use mathlib.Core.Bool.{Bool, true, false, cond, _&&_}
 use mathlib.Core.List.{List, [], _∷_, _++_}
 use mathlib.Core.Path.{_≡_}
-use Prim.Native.Nat.{ℕ, _≤_, _<_}
+use Prim.Native.Nat.{ℕ, _*_, _≤_, _<_}
 use lib.Dec.{eqb, leb}
 use lib.ListN.{length, take}
-use Rattle.mbc.specs.Mbc.{romLen, ramLen, known, described, cartridgeOf, start as mapperOf}
+use Rattle.mbc.specs.Mbc.{romLen, ramLen, cartridgeOf, start as mapperOf}
 use Rattle.memory.specs.Ranges.{vramLen, wramLen, soundLen, inRange}
 use Rattle.memory.specs.World.{World, world, Fixed}
 use Rattle.savelog.specs.Log.{logLimit}
 use Rattle.savelog.specs.declared.Rec.{Rec}
 use Rattle.promise.specs.Bus.{Outcome, outcome, step, Call, refused, Kind, Reading, Clearing, Other, kindOf, Lent, begin}
 use Rattle.promise.specs.Calls.{writesOf}
+use Rattle.promise.specs.Described.{Described}
 use Rattle.promise.specs.Gate.{Terms, Gate, Asked, admittedBy, ofWrite}
 
--- a description and lengths as documents 01 and 02 have them ("Cartridge and buffers"; MBC5): such a fresh bus is not refused
+-- A description and lengths as documents 01 and 02 have them: such a fresh bus is not refused. "Cartridge and buffers": "ROM is N banks of
+-- 16,384 bytes"; "Monochrome: VRAM 8,192, WRAM 8,192. Colour: 16,384 and 32,768"; "Log: 0 to 65,535 bytes"; "The sound window is 48 bytes".
+-- The image is as long as the RAM
 pub record Fitting (l : Lent) : Type 0 where
-  pub kind : known (l .kind) ≡ true
-  pub described : described (cartridgeOf (l .banks) (l .code)) (mapperOf (l .kind)) ≡ true
-  pub rom : length (l .rom) ≡ romLen (cartridgeOf (l .banks) (l .code))
-  pub vram : length (l .vram) ≡ vramLen (l .colour)
-  pub wram : length (l .wram) ≡ wramLen (l .colour)
-  pub image : length (l .image) ≡ ramLen (cartridgeOf (l .banks) (l .code)) (mapperOf (l .kind))
-  pub log : length (l .log) ≤ logLimit
-  pub sound : length (l .sound) ≡ soundLen
+  pub described : Described (l .kind) (l .banks) (l .code) (length (l .image))
+  pub rom : length (l .rom) ≡ l .banks * 16384
+  pub vram : length (l .vram) ≡ cond (l .colour) 16384 8192
+  pub wram : length (l .wram) ≡ cond (l .colour) 32768 8192
+  pub log : length (l .log) ≤ 65535
+  pub sound : length (l .sound) ≡ 48
 
 -- What each call is lent. Of save and log: the host's own, as the last call left them, or by mistake another
 pub data Lending : Type 0 where
