@@ -1,4 +1,5 @@
 -- Every call refuses the all-zero state; and who refuses RAM code 4.
+use mathlib.Core.Bool.{and-false}
 use mathlib.Core.Path.{_≡_, refl}
 use Prim.Native.Nat.{ℕ}
 use Rattle.bus.specs.Calls.{unless}
@@ -79,7 +80,14 @@ zero-closed x w (call.DoDmaTransfer page) e = rw (write-closed x w e)
 zero-closed x w call.DoHdma e = rw (write-closed x w e)
 zero-closed x w (call.State c) e = rw (calls-closed (w .state) (state-closed (w .state) e logLimit) c)
 
--- RAM code 4, mapper by mapper: computed
+-- RAM code 4, mapper by mapper: what is asked of N does not come to matter
 pub code-four : CodeFour
 unfolding mbc.fresh mbc.described mbc.start mbc.hasBanks mbc.hasCode mbc.ramBanks mbc.ramLen
-code-four = (refl, refl, refl, refl, refl, refl)
+code-four = (
+  λ n. rw (and-false (mbc.hasBanks 2 (mbc.cartridgeOf n 4))),
+  λ n. rw (and-false (mbc.hasBanks 128 (mbc.cartridgeOf n 4))),
+  λ n. rw (and-false (mbc.hasBanks 16 (mbc.cartridgeOf n 4))),
+  refl,
+  refl,
+  λ n. refl,
+)

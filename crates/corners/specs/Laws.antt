@@ -1,7 +1,9 @@
 -- What is promised beside the corners: `corners_hold` has it as its contract too.
 use mathlib.Core.Bool.{Bool, true}
+use mathlib.Core.List.{[], _∷_, map}
 use mathlib.Core.Path.{_≡_}
 use Prim.Native.Nat.{ℕ}
+use lib.ListN.{replicate}
 use Rattle.bus.specs.Calls.{outcome}
 use Rattle.dispatch.specs.Step.{step}
 use Rattle.dispatch.specs.declared.Call.{Call}
@@ -26,15 +28,16 @@ FreshAccepted =
     → mbc.described c (mbc.start kind) ≡ true
     → inRange (started c (mbc.start kind) colour) limit ≡ true
 
--- "RAM code 4 means 131,072 bytes in 16 banks, with MBC5 only" (document 02, wish 3): with another mapper 3
+-- "RAM code 4 means 131,072 bytes in 16 banks, with MBC5 only" (document 02, wish 3): with another mapper 3, whatever N is; with MBC5 it is taken
+-- for every N that there is ("a power of two", "from 2 to 512")
 abbrev pub CodeFour : Type 0
 CodeFour =
-    (mbc.fresh 0 2 4 .number ≡ outOfRange)
-    × (mbc.fresh 1 2 4 .number ≡ outOfRange)
-    × (mbc.fresh 2 2 4 .number ≡ outOfRange)
-    × (mbc.fresh 3 2 4 .number ≡ done)
+    ((banks : ℕ) → mbc.fresh 0 banks 4 .number ≡ outOfRange)
+    × ((banks : ℕ) → mbc.fresh 1 banks 4 .number ≡ outOfRange)
+    × ((banks : ℕ) → mbc.fresh 2 banks 4 .number ≡ outOfRange)
+    × (map (λ (banks : ℕ). mbc.fresh 3 banks 4 .number) (2 ∷ 4 ∷ 8 ∷ 16 ∷ 32 ∷ 64 ∷ 128 ∷ 256 ∷ 512 ∷ []) ≡ replicate 9 done)
     × (mbc.ramBanks 4 ≡ 16)
-    × (mbc.ramLen (mbc.cartridgeOf 2 4) (mbc.start 3) ≡ 131072)
+    × ((banks : ℕ) → mbc.ramLen (mbc.cartridgeOf banks 4) (mbc.start 3) ≡ 131072)
 
 -- A and Up pressed, and then all eight as an update leaves them
 abbrev pub pressed : Controller
