@@ -1,20 +1,23 @@
 -- Banks by bits: a bank that is masked, one of two parts, and one in which 0 acts as 1; and the places in a bank.
 use mathlib.Core.Bool.{Bool, true, false, cond}
+use mathlib.Core.List.{[], _∷_}
 use mathlib.Core.Path.{_≡_, refl, sym, ap, _∙_}
-use Prim.Native.Nat.{ℕ, _+_, _-_, _*_, _%_, _^_, _<_, _≤_}
+use Prim.Native.Nat.{ℕ, zero, suc, _+_, _-_, _*_, _%_, _^_, _<_, _≤_}
 use native.Mathlib.Nat.{mod-lt, mod-eq-of-lt}
 use native.Mathlib.Omega.{arith}
 use lib.Dec.{eqb, ltb}
+use lib.ListN.{getD}
 use lib.Pow.{pow-pos}
-use borrow.Author.Tests.{eqb-true, eq-eqb, ne-eqb, ltb-true, ltb-false, le-ltb}
-use Rattle.mbc.specs.Mbc.{source, ramSource, answer, ramLen, storedAt}
+use borrow.Author.Tests.{eqb-true, eq-eqb, ne-eqb, ltb-true, ltb-false, lt-ltb, le-ltb}
+use Rattle.mbc.specs.Mbc.{source, ramSource, answer, ramBanks, ramLen, storedAt}
 use Rattle.mbc.specs.PanDocs.{enables, zeroAsOne, masked, ramAddress}
 use Rattle.mbc.specs.declared.cartridge.Cartridge.{Cartridge}
 use Rattle.mbc.specs.declared.mbc.Mapper.{Mapper}
 use Rattle.mbc.specs.declared.mbc.Source.{Source}
-use Rattle.rules.proofs.Tests.{by-cond, cond-both, both-true}
+use Rattle.mbc.specs.declared.mbc.Source.the-variants.{Save, Fixed}
+use Rattle.rules.proofs.Tests.{by-cond, cond-both, cond-true, cond-false, both-true}
 use Rattle.pan_docs.specs.Bits.{bit, low}
-use Rattle.pan_docs.specs.Banks.{lowFourA, actsAsOne, Masked}
+use Rattle.pan_docs.specs.Banks.{lowFourA, actsAsOne, Masked, ramSize, RamAt, RamOff}
 use Rattle.pan_docs.proofs.Bits.{low-mod, bit-small, bit-mod, bit-below, bit-above, bit-left, bit-right, bit-weight}
 
 -- 1010
@@ -97,3 +100,30 @@ pub ram-answer : (c : Cartridge) (m : Mapper) (index v : ℕ) {s : Source} → 0
     → answer c m index v ≡ storedAt (ramLen c m) v s
 unfolding source
 ram-answer c m index v h e = rw (le-ltb index 0x8000 h, e)
+
+pub ram-size : (code : ℕ) → ramBanks code * 0x2000 ≡ ramSize code
+unfolding ramBanks
+ram-size zero = refl
+ram-size (suc zero) = refl
+ram-size (suc (suc zero)) = refl
+ram-size (suc (suc (suc zero))) = refl
+ram-size (suc (suc (suc (suc zero)))) = refl
+ram-size (suc (suc (suc (suc (suc n))))) =
+    rw (
+      ne-eqb (suc (suc (suc (suc (suc n))))) 2 (λ e. omega arith),
+      ne-eqb (suc (suc (suc (suc (suc n))))) 3 (λ e. omega arith),
+      ne-eqb (suc (suc (suc (suc (suc n))))) 4 (λ e. omega arith),
+    )
+
+module _ (c : Cartridge) (m : Mapper) (index v : ℕ) (h : 0x8000 ≤ index) where
+  pub ram-at : (place : ℕ) → ramLen c m ≡ ramSize (c .code) → ramSource c m index ≡ Save place → RamAt c m index v place
+  ram-at place e s =
+      let a = ram-answer c m index v h s in
+      record {
+        read = s;
+        stored = λ l. a ∙ cond-true _ _ _ (lt-ltb place (ramLen c m) (omega arith));
+        past = λ l. a ∙ cond-false _ _ _ (le-ltb place (ramLen c m) (omega arith));
+      }
+
+  pub ram-off : ramSource c m index ≡ Fixed 0xFF → RamOff c m index v
+  ram-off s = record { read = s; ignored = ram-answer c m index v h s }

@@ -4,6 +4,7 @@ pub mod Map
 pub mod Ones
 pub mod LyLyc
 pub mod Banks
+pub mod RomOnly
 pub mod Mbc1
 pub mod Mbc1Writes
 pub mod Mbc2

@@ -5,7 +5,7 @@ use Prim.Native.Nat.{ℕ, _+_, _-_, _*_, _%_, _^_, _<_, _≤_}
 use native.Mathlib.Omega.{arith}
 use lib.Dec.{eqb, ltb, lit<}
 use borrow.Author.Tests.{eq-eqb, ne-eqb, lt-ltb, le-ltb}
-use Rattle.mbc.specs.Mbc.{ramSource, ramBank1, enable1, low1, high1, mode1, after1, withMode, withEnabled, withHigh}
+use Rattle.mbc.specs.Mbc.{ramSource, ramLen, ramBank1, enable1, low1, high1, mode1, after1, withMode, withEnabled, withHigh}
 use Rattle.mbc.specs.PanDocs.{mbc1Bank, masked}
 use Rattle.mbc.specs.declared.cartridge.Cartridge.{Cartridge}
 use Rattle.mbc.specs.declared.mbc.Mapper.the-variants.{Mbc1}
@@ -13,10 +13,10 @@ use Rattle.mbc.specs.declared.mbc.Source.the-variants.{Save, Fixed}
 use Rattle.mbc.specs.declared.mbc1.Mbc1.{Mbc1 as Registers}
 use Rattle.rules.proofs.Tests.{cond-true, cond-false}
 use Rattle.pan_docs.specs.Bits.{bit, low}
-use Rattle.pan_docs.specs.Banks.{actsAsOne}
+use Rattle.pan_docs.specs.Banks.{actsAsOne, ramSize}
 use Rattle.pan_docs.specs.Mbc1.{RamEnable, RomBank, UpperBits, Mode, rows, Upper, RamBank, Does, Mbc1Rules}
 use Rattle.pan_docs.proofs.Bits.{low-mod, bit-zero, bit-mod}
-use Rattle.pan_docs.proofs.Banks.{enables-bits, masked-as, parts, acts, acts-itself, acts-small, ram-place, ram-answer}
+use Rattle.pan_docs.proofs.Banks.{enables-bits, masked-as, parts, acts, acts-itself, acts-small, ram-place, ram-size, ram-at, ram-off}
 use Rattle.pan_docs.proofs.Rows.{only}
 
 -- five bits and the upper ones
@@ -95,6 +95,10 @@ module _ (c : Cartridge) (m : Registers) (i : ℕ) where
   unfolding ramSource ramBank1
   ram h l t = cond-true (m .enabled) _ _ t ∙ ap (λ (a : ℕ). Save a) (ram-place (cond (m .mode) (m .ram) 0) i h l)
 
+  len : ramLen c (Mbc1 m) ≡ ramSize (c .code)
+  unfolding ramLen
+  len = ram-size (c .code)
+
 pub mbc1-rules : Mbc1Rules
 mbc1-rules =
     record {
@@ -102,6 +106,6 @@ mbc1-rules =
           λ c m i v h.
           only i (λ r. Does r c m v (after1 c m i v)) rows 0x0000 0x8000 refl (omega arith) h
           (in-enable c m v i, (in-bank c m v i, (in-upper c m v i, (in-mode c m v i, tt))));
-      off = λ c m i v h l f. (off c m i f, ram-answer c (Mbc1 m) i v (omega arith) (off c m i f));
-      ram = ram;
+      off = λ c m i v h l f. ram-off c (Mbc1 m) i v (omega arith) (off c m i f);
+      ram = λ c m i v h l t. ram-at c (Mbc1 m) i v (omega arith) _ (len c m i) (ram c m i h l t);
     }

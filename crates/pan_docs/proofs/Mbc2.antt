@@ -19,7 +19,7 @@ use Rattle.pan_docs.specs.Bits.{bit, low}
 use Rattle.pan_docs.specs.Banks.{lowFourA}
 use Rattle.pan_docs.specs.Mbc2.{Bank, Mbc2Rules}
 use Rattle.pan_docs.proofs.Bits.{low-mod}
-use Rattle.pan_docs.proofs.Banks.{enables-bits, masked-as, few, ram-answer}
+use Rattle.pan_docs.proofs.Banks.{enables-bits, masked-as, few, ram-answer, ram-off}
 
 abbrev put : Registers → Bool → Registers
 put m on = record { rom = m .rom; enabled = on }
@@ -82,5 +82,5 @@ mbc2-rules =
       none = none;
       read = λ c m rom save i h l t. read c m i h l rom save t;
       stored = λ c m i v h l t. stored c m i h l v t;
-      off = λ c m i v h l f. (off c m i h l f, ram-answer c (Mbc2 m) i v (omega arith) (off c m i h l f));
+      off = λ c m i v h l f. ram-off c (Mbc2 m) i v (omega arith) (off c m i h l f);
     }

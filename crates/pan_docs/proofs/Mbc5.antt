@@ -9,19 +9,19 @@ use lib.Pow.{pow-pos}
 use borrow.Author.Tests.{eqb-true, eqb-false, ne-eqb, lt-ltb, le-ltb, ltb-true, ltb-false}
 use Rattle.mbc.proofs.Cases.Mbc5Exact.{one-field}
 use Rattle.mbc.specs.Mbc.{Apart, apartOf, apartStart, apartAfter, apartAll, shown, ramBanks}
-use Rattle.mbc.specs.Mbc.{ramSource, chosenRam, enable5, low5, ninth5, ram5, after5, withEnabled5}
+use Rattle.mbc.specs.Mbc.{ramSource, ramLen, chosenRam, enable5, low5, ninth5, ram5, after5, withEnabled5}
 use Rattle.mbc.specs.PanDocs.{mbc5Bank}
 use Rattle.mbc.specs.declared.cartridge.Cartridge.{Cartridge}
 use Rattle.mbc.specs.declared.mbc.Mapper.the-variants.{Mbc5}
-use Rattle.mbc.specs.declared.mbc.Source.the-variants.{Save}
+use Rattle.mbc.specs.declared.mbc.Source.the-variants.{Save, Fixed}
 use Rattle.mbc.specs.declared.mbc5.Mbc5.{Mbc5 as Registers}
 use Rattle.rules.proofs.Tests.{by-cond, cond-true, cond-false}
 use Rattle.pan_docs.specs.Bits.{bit, low}
-use Rattle.pan_docs.specs.Banks.{Masked}
+use Rattle.pan_docs.specs.Banks.{Masked, ramSize}
 use Rattle.pan_docs.specs.Rows.{Row, rowsAt, wroteIn, wroteAll}
 use Rattle.pan_docs.specs.Mbc5.{RamEnable, LowEight, Ninth, RamBank, rows, nine, Does, Register, wrote, written, Mbc5Rules, Mbc5Writes}
 use Rattle.pan_docs.proofs.Bits.{bit-mod, bit-below, bit-above, bit-shifted}
-use Rattle.pan_docs.proofs.Banks.{enables-bits, masked-as, parts, ram-place}
+use Rattle.pan_docs.proofs.Banks.{enables-bits, masked-as, parts, ram-place, ram-size, ram-at, ram-off}
 use Rattle.pan_docs.proofs.Rows.{only, none-past}
 
 ninth-bit : (x j : ℕ) → 8 ≤ j → bit (x % 2) (j - 8) ≡ cond (eqb j 8) (bit x 0) 0
@@ -88,10 +88,18 @@ module _ (c : Cartridge) (m : Registers) (v : ℕ) where
     unfolding after5
     none h = rw (le-ltb i 0x2000 (omega arith), le-ltb i 0x3000 (omega arith), le-ltb i 0x4000 (omega arith), le-ltb i 0x6000 h)
 
-ram : (c : Cartridge) (m : Registers) (i : ℕ) → 0xA000 ≤ i → i ≤ 0xBFFF → m .enabled ≡ true
-    → ramSource c (Mbc5 m) i ≡ Save (m .ram * 2 ^ 13 + low 13 i)
-unfolding ramSource
-ram c m i h l t = cond-true (m .enabled) _ _ t ∙ ap (λ (a : ℕ). Save a) (ram-place (m .ram) i h l)
+module _ (c : Cartridge) (m : Registers) (i : ℕ) where
+  off : m .enabled ≡ false → ramSource c (Mbc5 m) i ≡ Fixed 0xFF
+  unfolding ramSource
+  off f = cond-false (m .enabled) _ _ f
+
+  ram : 0xA000 ≤ i → i ≤ 0xBFFF → m .enabled ≡ true → ramSource c (Mbc5 m) i ≡ Save (m .ram * 2 ^ 13 + low 13 i)
+  unfolding ramSource
+  ram h l t = cond-true (m .enabled) _ _ t ∙ ap (λ (a : ℕ). Save a) (ram-place (m .ram) i h l)
+
+  len : ramLen c (Mbc5 m) ≡ ramSize (c .code)
+  unfolding ramLen
+  len = ram-size (c .code)
 
 pub mbc5-rules : Mbc5Rules
 mbc5-rules =
@@ -101,7 +109,8 @@ mbc5-rules =
           only i (λ r. Does r c m v (after5 c m i v)) rows 0x0000 0x6000 refl (omega arith) h
           (in-enable c m v i, (in-low c m v i, (in-ninth c m v i, (in-ram c m v i, tt))));
       none = λ c m i v h. none c m v i h;
-      ram = ram;
+      off = λ c m i v h l f. ram-off c (Mbc5 m) i v (omega arith) (off c m i f);
+      ram = λ c m i v h l t. ram-at c (Mbc5 m) i v (omega arith) _ (len c m i) (ram c m i h l t);
     }
 
 -- over a list of writes: the two registers by rows are those of crate mbc, and `one-field` is of these

@@ -4,6 +4,7 @@ pub mod Map
 pub mod Ones
 pub mod LyLyc
 pub mod Banks
+pub mod RomOnly
 pub mod Mbc1
 pub mod Mbc2
 pub mod Mbc5

@@ -4,15 +4,13 @@ use mathlib.Core.List.{List, [], _∷_}
 use mathlib.Core.Path.{_≡_}
 use Prim.Native.Nat.{ℕ, _+_, _-_, _*_, _^_, _<_, _≤_}
 use lib.Dec.{eqb, ltb}
-use Rattle.mbc.specs.Mbc.{kindMbc1, start, romBank, afterAll, ramBanks, ramSource, answer, withRom, withRam, withMode, withEnabled, withHigh, after1}
+use Rattle.mbc.specs.Mbc.{kindMbc1, start, romBank, afterAll, ramBanks, withRom, withRam, withMode, withEnabled, withHigh, after1}
 use Rattle.mbc.specs.declared.cartridge.Cartridge.{Cartridge}
-use Rattle.mbc.specs.declared.mbc.Answer.the-variants.{NotStored}
 use Rattle.mbc.specs.declared.mbc.Mapper.the-variants.{Mbc1}
-use Rattle.mbc.specs.declared.mbc.Source.the-variants.{Save, Fixed}
 use Rattle.mbc.specs.declared.mbc1.Mbc1.{Mbc1 as Registers}
 use Rattle.pan_docs.specs.Bits.{bit, low}
 use Rattle.pan_docs.specs.Rows.{Row, row, Only, wroteAll}
-use Rattle.pan_docs.specs.Banks.{lowFourA, actsAsOne, Masked}
+use Rattle.pan_docs.specs.Banks.{lowFourA, actsAsOne, Masked, RamAt, RamOff}
 
 pub data Register : Type 0 where
   RamEnable RomBank UpperBits Mode : Register
@@ -59,11 +57,10 @@ Does Mode c m v t = c .code ≡ 3 → t ≡ withMode m (eqb (bit v 0) 1)
 pub record Mbc1Rules : Type 0 where
   pub registers : (c : Cartridge) (m : Registers) (index v : ℕ) → index < 0x8000 → Only rows index (λ r. Does r c m v (after1 c m index v))
   -- A000-BFFF: "RAM off reads FF, writes are ignored"
-  pub off : (c : Cartridge) (m : Registers) (index v : ℕ) → 0xA000 ≤ index → index ≤ 0xBFFF → m .enabled ≡ false
-      → (ramSource c (Mbc1 m) index ≡ Fixed 0xFF) × (answer c (Mbc1 m) index v ≡ NotStored)
+  pub off : (c : Cartridge) (m : Registers) (index v : ℕ) → 0xA000 ≤ index → index ≤ 0xBFFF → m .enabled ≡ false → RamOff c (Mbc1 m) index v
   -- on, it is the bank that the mode makes of the two bits, and in it the address's low 13 bits
-  pub ram : (c : Cartridge) (m : Registers) (index : ℕ) → 0xA000 ≤ index → index ≤ 0xBFFF → m .enabled ≡ true
-      → ramSource c (Mbc1 m) index ≡ Save (cond (m .mode) (m .ram) 0 * 2 ^ 13 + low 13 index)
+  pub ram : (c : Cartridge) (m : Registers) (index v : ℕ) → 0xA000 ≤ index → index ≤ 0xBFFF → m .enabled ≡ true
+      → RamAt c (Mbc1 m) index v (cond (m .mode) (m .ram) 0 * 2 ^ 13 + low 13 index)
 
 -- Over any list of writes: Pan Docs' two registers, whole as they were written
 

@@ -8,13 +8,12 @@ use lib.Dec.{ltb}
 use lib.ListN.{getD}
 use Rattle.mbc.specs.Mbc.{ramSource, answer, byteOf, after2}
 use Rattle.mbc.specs.declared.cartridge.Cartridge.{Cartridge}
-use Rattle.mbc.specs.declared.mbc.Answer.the-variants.{Stored, NotStored}
+use Rattle.mbc.specs.declared.mbc.Answer.the-variants.{Stored}
 use Rattle.mbc.specs.declared.mbc.Mapper.the-variants.{Mbc2}
-use Rattle.mbc.specs.declared.mbc.Source.the-variants.{Fixed}
 use Rattle.mbc.specs.declared.mbc2.Mbc2.{Mbc2 as Registers}
 use mathlib.Core.List.{List}
 use Rattle.pan_docs.specs.Bits.{bit, low}
-use Rattle.pan_docs.specs.Banks.{lowFourA, actsAsOne, Masked}
+use Rattle.pan_docs.specs.Banks.{lowFourA, actsAsOne, Masked, RamOff}
 
 -- four bits of the ROM bank
 abbrev pub four : ℕ → ℕ → ℕ
@@ -34,5 +33,4 @@ pub record Mbc2Rules : Type 0 where
       → byteOf rom save (ramSource c (Mbc2 m) index) ≡ low 4 (getD save (low 9 index) 0)
   pub stored : (c : Cartridge) (m : Registers) (index v : ℕ) → 0xA000 ≤ index → index ≤ 0xA1FF → m .enabled ≡ true
       → answer c (Mbc2 m) index v ≡ Stored (low 9 index) (low 4 v)
-  pub off : (c : Cartridge) (m : Registers) (index v : ℕ) → 0xA000 ≤ index → index ≤ 0xA1FF → m .enabled ≡ false
-      → (ramSource c (Mbc2 m) index ≡ Fixed 0xFF) × (answer c (Mbc2 m) index v ≡ NotStored)
+  pub off : (c : Cartridge) (m : Registers) (index v : ℕ) → 0xA000 ≤ index → index ≤ 0xA1FF → m .enabled ≡ false → RamOff c (Mbc2 m) index v

@@ -1,18 +1,17 @@
 -- Pan Docs, "MBC5", against crate mbc's rules.
-use mathlib.Core.Bool.{true, cond}
+use mathlib.Core.Bool.{true, false, cond}
 use mathlib.Core.List.{List, [], _∷_}
 use mathlib.Core.Path.{_≡_}
 use Prim.Native.Nat.{ℕ, _+_, _*_, _^_, _<_, _≤_}
 use lib.Dec.{eqb, ltb}
 use Rattle.mbc.specs.Mbc.{Apart, apartOf, kindMbc5, described, start, romBank}
-use Rattle.mbc.specs.Mbc.{afterAll, ramBanks, ramSource, withRom5, withRam5, withEnabled5, after5}
+use Rattle.mbc.specs.Mbc.{afterAll, ramBanks, withRom5, withRam5, withEnabled5, after5}
 use Rattle.mbc.specs.declared.cartridge.Cartridge.{Cartridge}
 use Rattle.mbc.specs.declared.mbc.Mapper.the-variants.{Mbc5}
-use Rattle.mbc.specs.declared.mbc.Source.the-variants.{Save}
 use Rattle.mbc.specs.declared.mbc5.Mbc5.{Mbc5 as Registers}
 use Rattle.pan_docs.specs.Bits.{bit, low}
 use Rattle.pan_docs.specs.Rows.{Row, row, Only, wroteAll}
-use Rattle.pan_docs.specs.Banks.{lowFourA, Masked}
+use Rattle.pan_docs.specs.Banks.{lowFourA, Masked, RamAt, RamOff}
 
 pub data Register : Type 0 where
   RamEnable LowEight Ninth RamBank : Register
@@ -46,9 +45,11 @@ pub record Mbc5Rules : Type 0 where
   pub registers : (c : Cartridge) (m : Registers) (index v : ℕ) → index < 0x6000 → Only rows index (λ r. Does r c m v (after5 c m index v))
   -- 6000-7FFF has no register
   pub none : (c : Cartridge) (m : Registers) (index v : ℕ) → 0x6000 ≤ index → after5 c m index v ≡ m
-  -- A000-BFFF, enabled: the bank that is selected, and in it the address's low 13 bits
-  pub ram : (c : Cartridge) (m : Registers) (index : ℕ) → 0xA000 ≤ index → index ≤ 0xBFFF → m .enabled ≡ true
-      → ramSource c (Mbc5 m) index ≡ Save (m .ram * 2 ^ 13 + low 13 index)
+  -- A000-BFFF, off: as with MBC1 (document 02, wish 2: "RAM codes .. and RAM enabling are as with Mbc1")
+  pub off : (c : Cartridge) (m : Registers) (index v : ℕ) → 0xA000 ≤ index → index ≤ 0xBFFF → m .enabled ≡ false → RamOff c (Mbc5 m) index v
+  -- on: the bank that is selected, and in it the address's low 13 bits
+  pub ram : (c : Cartridge) (m : Registers) (index v : ℕ) → 0xA000 ≤ index → index ≤ 0xBFFF → m .enabled ≡ true
+      → RamAt c (Mbc5 m) index v (m .ram * 2 ^ 13 + low 13 index)
 
 -- Over any list of writes: Pan Docs' two registers, whole as they were written, "bank 0 is bank 0"; they start at bank 1 (document 01)
 abbrev pub wrote : Register → Apart → ℕ → Apart

@@ -1,4 +1,4 @@
--- The theorems of this crate. Each file is of one section of Pan Docs, quotes it, and says where document 01 departs.
+-- The theorems of this crate. Each file is of one section of Pan Docs, quotes it, and says where document 01 departs; RomOnly is document 01's.
 use Rattle.pan_docs.specs.Colour.{ColourRegisters}
 use Rattle.pan_docs.specs.Interrupts.{InterruptBits}
 use Rattle.pan_docs.specs.Joypad.{JoypadBits}
@@ -9,6 +9,7 @@ use Rattle.pan_docs.specs.Mbc2.{Mbc2Rules}
 use Rattle.pan_docs.specs.Mbc5.{Mbc5Rules, Mbc5Writes}
 use Rattle.pan_docs.specs.Ones.{BitsThatReadOne}
 use Rattle.pan_docs.specs.Palettes.{PaletteBits}
+use Rattle.pan_docs.specs.RomOnly.{RomOnlyRules}
 use Rattle.pan_docs.specs.Timer.{TimerBits}
 use Rattle.pan_docs.specs.Transfers.{TransferRegisters}
 
@@ -22,6 +23,7 @@ pub record PanDocs : Type 0 where
   pub timer : TimerBits
   pub interrupts : InterruptBits
   pub joypad : JoypadBits
+  pub rom-only : RomOnlyRules
   pub mbc1 : Mbc1Rules
   pub mbc1-writes : Mbc1Writes
   pub mbc2 : Mbc2Rules

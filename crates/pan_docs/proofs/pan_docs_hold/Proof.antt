@@ -10,6 +10,7 @@ use Rattle.pan_docs.proofs.Mbc2.{mbc2-rules}
 use Rattle.pan_docs.proofs.Mbc5.{mbc5-rules, mbc5-writes}
 use Rattle.pan_docs.proofs.Ones.{bits-that-read-one}
 use Rattle.pan_docs.proofs.Palettes.{palette-bits}
+use Rattle.pan_docs.proofs.RomOnly.{rom-only-rules}
 use Rattle.pan_docs.proofs.Timer.{timer-bits}
 use Rattle.pan_docs.proofs.Transfers.{transfer-registers}
 use Rattle.pan_docs.proofs.pan_docs_hold.Statement.{statement}
@@ -27,6 +28,7 @@ returns c =
       timer = timer-bits;
       interrupts = interrupt-bits;
       joypad = joypad-bits;
+      rom-only = rom-only-rules;
       mbc1 = mbc1-rules;
       mbc1-writes = mbc1-writes;
       mbc2 = mbc2-rules;
