@@ -92,5 +92,14 @@ in-monochrome m sound e =
     rw e
     (full (loaded m 0x69), (full (loaded m 0x6B), (full (loaded m 0x70), (full (loaded m 0x76), (full (loaded m 0x77), tt)))))
 
+module _ (m : Memory) (sound : List ℕ) where
+  zeros : m .core .banks .colour ≡ true → (readRegister m sound 0x76 ≡ 0x00) × (readRegister m sound 0x77 ≡ 0x00)
+  unfolding readRegister shownAs byKind
+  zeros e = rw e (refl, refl)
+
+  two-ones : m .core .banks .colour ≡ false → (readRegister m sound 0x68 ≡ 0xC0) × (readRegister m sound 0x6A ≡ 0xC0)
+  unfolding readRegister shownAs byKind
+  two-ones e = rw e (refl, refl)
+
 pub bits-that-read-one : BitsThatReadOne
-bits-that-read-one = record { always = always; colour = in-colour; monochrome = in-monochrome }
+bits-that-read-one = record { always = always; colour = in-colour; monochrome = in-monochrome; zero = zeros; two-ones = two-ones }

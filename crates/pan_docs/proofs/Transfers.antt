@@ -140,6 +140,10 @@ module _ (h : Hdma) (mode v : ℕ) where
   unfolding starts firstBlock
   hblank o e = rw (o, bit-on e)
 
+  still : h .on ≡ true → bit v 7 ≡ 1 → starts h mode v ≡ Set (running h v)
+  unfolding starts
+  still o e = rw (o, bit-on e)
+
   stops : h .on ≡ true → bit v 7 ≡ 0 → starts h mode v ≡ Set (stopped h)
   unfolding starts
   stops o e = rw (o, bit-off e)
@@ -154,6 +158,8 @@ transfer-registers =
       length = λ v. ap (λ (x : ℕ). (x + 1) * 16) (sym (low-mod 7 v));
       general = general;
       hblank = hblank;
+      still = still;
+      running-on = λ h v. record { is = refl; shows = sym (low-mod 7 v); source = refl; destination = refl };
       stops = stops;
-      stopped-off = λ h. refl;
+      stopped-off = λ h. record { is = refl; shows = refl; source = refl; destination = refl };
     }

@@ -44,7 +44,7 @@ colourOnes =
     ∷ ones 0x70 (6 ∷ [])
     ∷ []
 
--- "Monochrome: C0, FF, FF, FF in that order": FF69, FF6B, FF70, FF76, FF77 (FF68 and FF6A give C0, whatever is stored)
+-- "Monochrome: C0, FF, FF, FF in that order": these give FF (FF68 and FF6A C0)
 abbrev pub monochromeOnes : List Ones
 monochromeOnes =
     ones 0x69 allEight ∷ ones 0x6B allEight ∷ ones 0x70 allEight ∷ ones 0x76 allEight ∷ ones 0x77 allEight ∷ []
@@ -62,3 +62,8 @@ pub record BitsThatReadOne : Type 0 where
   pub always : (m : Memory) (sound : List ℕ) → Every (ReadsSo m sound) alwaysOnes
   pub colour : (m : Memory) (sound : List ℕ) → m .core .banks .colour ≡ true → Every (ReadsSo m sound) colourOnes
   pub monochrome : (m : Memory) (sound : List ℕ) → m .core .banks .colour ≡ false → Every (ReadsSo m sound) monochromeOnes
+  -- what reads one byte, whatever is stored: "FF76 and FF77 0" in colour, FF68 and FF6A "C0" in monochrome
+  pub zero : (m : Memory) (sound : List ℕ) → m .core .banks .colour ≡ true
+      → (readRegister m sound 0x76 ≡ 0x00) × (readRegister m sound 0x77 ≡ 0x00)
+  pub two-ones : (m : Memory) (sound : List ℕ) → m .core .banks .colour ≡ false
+      → (readRegister m sound 0x68 ≡ 0xC0) × (readRegister m sound 0x6A ≡ 0xC0)

@@ -1,5 +1,5 @@
 -- Pan Docs, "CGB Registers": FF51..FF55, of a byte write to the page on a colour machine.
-use mathlib.Core.Bool.{true, false, cond}
+use mathlib.Core.Bool.{Bool, true, false, cond}
 use mathlib.Core.Logic.{_⊎_}
 use mathlib.Core.Path.{_≡_}
 use Prim.Native.Nat.{ℕ, _+_, _-_, _*_, _<_, _≤_}
@@ -8,6 +8,7 @@ use Rattle.hdma.specs.Hdma.{starts, running, stopped}
 use Rattle.hdma.specs.PanDocs.{lengthOf}
 use Rattle.hdma.specs.declared.Hdma.{Hdma}
 use Rattle.hdma.specs.declared.Start.the-variants.{Set, Block, General}
+use Rattle.hdma.specs.declared.Written.{Written}
 use Rattle.memory.specs.declared.Memory.{Memory}
 use Rattle.registers.specs.Page.{writeRegister}
 use Rattle.pan_docs.specs.Bits.{bit, low}
@@ -24,6 +25,13 @@ destinationBits highs lows j =
 -- the high byte of an address
 abbrev pub highByte : ℕ → ℕ → ℕ
 highByte a k = bit a (8 + k)
+
+-- HDMA is on or off, a byte is stored in FF55, and the addresses stay
+pub record Switched (h : Hdma) (w : Written) (on : Bool) (byte : ℕ) : Type 0 where
+  pub is : w .hdma .on ≡ on
+  pub shows : w .byte ≡ byte
+  pub source : w .hdma .source ≡ h .source
+  pub destination : w .hdma .destination ≡ h .destination
 
 pub record TransferRegisters : Type 0 where
   -- departs: FF51 given 80..BF becomes 00 (document 01); Pan Docs have A000-DFF0 among the sources
@@ -42,6 +50,9 @@ pub record TransferRegisters : Type 0 where
   -- "at 1 sixteen bytes at each HBlank": HDMA is on from now on; that a first block goes at once in mode 0 is the Rust's
   pub hblank : (h : Hdma) (mode v : ℕ) → h .on ≡ false → bit v 7 ≡ 1
       → starts h mode v ≡ cond (eqb mode 0) (Block (running h v)) (Set (running h v))
-  -- "bit 7 at 0 written while an HBlank transfer runs stops it"
+  pub still : (h : Hdma) (mode v : ℕ) → h .on ≡ true → bit v 7 ≡ 1 → starts h mode v ≡ Set (running h v)
+  -- document 01: "bit 7 set stores the low 7 bits"
+  pub running-on : (h : Hdma) (v : ℕ) → Switched h (running h v) true (low 7 v)
+  -- "bit 7 at 0 written while an HBlank transfer runs stops it"; document 01: "bit 7 clear stores FF and stops"
   pub stops : (h : Hdma) (mode v : ℕ) → h .on ≡ true → bit v 7 ≡ 0 → starts h mode v ≡ Set (stopped h)
-  pub stopped-off : (h : Hdma) → stopped h .hdma .on ≡ false
+  pub stopped-off : (h : Hdma) → Switched h (stopped h) false 0xFF
