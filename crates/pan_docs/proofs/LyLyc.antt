@@ -1,19 +1,18 @@
 -- LY = LYC, by the four ways that the comparison goes: other lines, a source that is not selected, a signal that stands, and a request.
-use mathlib.Core.Bool.{Bool, true, false, cond, _&&_}
+use mathlib.Core.Bool.{Bool, true, false, cond, not, _&&_, _||_, and-true}
 use mathlib.Core.Path.{_≡_, refl, sym, ap, _∙_, subst}
 use Prim.Native.Nat.{ℕ, _+_, _-_, _*_, _/_, _%_, _<_, _≤_}
 use native.Mathlib.Omega.{arith}
-use lib.Bits.{bitAnd, and-zero-l}
-use lib.Dec.{eqb}
-use borrow.Author.Tests.{eqb-true, eqb-false, eq-eqb, ne-eqb, lt-ltb}
+use lib.Dec.{eqb, ltb}
+use borrow.Author.Tests.{eqb-true, eqb-false, eq-eqb, ne-eqb, ltb-true, not-true}
 use Rattle.bit_utils.specs.Bits.{isSet, setBit}
 use Rattle.lcd.specs.Lcd.{with-compare, lcdRequested, lycSignalled, lyEqual, lyDiffers}
 use Rattle.lcd.specs.Lcd.{lyCompared, lycWritten, statusPut, modeSignalled, statusWritten}
 use Rattle.lcd.specs.PanDocs.{modeSelected}
 use Rattle.lcd.specs.declared.Screen.{Screen}
-use Rattle.rules.proofs.Tests.{by-cond, cond-both, cond-true, cond-false, untrue}
+use Rattle.rules.proofs.Tests.{by-cond, cond-both, cond-true, cond-false, untrue, both-true, neither}
 use Rattle.pan_docs.specs.Bits.{bit}
-use Rattle.pan_docs.specs.LyLyc.{equal, raises, on, Compared, StatusBits, LyIsLyc}
+use Rattle.pan_docs.specs.LyLyc.{equal, raises, noSignal, modeRaises, lycRaises, statusRaises, on, Compared, StatusBits, LyIsLyc}
 use Rattle.pan_docs.proofs.Bits.{is-set, bit-below, bit-shifted, bit-left}
 use Rattle.pan_docs.proofs.Bits.{bit-right, bit-set-here, bit-set-other, bit-unset-here, bit-unset-other}
 
@@ -121,6 +120,23 @@ lyc-same s v e = cond-true _ s _ (eq-eqb (s .compare) v e)
 
 -- FF41
 
+-- no source requests: neither the mode's, nor LYC's
+and-none : (a b c : Bool) → (a && (b && (c && false))) ≡ false
+and-none false b c = refl
+and-none true false c = refl
+and-none true true false = refl
+and-none true true true = refl
+
+no-source : (z m d e l : Bool) → (z && (m || (d && (e && l)))) ≡ false → ((z && m) ≡ false) × ((d && (e && (l && z))) ≡ false)
+no-source false m d e l h = (refl, and-none d e l)
+no-source true m d e l h =
+    let n = neither m _ h in
+    (n .0, ap (λ (b : Bool). d && (e && b)) (and-true l) ∙ n .1)
+
+neither-arm : {A : Type 0} (a b : Bool) (x y : A) → (a && b) ≡ false → cond a (cond b x y) y ≡ y
+neither-arm false b x y h = refl
+neither-arm true b x y h = cond-false b x y h
+
 module _ (status v : ℕ) where
   read-only : (k : ℕ) → k < 3 → bit (v / 8 % 16 * 8 + status % 8) k ≡ bit status k
   read-only k h = bit-right (v / 8 % 16) 3 {r = status % 8} (omega arith) k h ∙ bit-below status 3 k h
@@ -203,18 +219,78 @@ module _ (s : Screen) (v : ℕ) where
       by-disabled true d = ap (λ (u : Screen). bit (u .flags) 1) (disabled t d) ∙ e
       by-disabled false d = by-raises d (raises t) refl
 
-  mode-source : bit (s .control) 7 ≡ 1 → s .lcd .signal ≡ 0 → s .lcd .mode < 3 → bit v (3 + s .lcd .mode) ≡ 1 → bit (statusWritten s v .flags) 1 ≡ 1
-  unfolding statusWritten modeSignalled modeSelected
-  mode-source o z l e =
-      let t = statusPut s v in
-      let none : eqb (t .lcd .signal) 0 ≡ true = eq-eqb _ 0 (ap (λ (x : ℕ). bitAnd x (v / 8 % 16)) z ∙ and-zero-l (v / 8 % 16)) in
-      let chosen : isSet (t .status) (3 + s .lcd .mode) ≡ true =
-      is-set (t .status) (3 + s .lcd .mode) ∙ eq-eqb _ 1 (selected (s .status) v (3 + s .lcd .mode) (omega arith) (omega arith) ∙ e)
-      in
-      let m : modeSelected (t .status) (t .lcd .mode) ≡ true = cond-true _ _ _ (lt-ltb (s .lcd .mode) 3 l) ∙ chosen in
-      let r : modeSignalled t ≡ lcdRequested t = cond-true _ _ _ none ∙ cond-true _ _ _ m in
-      ap (λ (u : Screen). bit (u .flags) 1) (cond-true _ (lyCompared (modeSignalled t)) _ (shows-on s o))
-      ∙ stays-requested (modeSignalled t) (ap (λ (u : Screen). bit (u .flags) 1) r ∙ bit-set-here (s .flags % 32) 1)
+  abbrev put : Screen
+  put = statusPut s v
+
+  lyc-source : eqb (bit (put .status) 6) 1 ≡ eqb (bit v 6) 1
+  lyc-source = ap (λ (b : ℕ). eqb b 1) (selected (s .status) v 6 (omega arith) (omega arith))
+
+  mode-source-by : (b : Bool) → ltb (s .lcd .mode) 3 ≡ b
+      → cond b (isSet (put .status) (3 + s .lcd .mode)) false ≡ (b && eqb (bit v (3 + s .lcd .mode)) 1)
+  mode-source-by true t =
+      let l = ltb-true (s .lcd .mode) 3 t in
+      is-set (put .status) (3 + s .lcd .mode)
+      ∙ ap (λ (b : ℕ). eqb b 1) (selected (s .status) v (3 + s .lcd .mode) (omega arith) (omega arith))
+  mode-source-by false f = refl
+
+  mode-source : modeSelected (put .status) (s .lcd .mode) ≡ modeRaises s v
+  unfolding modeSelected
+  mode-source = mode-source-by (ltb (s .lcd .mode) 3) refl
+
+  -- the mode's part
+  mode-signals : modeSignalled put ≡ cond (noSignal s v) (cond (modeRaises s v) (lcdRequested put) put) put
+  unfolding modeSignalled
+  mode-signals = ap (λ (b : Bool). cond (noSignal s v) (cond b (lcdRequested put) put) put) mode-source
+
+  shown : isSet (s .control) 7 ≡ true → statusWritten s v ≡ lyCompared (modeSignalled put)
+  unfolding statusWritten
+  shown t = cond-true _ _ _ t
+
+  hidden : isSet (s .control) 7 ≡ false → statusWritten s v ≡ put
+  unfolding statusWritten
+  hidden f = cond-false _ _ _ f
+
+  -- the comparison's: of what the mode left, where that requested nothing
+  raises-put : raises put ≡ (equal s && (eqb (bit v 6) 1 && noSignal s v))
+  raises-put = ap (λ (b : Bool). equal s && (b && noSignal s v)) lyc-source
+
+  compare-quiet : (b : Bool) → s .lcd .disabled ≡ b → (not b && (equal s && (eqb (bit v 6) 1 && noSignal s v))) ≡ false
+      → lyCompared put .flags ≡ s .flags
+  compare-quiet true d e = ap (λ (u : Screen). u .flags) (disabled put d)
+  compare-quiet false d e = compared put d .not-requested (raises-put ∙ e)
+
+  status-quiet : statusRaises s v ≡ false → statusWritten s v .flags ≡ s .flags
+  status-quiet r = by-shown (isSet (s .control) 7) refl
+    where
+      by-shown : (b : Bool) → isSet (s .control) 7 ≡ b → statusWritten s v .flags ≡ s .flags
+      by-shown true t =
+          let on-true : eqb (bit (s .control) 7) 1 ≡ true = sym (is-set (s .control) 7) ∙ t in
+          let q =
+          no-source (noSignal s v) (modeRaises s v) (not (s .lcd .disabled)) (equal s) (eqb (bit v 6) 1)
+          (sym (ap (λ (b : Bool). b && (noSignal s v && (modeRaises s v || lycRaises s v))) on-true) ∙ r)
+          in
+          ap (λ (u : Screen). u .flags) (shown t)
+          ∙ ap (λ (u : Screen). lyCompared u .flags) (mode-signals ∙ neither-arm (noSignal s v) (modeRaises s v) (lcdRequested put) put (q .0))
+          ∙ compare-quiet (s .lcd .disabled) refl (q .1)
+      by-shown false f = ap (λ (u : Screen). u .flags) (hidden f)
+
+  status-requests : statusRaises s v ≡ true → bit (statusWritten s v .flags) 1 ≡ 1
+  status-requests r =
+      let p = both-true (eqb (bit (s .control) 7) 1) _ r in
+      let q = both-true (noSignal s v) _ (p .1) in
+      ap (λ (u : Screen). bit (u .flags) 1) (shown (is-set (s .control) 7 ∙ p .0)) ∙ by-mode (q .0) (modeRaises s v) refl (q .1)
+    where
+      by-mode : noSignal s v ≡ true → (b : Bool) → modeRaises s v ≡ b → (b || lycRaises s v) ≡ true
+          → bit (lyCompared (modeSignalled put) .flags) 1 ≡ 1
+      by-mode z true m e =
+          let u : modeSignalled put ≡ lcdRequested put = mode-signals ∙ cond-true _ _ _ z ∙ cond-true _ _ _ m in
+          stays-requested (modeSignalled put) (ap (λ (u : Screen). bit (u .flags) 1) u ∙ bit-set-here (s .flags % 32) 1)
+      by-mode z false m e =
+          let u : modeSignalled put ≡ put = mode-signals ∙ cond-true _ _ _ z ∙ cond-false _ _ _ m in
+          let a = both-true (not (s .lcd .disabled)) _ e in
+          let b = both-true (equal s) _ (a .1) in
+          let y : raises put ≡ true = raises-put ∙ rw (b .0, b .1, z) in
+          ap (λ (u : Screen). bit (lyCompared u .flags) 1) u ∙ compared put (not-true _ (a .0)) .requested y
 
 pub ly-is-lyc : LyIsLyc
 ly-is-lyc =
@@ -227,5 +303,6 @@ ly-is-lyc =
       status-written = status-written;
       status-equal = status-equal;
       status-off = status-off;
-      mode-source = mode-source;
+      status-requests = status-requests;
+      status-quiet = status-quiet;
     }

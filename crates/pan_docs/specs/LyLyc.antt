@@ -1,9 +1,10 @@
 -- Pan Docs, "LCD Status Registers": of FF41 "bits 6..3 select the interrupt sources LYC, mode 2, mode 1, mode 0; bit 2 is LY = LYC, bits 1..0 the
 -- mode, both read-only"; "FF45 LYC is compared with" LY. The comparison is the Rust's `compare_ly_to_lyc`; LY is the scan line that the host sets.
-use mathlib.Core.Bool.{Bool, true, false, cond, _&&_}
+use mathlib.Core.Bool.{Bool, true, false, cond, not, _&&_, _||_}
 use mathlib.Core.Path.{_≡_}
-use Prim.Native.Nat.{ℕ, _+_, _<_, _≤_}
-use lib.Dec.{eqb}
+use Prim.Native.Nat.{ℕ, _+_, _/_, _%_, _<_, _≤_}
+use lib.Bits.{bitAnd}
+use lib.Dec.{eqb, ltb}
 use Rattle.lcd.specs.Lcd.{with-compare, lyCompared, lycWritten, statusWritten}
 use Rattle.lcd.specs.declared.Screen.{Screen}
 use Rattle.pan_docs.specs.Bits.{bit}
@@ -27,6 +28,21 @@ pub record Compared (s t : Screen) : Type 0 where
   pub lyc : t .compare ≡ s .compare
   pub control : t .control ≡ s .control
 
+-- A write of v to FF41 requests the LCD interrupt: with the display on, where no signal stands that is still selected (that one is the Rust's), and
+-- "the interrupt sources .. mode 2, mode 1, mode 0", of which bit 3 + n is mode n's, or LYC's, bit 6, does
+
+abbrev pub noSignal : Screen → ℕ → Bool
+noSignal s v = eqb (bitAnd (s .lcd .signal) (v / 8 % 16)) 0
+
+abbrev pub modeRaises : Screen → ℕ → Bool
+modeRaises s v = ltb (s .lcd .mode) 3 && eqb (bit v (3 + s .lcd .mode)) 1
+
+abbrev pub lycRaises : Screen → ℕ → Bool
+lycRaises s v = not (s .lcd .disabled) && (equal s && eqb (bit v 6) 1)
+
+abbrev pub statusRaises : Screen → ℕ → Bool
+statusRaises s v = eqb (bit (s .control) 7) 1 && (noSignal s v && (modeRaises s v || lycRaises s v))
+
 -- t is s after a write of FF41
 pub record StatusBits (s t : Screen) (value : ℕ) : Type 0 where
   pub sources : (k : ℕ) → 3 ≤ k → k ≤ 6 → bit (t .status) k ≡ bit value k
@@ -49,6 +65,6 @@ pub record LyIsLyc : Type 0 where
   pub status-written : (s : Screen) (v : ℕ) → StatusBits s (statusWritten s v) v
   pub status-equal : (s : Screen) (v : ℕ) → on s → bit (statusWritten s v .status) 2 ≡ cond (equal s) 1 0
   pub status-off : (s : Screen) (v : ℕ) → bit (s .control) 7 ≡ 0 → bit (statusWritten s v .status) 2 ≡ bit (s .status) 2
-  -- "the interrupt sources .. mode 2, mode 1, mode 0": bit 3 + n is mode n's; written while that mode stands and no signal does, it requests
-  pub mode-source : (s : Screen) (v : ℕ) → bit (s .control) 7 ≡ 1 → s .lcd .signal ≡ 0 → s .lcd .mode < 3 → bit v (3 + s .lcd .mode) ≡ 1
-      → bit (statusWritten s v .flags) 1 ≡ 1
+  -- and LCD is requested just then
+  pub status-requests : (s : Screen) (v : ℕ) → statusRaises s v ≡ true → bit (statusWritten s v .flags) 1 ≡ 1
+  pub status-quiet : (s : Screen) (v : ℕ) → statusRaises s v ≡ false → statusWritten s v .flags ≡ s .flags
