@@ -12,16 +12,17 @@ use Rattle.rules.proofs.Tests.{untrue}
 use Rattle.commands.specs.Walk.{commandOf, readLine, writeLine, updateLine, strangeText}
 use Rattle.commands.specs.declared.command.Command.{Command}
 use Rattle.commands.specs.declared.command.Command.the-variants.{Strange}
-use Rattle.lines.specs.Reader.{linesOf, fed, pending, lineIn, Finds, Ended, Last, Came, Dropped}
-use Rattle.lines.specs.Reader as reader
+use Rattle.lines.specs.Reader.{linesOf, fed, pending, lineIn, Finds, FoundAs}
 use Rattle.lines.specs.declared.reader.Found.{Found}
 use Rattle.lines.specs.declared.reader.Found.the-variants.{Line, Long, Read, End}
+use Rattle.lines.specs.declared.reader.Reader.{Reader}
 use Rattle.lines.specs.declared.reader.Step.{Step}
 use Rattle.lines.proofs.Reading.{lines-cut, lines-before, before}
 use Rattle.memory.specs.World.{World, Fixed, world}
 use Rattle.memory.specs.declared.Memory.{Memory}
 use Rattle.walk.specs.Line.{Walked, walked, walkedBy, lineWalked}
-use Rattle.walk.specs.Walk.{after, walkLines, walkAll, oneLine, longFirst, onward, Place, place, ahead, Coming, Goes, Over, Stepped, Ran, Whole}
+use Rattle.walk.specs.Walk.{after, walkLines, walkAll, oneLine, longFirst, onward, Place, place, ahead, Coming, Goes, Over}
+use Rattle.walk.specs.Walk.{onto, placeBy, goesOn, ByReader, Stepped, Shown, Ran, Whole}
 
 -- Texts
 
@@ -198,82 +199,112 @@ walked-same v w s l e f = rw (e, f)
 
 -- A step of the reader
 
-module _ (p : List ℕ) (m : Bool) (bytes : List ℕ) (s : Step) (found : Finds p m bytes s) where
-  found-line : s .found ≡ Line → Ended p m bytes s ⊎ Last p m bytes s
-  found-line e = subst (λ (f : Found). reader.FoundAs f p m bytes s) e found
+module _ (x : Fixed) (w : World) (t : List ℕ) (long : Bool) (p : List ℕ) (m : Bool) (bytes : List ℕ) (s : Step) where
+  -- what it found leads on
+  goes-by : (f : Found) → FoundAs f p m bytes s → 12 < length bytes
+      → Goes x [] (place w t long p m) (placeBy f x (place w t long p m) bytes s)
+  goes-by Line (inl c) h =
+      let a = after t (oneLine x w long (lineIn bytes s)) in
+      rw (c .stays) (goes-line x w t long (lineIn bytes s) p (pending bytes (s .next)) (a .text) (a .after) m (c .cut) (c .clear) refl)
+  goes-by Line (inr c) h =
+      let a = after t (oneLine x w long (lineIn bytes s)) in
+      rw (c .ended, c .stays)
+      (goes-last x w t long p (pending bytes (s .next)) (a .text) (a .after) (c .clear) (c .some) (c .none)
+      (ap (λ (l : List ℕ). after t (oneLine x w long l)) (c .all)))
+  goes-by Long c h =
+      rw (c .reads, c .stays) (goes-long x w t long p (pending bytes (s .next)) (omega (arith, c .full)) (c .clear) (c .none))
+  goes-by Read c h = rw (c .reads) (goes-read x w t long p (c .new) (pending bytes (s .next)) (s .next .more) (c .behind))
+  goes-by End c h =
+      rw (c .ended, c .stays)
+      (goes-end x w t long p (pending bytes (s .next)) (t ++ cond long strangeText []) (c .nothing) (c .none) refl)
 
-  found-read : s .found ≡ Read → Came p m bytes s
-  found-read e = subst (λ (f : Found). reader.FoundAs f p m bytes s) e found
+  -- it ends the walk at the input's end alone
+  over-by : (f : Found) → FoundAs f p m bytes s → goesOn f ≡ false → Over (placeBy f x (place w t long p m) bytes s)
+  over-by Line c e = untrue (sym e)
+  over-by Long c e = untrue (sym e)
+  over-by Read c e = untrue (sym e)
+  over-by End c e = (c .stays, (refl, c .none))
 
-  found-long : s .found ≡ Long → Dropped p m bytes s
-  found-long e = subst (λ (f : Found). reader.FoundAs f p m bytes s) e found
-
-  found-end : s .found ≡ End → reader.Over p m bytes s
-  found-end e = subst (λ (f : Found). reader.FoundAs f p m bytes s) e found
-
-  module _ (x : Fixed) (w : World) (t : List ℕ) (long lost : Bool) (kept : lost ≡ false) where
-    stepping : (q : Place) → Goes x [] (place w t long p m) q → Stepped x lost (place w t long p m) true false q
-    stepping q g = record { goes = g; ends = λ e. untrue (sym e); stops = λ e. untrue (sym kept ∙ e) }
-
-    pub step-read : s .found ≡ Read → Stepped x lost (place w t long p m) true false (place w t long (pending bytes (s .next)) (s .next .more))
-    step-read e =
-        let c = found-read e in
-        stepping (place w t long (pending bytes (s .next)) (s .next .more))
-        (rw (c .reads) (goes-read x w t long p (c .new) (pending bytes (s .next)) (s .next .more) (c .behind)))
-
-    pub step-long : s .found ≡ Long → 12 < length bytes
-        → Stepped x lost (place w t long p m) true false (place w t true (pending bytes (s .next)) (s .next .more))
-    step-long e h =
-        let c = found-long e in
-        stepping (place w t true (pending bytes (s .next)) (s .next .more))
-        (rw (c .reads, c .stays) (goes-long x w t long p (pending bytes (s .next)) (omega (arith, c .full)) (c .clear) (c .none)))
-
-    module _ (t′ : List ℕ) (w′ : World) (said : walked t′ w′ ≡ after t (oneLine x w long (lineIn bytes s))) where
-      by-line : Ended p m bytes s ⊎ Last p m bytes s → Goes x [] (place w t long p m) (place w′ t′ false (pending bytes (s .next)) (s .next .more))
-      by-line (inl c) = rw (c .stays) (goes-line x w t long (lineIn bytes s) p (pending bytes (s .next)) t′ w′ m (c .cut) (c .clear) said)
-      by-line (inr c) =
-          rw (c .ended, c .stays)
-          (goes-last x w t long p (pending bytes (s .next)) t′ w′ (c .clear) (c .some) (c .none) (rw (c .all) at said))
-
-      pub step-line : s .found ≡ Line → Stepped x lost (place w t long p m) true false (place w′ t′ false (pending bytes (s .next)) (s .next .more))
-      step-line e = stepping (place w′ t′ false (pending bytes (s .next)) (s .next .more)) (by-line (found-line e))
-
-    pub step-end : (t′ : List ℕ) (w′ : World) → w′ ≡ w → t′ ≡ t ++ cond long strangeText [] → s .found ≡ End
-        → Stepped x lost (place w t long p m) false false (place w′ t′ false (pending bytes (s .next)) (s .next .more))
-    step-end t′ w′ e f g =
-        let c = found-end g in
+  -- a step by what the reader found
+  module _ (found : Finds p m bytes s) (lost : Bool) (kept : lost ≡ false) where
+    stepped : (f : Found) (q : Place) → s .found ≡ f → q ≡ placeBy f x (place w t long p m) bytes s
+        → Stepped x lost (place w t long p m) bytes (goesOn f) false q
+    stepped f q e g =
         record {
-          goes = rw (e, c .ended, c .stays) (goes-end x w t long p (pending bytes (s .next)) t′ (c .nothing) (c .none) f);
-          ends = λ _ _. (c .stays, (refl, c .none));
-          stops = λ _. refl;
+          told = sym kept;
+          stops = λ l. untrue (sym kept ∙ l);
+          reads = λ _.
+              record {
+                step = s;
+                finds = found;
+                on = ap goesOn (sym e);
+                leads = subst (λ (k : Found). q ≡ placeBy k x (place w t long p m) bytes s) (sym e) g;
+              };
         }
 
-pub step-lost : (x : Fixed) (w : World) (t : List ℕ) (long lost : Bool) (rest : List ℕ) (more : Bool)
-    → Stepped x lost (place w t long rest more) false true (place w t long rest more)
-step-lost x w t long lost rest more =
-    record { goes = goes-nowhere x w t long rest more; ends = λ _ e. untrue (sym e); stops = λ _. refl }
+    pub step-read : s .found ≡ Read
+        → Stepped x lost (place w t long p m) bytes true false (place w t long (pending bytes (s .next)) (s .next .more))
+    step-read e = stepped Read (onto bytes s long (walked t w)) e refl
+
+    pub step-long : s .found ≡ Long
+        → Stepped x lost (place w t long p m) bytes true false (place w t true (pending bytes (s .next)) (s .next .more))
+    step-long e = stepped Long (onto bytes s true (walked t w)) e refl
+
+    pub step-line : (t′ : List ℕ) (w′ : World) → walked t′ w′ ≡ after t (oneLine x w long (lineIn bytes s)) → s .found ≡ Line
+        → Stepped x lost (place w t long p m) bytes true false (place w′ t′ false (pending bytes (s .next)) (s .next .more))
+    step-line t′ w′ a e = stepped Line (onto bytes s false (walked t′ w′)) e (ap (onto bytes s false) a)
+
+    pub step-end : (t′ : List ℕ) (w′ : World) → w′ ≡ w → t′ ≡ t ++ cond long strangeText [] → s .found ≡ End
+        → Stepped x lost (place w t long p m) bytes false false (place w′ t′ false (pending bytes (s .next)) (s .next .more))
+    step-end t′ w′ a b e = stepped End (onto bytes s false (walked t′ w′)) e (rw (a, b))
+
+pub step-lost : (x : Fixed) (p : Place) (bytes : List ℕ) (lost : Bool) → lost ≡ true → Stepped x lost p bytes false true p
+step-lost x p bytes lost e =
+    record { told = sym e; stops = λ _. (refl, refl); reads = λ k. untrue (sym k ∙ e) }
+
+-- a step goes from its place to the next, and ends the walk where the input has ended and all of it is answered
+by-reader : (x : Fixed) (p : Place) (bytes : List ℕ) (more : Bool) (q : Place) → ByReader x p bytes more q → 12 < length bytes
+    → Goes x [] p q × (more ≡ false → Over q)
+by-reader x p bytes more q b h =
+    let s = b .step in
+    rw (b .leads, b .on) (
+      goes-by x (p .world) (p .waiting) (p .long) (p .rest) (p .more) bytes s (s .found) (b .finds) h,
+      over-by x (p .world) (p .waiting) (p .long) (p .rest) (p .more) bytes s (s .found) (b .finds),
+    )
+
+step-goes : (x : Fixed) (lost : Bool) (p : Place) (bytes : List ℕ) (more gone : Bool) (q : Place)
+    → Stepped x lost p bytes more gone q → 12 < length bytes → Goes x [] p q
+step-goes x true p bytes more gone q s h = rw (s .stops refl .1) (goes-nowhere x (p .world) (p .waiting) (p .long) (p .rest) (p .more))
+step-goes x false p bytes more gone q s h = by-reader x p bytes more q (s .reads refl) h .0
+
+step-ends : (x : Fixed) (lost : Bool) (p : Place) (bytes : List ℕ) (more gone : Bool) (q : Place)
+    → Stepped x lost p bytes more gone q → 12 < length bytes → more ≡ false → gone ≡ false → Over q
+step-ends x true p bytes more gone q s h e f = untrue (sym f ∙ s .told)
+step-ends x false p bytes more gone q s h e f = by-reader x p bytes more q (s .reads refl) h .1 e
 
 -- A turn of the loop: what waits is printed or not, and a step is made
 
-pub ran-on : (x : Fixed) (p : Place) (w : World) (t u v : List ℕ) (long : Bool) (rest : List ℕ) (m lost more gone : Bool) (q : Place) (a b : Bool)
-    → t ≡ u ++ v → Ran x p a b (place w t long rest m) → Stepped x lost (place w v long rest m) more gone q → Ran x p more gone q
-ran-on x p w t u v long rest m lost more gone q a b e r s =
-    let g = goes-on x u [] (place w t long rest m) (place w v long rest m) q (goes-printed x w t long u v rest m e) (s .goes) in
-    record {
-      printed = r .printed ++ (u ++ []);
-      goes = goes-on x (r .printed) (u ++ []) p (place w t long rest m) q (r .goes) g;
-      ends = s .ends;
-    }
+module _ (x : Fixed) (p : Place) (w : World) (long : Bool) (rest : List ℕ) (m lost : Bool) (bytes : List ℕ) (more gone : Bool) (q : Place) where
+  ran-on : (t u v : List ℕ) (a b : Bool) → t ≡ u ++ v → Ran x p a b (place w t long rest m)
+      → Stepped x lost (place w v long rest m) bytes more gone q → 12 < length bytes → Ran x p more gone q
+  ran-on t u v a b e r s h =
+      let g = step-goes x lost (place w v long rest m) bytes more gone q s h in
+      let i = goes-on x u [] (place w t long rest m) (place w v long rest m) q (goes-printed x w t long u v rest m e) g in
+      record {
+        printed = r .printed ++ (u ++ []);
+        goes = goes-on x (r .printed) (u ++ []) p (place w t long rest m) q (r .goes) i;
+        ends = step-ends x lost (place w v long rest m) bytes more gone q s h;
+      }
 
--- all that waits is printed, or nothing
-pub ran-next : (x : Fixed) (p : Place) (w : World) (out : List ℕ) (used now : ℕ) (long : Bool) (rest : List ℕ) (m : Bool) (lost more gone : Bool)
-    (q : Place) (a b : Bool) → (now ≡ used) ⊎ (now ≡ 0)
-    → Ran x p a b (place w (take used out) long rest m) → Stepped x lost (place w (take now out) long rest m) more gone q → Ran x p more gone q
-ran-next x p w out used now long rest m lost more gone q a b (inl e) r s =
-    ran-on x p w (take used out) [] (take now out) long rest m lost more gone q a b (ap (λ (n : ℕ). take n out) (sym e)) r s
-ran-next x p w out used now long rest m lost more gone q a b (inr e) r s =
-    ran-on x p w (take used out) (take used out) (take now out) long rest m lost more gone q a b
-    (sym (append-nil (take used out)) ∙ ap (λ (n : ℕ). take used out ++ take n out) (sym e)) r s
+  -- all that waits is printed, or nothing
+  pub ran-next : (out : List ℕ) (used now : ℕ) (a b : Bool) (k : Reader) (size : ℕ) → Shown k used size now lost
+      → Ran x p a b (place w (take used out) long rest m) → Stepped x lost (place w (take now out) long rest m) bytes more gone q
+      → 12 < length bytes → Ran x p more gone q
+  ran-next out used now a b k size (inl e) r s h =
+      ran-on (take used out) [] (take now out) a b (ap (λ (n : ℕ). take n out) (sym (e .all))) r s h
+  ran-next out used now a b k size (inr e) r s h =
+      ran-on (take used out) (take used out) (take now out) a b
+      (sym (append-nil (take used out)) ∙ ap (λ (n : ℕ). take used out ++ take n out) (sym (e .none))) r s h
 
 pub ran-none : (x : Fixed) (w : World) (t : List ℕ) (long : Bool) (rest : List ℕ) (m : Bool) (more gone : Bool) → more ≡ true
     → Ran x (place w t long rest m) more gone (place w t long rest m)

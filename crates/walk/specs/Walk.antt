@@ -2,13 +2,18 @@
 -- last paragraph).
 use mathlib.Core.Bool.{Bool, true, false, cond}
 use mathlib.Core.List.{List, [], _∷_, _++_}
+use mathlib.Core.Logic.{_⊎_}
 use mathlib.Core.Path.{_≡_}
-use Prim.Native.Nat.{ℕ}
+use Prim.Native.Nat.{ℕ, _+_, _≤_, _<_}
 use lib.ListN.{replicate}
 use Rattle.bus.specs.Fresh.{startedBy}
 use Rattle.commands.specs.Walk.{strangeText}
 use Rattle.lines.specs.Contents.{Filled}
-use Rattle.lines.specs.Reader.{linesOf}
+use Rattle.lines.specs.Reader.{linesOf, pending, lineIn, Finds}
+use Rattle.lines.specs.declared.reader.Found.{Found}
+use Rattle.lines.specs.declared.reader.Found.the-variants.{Line, Long, Read, End}
+use Rattle.lines.specs.declared.reader.Reader.{Reader}
+use Rattle.lines.specs.declared.reader.Step.{Step}
 use Rattle.memory.specs.World.{World, Fixed, world}
 use Rattle.walk.specs.Line.{Walked, walked, lineWalked, romByte}
 
@@ -76,11 +81,54 @@ pub record Goes (x : Fixed) (printed : List ℕ) (p q : Place) : Type 0 where
 abbrev pub Over : Place → Type 0
 Over p = (p .more ≡ false) × ((p .long ≡ false) × (p .rest ≡ []))
 
--- one step of the reader prints nothing; where answers are lost nothing is done and the walk ends, and else it ends only at the input's end
-pub record Stepped (x : Fixed) (lost : Bool) (p : Place) (more gone : Bool) (q : Place) : Type 0 where
-  pub goes : Goes x [] p q
-  pub ends : more ≡ false → gone ≡ false → Over q
-  pub stops : lost ≡ true → more ≡ false
+-- Where a step of the reader leads, by what it found (`bytes` is the buffer after it): a line is answered; a buffer that is dropped begins a
+-- long line, or goes on with one; a read answers nothing; the input's end ends a long line
+
+abbrev pub onto : List ℕ → Step → Bool → Walked → Place
+onto bytes s long a = place (a .after) (a .text) long (pending bytes (s .next)) (s .next .more)
+
+abbrev pub placeBy : Found → Fixed → Place → List ℕ → Step → Place
+placeBy Line x p bytes s = onto bytes s false (after (p .waiting) (oneLine x (p .world) (p .long) (lineIn bytes s)))
+placeBy Long x p bytes s = onto bytes s true (walked (p .waiting) (p .world))
+placeBy Read x p bytes s = onto bytes s (p .long) (walked (p .waiting) (p .world))
+placeBy End x p bytes s = onto bytes s false (walked (p .waiting ++ cond (p .long) strangeText []) (p .world))
+
+-- the walk goes on, except at the input's end
+abbrev pub goesOn : Found → Bool
+goesOn Line = true
+goesOn Long = true
+goesOn Read = true
+goesOn End = false
+
+-- exactly one step of the reader
+pub record ByReader (x : Fixed) (p : Place) (bytes : List ℕ) (more : Bool) (q : Place) : Type 0 where
+  pub step : Step
+  pub finds : Finds (p .rest) (p .more) bytes step
+  pub on : more ≡ goesOn (step .found)
+  pub leads : q ≡ placeBy (step .found) x p bytes step
+
+-- where answers are lost nothing is done and the walk ends, and this is told; else it is one step of the reader
+pub record Stepped (x : Fixed) (lost : Bool) (p : Place) (bytes : List ℕ) (more gone : Bool) (q : Place) : Type 0 where
+  pub told : gone ≡ lost
+  pub stops : lost ≡ true → (more ≡ false) × (q ≡ p)
+  pub reads : lost ≡ false → ByReader x p bytes more q
+
+-- Before a step, of `used` answers that wait in a buffer of `size` bytes, `now` are left; `lost`: they could not be written
+
+-- they wait on: something that was read is still to be answered, and there is room for a line more, of ten bytes
+pub record WaitOn (r : Reader) (used size now : ℕ) (lost : Bool) : Type 0 where
+  pub some : r .at < r .end
+  pub room : used + 10 ≤ size
+  pub all : now ≡ used
+  pub kept : lost ≡ false
+
+-- they are printed: one of the two is not so
+pub record Printed (r : Reader) (used size now : ℕ) : Type 0 where
+  pub due : (r .end ≤ r .at) ⊎ (size < used + 10)
+  pub none : now ≡ 0
+
+abbrev pub Shown : Reader → ℕ → ℕ → ℕ → Bool → Type 0
+Shown r used size now lost = WaitOn r used size now lost ⊎ Printed r used size now
 
 -- the loop: as many steps as there are
 pub record Ran (x : Fixed) (p : Place) (more gone : Bool) (q : Place) : Type 0 where

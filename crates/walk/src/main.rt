@@ -2,7 +2,6 @@
 // (document 01, "Corners that decide", the last paragraph). It takes no argument, and ends early where its answers cannot be written.
 ghost use Prim.Native.Nat.{_+_, _≤_};
 ghost use mathlib.Core.List.{_++_, []};
-ghost use mathlib.Core.Logic.{_⊎_};
 ghost use mathlib.Core.Path.{_≡_};
 ghost use lib.ListN.{length, take, replicate};
 ghost use mathlib.Core.Bool.{true, false, cond};
@@ -12,7 +11,7 @@ ghost use Rattle.lines.specs.Contents.{Filled};
 ghost use Rattle.lines.specs.Reader.{Inside, pending, standing};
 ghost use Rattle.memory.specs.World.{world, fixed};
 ghost use Rattle.walk.specs.Line.{romByte, walked};
-ghost use Rattle.walk.specs.Walk.{after, Begins, oneLine, place, Stepped, Ran, Whole};
+ghost use Rattle.walk.specs.Walk.{after, Begins, oneLine, place, Stepped, Shown, Ran, Whole};
 use commands::text;
 use libc::STDERR_FILENO;
 use lines::reader;
@@ -118,7 +117,7 @@ fn printed(used: usize, out: &[u8]) -> Waiting
 // The answers are printed where every line that was read is answered, before more is waited for, and where there is no room for a line more, of ten bytes.
 fn shown(used: usize, reader: Reader, out: &[u8]) -> Waiting
     requires { ⌜ (used ≤ length (now out)) × (10 ≤ length (now out)) ⌝ }
-    ensures { λ r. ⌜ (r .used + 10 ≤ length (now (out .entry))) × ((r .used ≡ used) ⊎ (r .used ≡ 0)) ⌝ }
+    ensures { λ r. ⌜ (r .used + 10 ≤ length (now (out .entry))) × Shown reader used (length (now (out .entry))) (r .used) (r .lost) ⌝ }
 {
     if reader.end <= reader.at {
         return printed(used, out);
@@ -146,7 +145,11 @@ fn step(
     sound: &[u8],
 ) -> State
     requires { ⌜ Inside (length (now buf)) (state .reader) × ((waiting .used + 10 ≤ length (now out)) × (13 ≤ length (now buf))) ⌝ }
-    ensures { λ r. ⌜ (Inside (length (now (buf .exit))) (r .reader) × (r .kept .used ≤ length (now (out .exit)))) × Stepped (fixed (now (rom .entry)) (now (sound .entry))) (waiting .lost) (place (world (state .kept .memory) (now (vram .entry)) (now (wram .entry)) (now (save .entry)) (now (log .entry))) (take (waiting .used) (now (out .entry))) (state .long) (pending (now (buf .entry)) (state .reader)) (state .reader .more)) (r .more) (r .lost) (place (world (r .kept .memory) (now (vram .exit)) (now (wram .exit)) (now (save .exit)) (now (log .exit))) (take (r .kept .used) (now (out .exit))) (r .long) (pending (now (buf .exit)) (r .reader)) (r .reader .more)) ⌝ }
+    ensures { λ r. ⌜ (Inside (length (now (buf .exit))) (r .reader) × (r .kept .used ≤ length (now (out .exit))))
+        × Stepped (fixed (now (rom .entry)) (now (sound .entry))) (waiting .lost)
+        (place (world (state .kept .memory) (now (vram .entry)) (now (wram .entry)) (now (save .entry)) (now (log .entry))) (take (waiting .used) (now (out .entry))) (state .long) (pending (now (buf .entry)) (state .reader)) (state .reader .more))
+        (now (buf .exit)) (r .more) (r .lost)
+        (place (world (r .kept .memory) (now (vram .exit)) (now (wram .exit)) (now (save .exit)) (now (log .exit))) (take (r .kept .used) (now (out .exit))) (r .long) (pending (now (buf .exit)) (r .reader)) (r .reader .more)) ⌝ }
 {
     let before = state.kept;
     let reader = state.reader;

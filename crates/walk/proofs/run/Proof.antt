@@ -69,6 +69,8 @@ loop-again : tie.Need-loop-again Inv-loop μ-loop
 loop-again c =
     let s = c .before .before .before .before .before .before .before .before .before .before .before .before .step in
     let k = c .before .before .before .before .before .before .before .before .before .before .before .before .step .kept in
+    let w = c .before .before .before .before .before .before .before .before .before .before .before .before .before .before .before .before
+    .before .before .before .shown in
     let l = c .before .before .before .before .before .before .before .before .before .before .before .before .before .before .before .before
     .before .before .before .before .before .before .before .before .before .loop in
     let i = c .before .before .before .before .before .before .before .before .before .before .before .before .before .before .before .before
@@ -88,10 +90,8 @@ loop-again c =
               (omega (arith, k, i), omega (arith, k, i)),
             ),
           ),
-          ran-next _ _ _ (l .out) (l .state .kept .used) (c .before .before .before .before .before
-              .before .before .before .before .before .before .before .before .before .before .before .before .before .before .shown .result .used) _ _ _ _ _
-              _ _ _ _ (c .before .before .before .before .before .before .before .before .before .before .before .before .before .before .before .before
-              .before .before .before .shown .ensures .1) (i .1 .1 .1) (s .ensures .1),
+          ran-next _ _ _ _ _ _ _ _ _ _ _ (l .out) (l .state .kept .used) (w .result .used) _ _ _ _ (w .ensures .1)
+              (i .1 .1 .1) (s .ensures .1) (omega (arith, k, i)),
         ),
       ),
     )

@@ -1,4 +1,4 @@
--- All that waits is printed, or nothing.
+-- All that waits is printed, or nothing: by the two tests.
 use native.Mathlib.Omega.{arith}
 use mathlib.Core.Path.{refl}
 use mathlib.Core.Logic.{inl, inr}
@@ -10,7 +10,7 @@ printed-requires : tie.Need-printed-requires
 printed-requires c κs = search needs
 
 returns : tie.Need-returns
-returns c = (omega (arith, c .printed .ensures), inr (c .printed .ensures))
+returns c = (omega (arith, c .printed .ensures), inr (record { due = inl (c .before .if1 .taken); none = c .printed .ensures }))
 
 sub-if2 : tie.Need-sub-if2
 sub-if2 c = search needs
@@ -19,10 +19,10 @@ printed-requires-2 : tie.Need-printed-requires-2
 printed-requires-2 c κs = search needs
 
 returns-2 : tie.Need-returns-2
-returns-2 c = (omega (arith, c .printed2 .ensures), inr (c .printed2 .ensures))
+returns-2 c = (omega (arith, c .printed2 .ensures), inr (record { due = inr (omega arith); none = c .printed2 .ensures }))
 
 returns-3 : tie.Need-returns-3
-returns-3 c = (omega arith, inl refl)
+returns-3 c = (omega arith, inl (record { some = omega arith; room = omega arith; all = refl; kept = refl }))
 
 pub shown-spec : {M : Type 1} → statement M
 shown-spec =

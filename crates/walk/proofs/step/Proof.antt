@@ -2,6 +2,7 @@
 use Rattle.walk.proofs.Walking.{step-line, step-long, step-read, step-end, step-lost}
 use Rattle.memory.specs.declared.Memory.{Memory}
 use Rattle.memory.specs.World.{world, fixed}
+use Rattle.walk.specs.Walk.{place}
 use Rattle.lines.specs.Reader.{pending}
 use lib.ListN.{take}
 use native.Mathlib.Omega.{arith}
@@ -24,8 +25,8 @@ returns c =
               .before .before .before .before .before .before .before .before .before .before .pre .1 .0,
         ),
       ),
-      step-lost x w t (a .state .long) (a .waiting
-          .lost) (pending (a .buf .now) (a .state .reader)) (a .state .reader .more),
+      step-lost x (place w t (a .state .long) (pending (a .buf .now) (a .state .reader)) (a .state .reader .more))
+          (a .buf .now) (a .waiting .lost) (c .if1 .taken),
     )
 
 next-requires : tie.Need-next-requires
@@ -88,8 +89,9 @@ returns-2 c =
     .before .before .before .before .before .before .before .next in
     let l = c .before .before .before .before .before .before .before .before .before .before .line in (
       (n .ensures .0 .1 .1, l .ensures .1),
-      step-line (pending (a .buf .now) (a .state .reader)) (a .state .reader .more) (n .last .0) (n .result) (n
-          .ensures .1) x w t (a .state .long) (a .waiting .lost) (c .before .before .before .before .before .before .before .before .before .before
+      step-line x w t (a .state .long) (pending (a .buf .now) (a .state .reader)) (a .state .reader .more)
+          (n .last .0) (n .result) (n .ensures .1) (a .waiting .lost)
+          (c .before .before .before .before .before .before .before .before .before .before
           .before .before .before .before .before .before .before .before .before .before .before .before .before .before .before .if1 .left) _ _ (l
           .ensures .0) (c .before .before .before .before .before .before .before .before .before .before .before .before .before .before .before .before
           .before .before .enum-told .given .1),
@@ -114,14 +116,10 @@ returns-3 c =
               .before .before .before .before .before .before .pre .1 .0,
         ),
       ),
-      step-long (pending (a .buf .now) (a .state .reader)) (a .state .reader .more) (n
-          .last .0) (n .result) (n .ensures .1) x w t (a .state .long) (a .waiting .lost) (c .before .before .before .before .before .before .before .if1
-          .left) (c .enum-told2 .given .1) (omega (
-            arith,
-            c .before .before .before .before .before .before .before .before .before .before .before
-                .before .before .before .before .before .before .before .before .pre .1 .1,
-            same-length-7 c,
-          )),
+      step-long x w t (a .state .long) (pending (a .buf .now) (a .state .reader)) (a .state .reader .more)
+          (n .last .0) (n .result) (n .ensures .1) (a .waiting .lost)
+          (c .before .before .before .before .before .before .before .if1
+          .left) (c .enum-told2 .given .1),
     )
 
 same-length-8 : tie.Need-same-length-8
@@ -143,8 +141,9 @@ returns-4 c =
               .before .before .before .before .before .before .pre .1 .0,
         ),
       ),
-      step-read (pending (a .buf .now) (a .state .reader)) (a .state .reader .more) (n
-          .last .0) (n .result) (n .ensures .1) x w t (a .state .long) (a .waiting .lost) (c .before .before .before .before .before .before .before .if1
+      step-read x w t (a .state .long) (pending (a .buf .now) (a .state .reader)) (a .state .reader .more)
+          (n .last .0) (n .result) (n .ensures .1) (a .waiting .lost)
+          (c .before .before .before .before .before .before .before .if1
           .left) (c .enum-told3 .given .1),
     )
 
@@ -164,8 +163,9 @@ returns-5 c =
     let n = c .before .before .before .before .before .before .before .before .before .next in
     let l = c .before .before .end in (
       (n .ensures .0 .1 .1, l .ensures .1 .1),
-      step-end (pending (a .buf .now) (a .state .reader)) (a .state .reader .more) (n .last .0) (n .result)
-          (n .ensures .1) x w t (a .state .long) (a .waiting .lost) (c .before .before .before .before .before .before .before .before .before .before
+      step-end x w t (a .state .long) (pending (a .buf .now) (a .state .reader)) (a .state .reader .more)
+          (n .last .0) (n .result) (n .ensures .1) (a .waiting .lost)
+          (c .before .before .before .before .before .before .before .before .before .before
           .before .if1 .left) _ _ (ap (λ (m : Memory). world m (a .vram .now) (a .wram .now) (a .save .now) (a .log .now)) (l .ensures .1 .0)) (l .ensures
           .0) (c .before .before .before .before .enum-told4 .given .1),
     )
