@@ -28,7 +28,8 @@ fn read(
     sound: &[u8],
     index: u16,
 ) -> Text
-    ensures { λ r. ⌜ Shows r (readText index (readByteCall (fixed (now (rom .entry)) (now (sound .entry))) (world memory (now (vram .entry)) (now (wram .entry)) (now (save .entry)) []) index .value)) ⌝ }
+    ensures { λ r. ⌜ Shows r (readText index (readByteCall (fixed (now (rom .entry)) (now (sound .entry)))
+        (world memory (now (vram .entry)) (now (wram .entry)) (now (save .entry)) []) index .value)) ⌝ }
 {
     let given = bus::reads::read_byte(memory, rom, vram, wram, save, sound, index);
     text::read(index, given.value)
@@ -45,7 +46,10 @@ fn write(
     index: u16,
     value: u8,
 ) -> Answer
-    ensures { λ r. ⌜ Answers (r .text) (world (r .memory) (now (vram .exit)) (now (wram .exit)) (now (save .exit)) (now (log .exit))) (written index (writeByteCall (fixed (now (rom .entry)) (now (sound .entry))) (world memory (now (vram .entry)) (now (wram .entry)) (now (save .entry)) (now (log .entry))) index value)) ⌝ }
+    ensures { λ r. ⌜ Answers (r .text) (world (r .memory) (now (vram .exit)) (now (wram .exit)) (now (save .exit)) (now (log .exit)))
+        (written index (writeByteCall (fixed (now (rom .entry)) (now (sound .entry)))
+        (world memory (now (vram .entry)) (now (wram .entry)) (now (save .entry)) (now (log .entry)))
+        index value)) ⌝ }
 {
     let done = write_calls::write_byte(memory, rom, vram, wram, save, log, sound, index, value);
     let next = done.memory;
@@ -77,7 +81,10 @@ pub fn line(
     log: &mut [u8],
     sound: &[u8],
 ) -> Answer
-    ensures { λ r. ⌜ Answers (r .text) (world (r .memory) (now (vram .exit)) (now (wram .exit)) (now (save .exit)) (now (log .exit))) (lineWalked (fixed (now (rom .entry)) (now (sound .entry))) (world memory (now (vram .entry)) (now (wram .entry)) (now (save .entry)) (now (log .entry))) (now (s .entry))) ⌝ }
+    ensures { λ r. ⌜ Answers (r .text) (world (r .memory) (now (vram .exit)) (now (wram .exit)) (now (save .exit)) (now (log .exit)))
+        (lineWalked (fixed (now (rom .entry)) (now (sound .entry)))
+        (world memory (now (vram .entry)) (now (wram .entry)) (now (save .entry)) (now (log .entry)))
+        (now (s .entry))) ⌝ }
 {
     let asked = command::parse(s);
     match asked {

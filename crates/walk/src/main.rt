@@ -53,7 +53,8 @@ struct Waiting {
 
 fn strange(kept: Kept, out: &mut [u8]) -> Kept
     requires { ⌜ kept .used + 10 ≤ length (now out) ⌝ }
-    ensures { λ r. ⌜ (take (r .used) (now (out .exit)) ≡ take (kept .used) (now (out .entry)) ++ strangeText) × ((r .memory ≡ kept .memory) × (r .used ≤ length (now (out .exit)))) ⌝ }
+    ensures { λ r. ⌜ (take (r .used) (now (out .exit)) ≡ take (kept .used) (now (out .entry)) ++ strangeText)
+        × ((r .memory ≡ kept .memory) × (r .used ≤ length (now (out .exit)))) ⌝ }
 {
     let memory = kept.memory;
     let text = text::strange();
@@ -77,7 +78,13 @@ fn line(
     sound: &[u8],
 ) -> Kept
     requires { ⌜ kept .used + 10 ≤ length (now out) ⌝ }
-    ensures { λ r. ⌜ (walked (take (r .used) (now (out .exit))) (world (r .memory) (now (vram .exit)) (now (wram .exit)) (now (save .exit)) (now (log .exit))) ≡ after (take (kept .used) (now (out .entry))) (oneLine (fixed (now (rom .entry)) (now (sound .entry))) (world (kept .memory) (now (vram .entry)) (now (wram .entry)) (now (save .entry)) (now (log .entry))) long (now (s .entry)))) × (r .used ≤ length (now (out .exit))) ⌝ }
+    ensures { λ r. ⌜ (walked (take (r .used) (now (out .exit)))
+        (world (r .memory) (now (vram .exit)) (now (wram .exit)) (now (save .exit)) (now (log .exit)))
+        ≡ after (take (kept .used) (now (out .entry)))
+        (oneLine (fixed (now (rom .entry)) (now (sound .entry)))
+        (world (kept .memory) (now (vram .entry)) (now (wram .entry)) (now (save .entry)) (now (log .entry)))
+        long (now (s .entry))))
+        × (r .used ≤ length (now (out .exit))) ⌝ }
 {
     if long {
         return strange(kept, out);
@@ -95,7 +102,8 @@ fn line(
 // The input's end: it ends a line that did not fit the buffer.
 fn end(kept: Kept, long: bool, out: &mut [u8]) -> Kept
     requires { ⌜ kept .used + 10 ≤ length (now out) ⌝ }
-    ensures { λ r. ⌜ (take (r .used) (now (out .exit)) ≡ take (kept .used) (now (out .entry)) ++ cond long strangeText []) × ((r .memory ≡ kept .memory) × (r .used ≤ length (now (out .exit)))) ⌝ }
+    ensures { λ r. ⌜ (take (r .used) (now (out .exit)) ≡ take (kept .used) (now (out .entry)) ++ cond long strangeText [])
+        × ((r .memory ≡ kept .memory) × (r .used ≤ length (now (out .exit)))) ⌝ }
 {
     if long {
         return strange(kept, out);
@@ -114,7 +122,8 @@ fn printed(used: usize, out: &[u8]) -> Waiting
     }
 }
 
-// The answers are printed where every line that was read is answered, before more is waited for, and where there is no room for a line more, of ten bytes.
+// The answers are printed where every line that was read is answered, before more is waited for, and where there is no room for a line more,
+// of ten bytes.
 fn shown(used: usize, reader: Reader, out: &[u8]) -> Waiting
     requires { ⌜ (used ≤ length (now out)) × (10 ≤ length (now out)) ⌝ }
     ensures { λ r. ⌜ (r .used + 10 ≤ length (now (out .entry))) × Shown reader used (length (now (out .entry))) (r .used) (r .lost) ⌝ }
@@ -147,9 +156,11 @@ fn step(
     requires { ⌜ Inside (length (now buf)) (state .reader) × ((waiting .used + 10 ≤ length (now out)) × (13 ≤ length (now buf))) ⌝ }
     ensures { λ r. ⌜ (Inside (length (now (buf .exit))) (r .reader) × (r .kept .used ≤ length (now (out .exit))))
         × Stepped (fixed (now (rom .entry)) (now (sound .entry))) (waiting .lost)
-        (place (world (state .kept .memory) (now (vram .entry)) (now (wram .entry)) (now (save .entry)) (now (log .entry))) (take (waiting .used) (now (out .entry))) (state .long) (pending (now (buf .entry)) (state .reader)) (state .reader .more))
+        (place (world (state .kept .memory) (now (vram .entry)) (now (wram .entry)) (now (save .entry)) (now (log .entry)))
+        (take (waiting .used) (now (out .entry))) (state .long) (pending (now (buf .entry)) (state .reader)) (state .reader .more))
         (now (buf .exit)) (r .more) (r .lost)
-        (place (world (r .kept .memory) (now (vram .exit)) (now (wram .exit)) (now (save .exit)) (now (log .exit))) (take (r .kept .used) (now (out .exit))) (r .long) (pending (now (buf .exit)) (r .reader)) (r .reader .more)) ⌝ }
+        (place (world (r .kept .memory) (now (vram .exit)) (now (wram .exit)) (now (save .exit)) (now (log .exit)))
+        (take (r .kept .used) (now (out .exit))) (r .long) (pending (now (buf .exit)) (r .reader)) (r .reader .more)) ⌝ }
 {
     let before = state.kept;
     let reader = state.reader;
@@ -217,7 +228,8 @@ fn step(
 }
 
 fn start(memory: Memory) -> State
-    ensures { λ r. ⌜ ((r .kept .memory ≡ memory) × (r .kept .used ≡ 0)) × ((r .reader ≡ standing 0 0 true) × ((r .long ≡ false) × ((r .more ≡ true) × (r .lost ≡ false)))) ⌝ }
+    ensures { λ r. ⌜ ((r .kept .memory ≡ memory) × (r .kept .used ≡ 0))
+        × ((r .reader ≡ standing 0 0 true) × ((r .long ≡ false) × ((r .more ≡ true) × (r .lost ≡ false)))) ⌝ }
 {
     State {
         kept: Kept {
@@ -243,8 +255,14 @@ fn run(
     log: &mut [u8],
     sound: &[u8],
 ) -> State
-    requires { ⌜ (Inside (length (now buf)) (from .reader) × (from .kept .used ≤ length (now out))) × (((13 ≤ length (now buf)) × (10 ≤ length (now out))) × (from .more ≡ true)) ⌝ }
-    ensures { λ r. ⌜ (r .kept .used ≤ length (now (out .exit))) × Ran (fixed (now (rom .entry)) (now (sound .entry))) (place (world (from .kept .memory) (now (vram .entry)) (now (wram .entry)) (now (save .entry)) (now (log .entry))) (take (from .kept .used) (now (out .entry))) (from .long) (pending (now (buf .entry)) (from .reader)) (from .reader .more)) (r .more) (r .lost) (place (world (r .kept .memory) (now (vram .exit)) (now (wram .exit)) (now (save .exit)) (now (log .exit))) (take (r .kept .used) (now (out .exit))) (r .long) (pending (now (buf .exit)) (r .reader)) (r .reader .more)) ⌝ }
+    requires { ⌜ (Inside (length (now buf)) (from .reader) × (from .kept .used ≤ length (now out)))
+        × (((13 ≤ length (now buf)) × (10 ≤ length (now out))) × (from .more ≡ true)) ⌝ }
+    ensures { λ r. ⌜ (r .kept .used ≤ length (now (out .exit))) × Ran (fixed (now (rom .entry)) (now (sound .entry)))
+        (place (world (from .kept .memory) (now (vram .entry)) (now (wram .entry)) (now (save .entry)) (now (log .entry)))
+        (take (from .kept .used) (now (out .entry))) (from .long) (pending (now (buf .entry)) (from .reader)) (from .reader .more))
+        (r .more) (r .lost)
+        (place (world (r .kept .memory) (now (vram .exit)) (now (wram .exit)) (now (save .exit)) (now (log .exit)))
+        (take (r .kept .used) (now (out .exit))) (r .long) (pending (now (buf .exit)) (r .reader)) (r .reader .more)) ⌝ }
 {
     let mut state = from;
     let mut turns = u64::MAX;
@@ -269,7 +287,9 @@ fn walk(
     sound: &[u8],
 ) -> Ended
     requires { ⌜ Begins (fixed (now rom) (now sound)) (world memory (now vram) (now wram) (now save) (now log)) ⌝ }
-    ensures { λ r. ⌜ (r .more ≡ false → r .lost ≡ false → Whole (fixed (now (rom .entry)) (now (sound .entry))) (world memory (now (vram .entry)) (now (wram .entry)) (now (save .entry)) (now (log .entry))) (world (r .memory) (now (vram .exit)) (now (wram .exit)) (now (save .exit)) (now (log .exit)))) ⌝ }
+    ensures { λ r. ⌜ (r .more ≡ false → r .lost ≡ false → Whole (fixed (now (rom .entry)) (now (sound .entry)))
+        (world memory (now (vram .entry)) (now (wram .entry)) (now (save .entry)) (now (log .entry)))
+        (world (r .memory) (now (vram .exit)) (now (wram .exit)) (now (save .exit)) (now (log .exit)))) ⌝ }
 {
     let mut buf = io::large_buffer();
     let mut out = io::large_buffer();
@@ -313,7 +333,8 @@ fn begin(
     log: &[u8],
     sound: &[u8],
 ) -> Memory
-    requires { ⌜ (length (now rom) ≡ 32768) × ((length (now vram) ≡ 8192) × ((length (now wram) ≡ 8192) × ((length (now save) ≡ 8192) × ((length (now log) ≡ 4095) × (length (now sound) ≡ 48))))) ⌝ }
+    requires { ⌜ (length (now rom) ≡ 32768) × ((length (now vram) ≡ 8192) × ((length (now wram) ≡ 8192)
+        × ((length (now save) ≡ 8192) × ((length (now log) ≡ 4095) × (length (now sound) ≡ 48))))) ⌝ }
     ensures { λ r. ⌜ (r ≡ startedBy 1 2 2 false) × ((now (vram .exit) ≡ replicate 8192 0) × (now (wram .exit) ≡ replicate 8192 0)) ⌝ }
 {
     let begun = bus::fresh::fresh(1, 2, 2, false, rom, vram, wram, save, log, sound);

@@ -35,8 +35,8 @@ loop-holds c =
         (
           (refl, (refl, (refl, refl))),
           ran-none (fixed (a .rom .now) (a .sound .now)) (world (a .from .kept .memory) (a
-              .vram .now) (a .wram .now) (a .save .now) (a .log .now)) (take (a .from .kept .used) (a .out .now)) (a .from .long) (pending (a .buf .now) (a
-              .from .reader)) (a .from .reader .more) (a .from .more) (a .from .lost) (p .1 .1),
+              .vram .now) (a .wram .now) (a .save .now) (a .log .now)) (take (a .from .kept .used) (a .out .now)) (a .from .long)
+              (pending (a .buf .now) (a .from .reader)) (a .from .reader .more) (a .from .more) (a .from .lost) (p .1 .1),
         ),
       ),
     )

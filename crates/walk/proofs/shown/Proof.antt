@@ -10,7 +10,7 @@ printed-requires : tie.Need-printed-requires
 printed-requires c κs = search needs
 
 returns : tie.Need-returns
-returns c = (omega (arith, c .printed .ensures), inr (record { due = inl (c .before .if1 .taken); none = c .printed .ensures }))
+returns c = (omega (arith, c .printed .ensures), inr (record { due = inl (omega arith); none = c .printed .ensures }))
 
 sub-if2 : tie.Need-sub-if2
 sub-if2 c = search needs

@@ -92,8 +92,9 @@ returns-2 c =
       step-line x w t (a .state .long) (pending (a .buf .now) (a .state .reader)) (a .state .reader .more)
           (n .last .0) (n .result) (n .ensures .1) (a .waiting .lost)
           (c .before .before .before .before .before .before .before .before .before .before
-          .before .before .before .before .before .before .before .before .before .before .before .before .before .before .before .if1 .left) _ _ (l
-          .ensures .0) (c .before .before .before .before .before .before .before .before .before .before .before .before .before .before .before .before
+          .before .before .before .before .before .before .before .before .before .before .before .before .before .before .before .if1 .left)
+          _ _ (l .ensures .0)
+          (c .before .before .before .before .before .before .before .before .before .before .before .before .before .before .before .before
           .before .before .enum-told .given .1),
     )
 
@@ -166,8 +167,8 @@ returns-5 c =
       step-end x w t (a .state .long) (pending (a .buf .now) (a .state .reader)) (a .state .reader .more)
           (n .last .0) (n .result) (n .ensures .1) (a .waiting .lost)
           (c .before .before .before .before .before .before .before .before .before .before
-          .before .if1 .left) _ _ (ap (λ (m : Memory). world m (a .vram .now) (a .wram .now) (a .save .now) (a .log .now)) (l .ensures .1 .0)) (l .ensures
-          .0) (c .before .before .before .before .enum-told4 .given .1),
+          .before .if1 .left) _ _ (ap (λ (m : Memory). world m (a .vram .now) (a .wram .now) (a .save .now) (a .log .now)) (l .ensures .1 .0))
+          (l .ensures .0) (c .before .before .before .before .enum-told4 .given .1),
     )
 
 pub step-spec : {M : Type 1} → statement M
