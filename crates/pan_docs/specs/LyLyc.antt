@@ -28,18 +28,21 @@ pub record Compared (s t : Screen) : Type 0 where
   pub lyc : t .compare ≡ s .compare
   pub control : t .control ≡ s .control
 
--- A write of v to FF41 requests the LCD interrupt: with the display on, where no signal stands that is still selected (that one is the Rust's), and
--- "the interrupt sources .. mode 2, mode 1, mode 0", of which bit 3 + n is mode n's, or LYC's, bit 6, does
+-- When a write of v to FF41 requests the LCD interrupt: "the interrupt sources LYC, mode 2, mode 1, mode 0", of which bit 3 + n is mode n's
 
+-- of the signal, no source is still selected (the Rust's)
 abbrev pub noSignal : Screen → ℕ → Bool
 noSignal s v = eqb (bitAnd (s .lcd .signal) (v / 8 % 16)) 0
 
+-- the present mode's source is selected; mode 3 has none
 abbrev pub modeRaises : Screen → ℕ → Bool
 modeRaises s v = ltb (s .lcd .mode) 3 && eqb (bit v (3 + s .lcd .mode)) 1
 
+-- LYC's is, and LY = LYC
 abbrev pub lycRaises : Screen → ℕ → Bool
 lycRaises s v = not (s .lcd .disabled) && (equal s && eqb (bit v 6) 1)
 
+-- with the display on
 abbrev pub statusRaises : Screen → ℕ → Bool
 statusRaises s v = eqb (bit (s .control) 7) 1 && (noSignal s v && (modeRaises s v || lycRaises s v))
 
@@ -65,6 +68,6 @@ pub record LyIsLyc : Type 0 where
   pub status-written : (s : Screen) (v : ℕ) → StatusBits s (statusWritten s v) v
   pub status-equal : (s : Screen) (v : ℕ) → on s → bit (statusWritten s v .status) 2 ≡ cond (equal s) 1 0
   pub status-off : (s : Screen) (v : ℕ) → bit (s .control) 7 ≡ 0 → bit (statusWritten s v .status) 2 ≡ bit (s .status) 2
-  -- and LCD is requested just then
+  -- LCD is requested just then
   pub status-requests : (s : Screen) (v : ℕ) → statusRaises s v ≡ true → bit (statusWritten s v .flags) 1 ≡ 1
   pub status-quiet : (s : Screen) (v : ℕ) → statusRaises s v ≡ false → statusWritten s v .flags ≡ s .flags
