@@ -1,5 +1,5 @@
 /* The bytes of known images, as crates/image/specs/Known.antt has them from document 01's sentence: of two fresh buses, and of one that calls have
- * brought to a state in which every field holds something of its own. */
+ * brought to a state of mixed contents. */
 #include "lent.h"
 
 enum { COLOURS_AT = 512, FIELDS_AT = 632, FIELDS_LEN = POUCH_IMAGE_LEN - FIELDS_AT };
@@ -15,7 +15,7 @@ static const uint8_t fresh_colour[FIELDS_LEN] = {
 
 static const uint8_t mixed[FIELDS_LEN] = {
     0xAB, 0x09, 0x73, 0x9A, 0x2B, 0x3C, 0x4D, 0x61, 0x38, 0x24, 0x10, 0x68, 0x1F, 0xFF, 0xFF, 0xFF, 0xC0,
-    0x24, 0x68, 0xAC, 0xE1, 0x35, 0x79, 0xBD, 0xFF, 0xFF, 0xFF, 0x83, 0x0B, 0xB2, 0x69, 0x52, 0xB3, 0xC0};
+    0x24, 0x68, 0xAC, 0xE1, 0x35, 0x79, 0xBD, 0xFF, 0xFF, 0xFF, 0x83, 0x0B, 0xB2, 0x69, 0x72, 0xB3, 0xC0};
 
 /* 32 background colours, then 32 of sprites. */
 static const uint8_t mixed_colours[FIELDS_AT - COLOURS_AT] = {
@@ -44,7 +44,7 @@ static void put_colour(uint16_t at, unsigned red, unsigned green, unsigned blue)
 static void check_mixed(void)
 {
     const struct { uint16_t index; uint8_t byte; } writes[] = {
-        {0x2000, 13}, {0x4000, 2}, {0x6000, 1}, {0x4000, 2},                               /* ROM bank 64 + 13, RAM bank 2 */
+        {0x0000, 0x0A}, {0x2000, 13}, {0x4000, 2}, {0x6000, 1}, {0x4000, 2},               /* RAM on, ROM bank 64 + 13, RAM bank 2 */
         {0xFF51, 0xC1}, {0xFF52, 0x20}, {0xFF53, 0x03}, {0xFF54, 0x40}, {0xFF55, 0x81},    /* HDMA from C120 to 8340 */
         {0xFF70, 5}, {0xFF68, 0x80}, {0xFF6A, 0x80},
     };

@@ -1,7 +1,7 @@
 -- Images of five known states, byte by byte, worked out bit by bit from document 01's sentence alone ("State image, .., most significant bit first:
 -- OAM 256 bytes; high page 256; 32 background then 32 sprite colours, ..", widths as document 02 has them) and not from Layout.antt: a layout with
 -- two fields exchanged, alike in both directions, would pass the laws of Laws.antt, and is seen here. Any two fields of one width differ in some
--- state.
+-- state, and none is 0 in all of them, as the last three bits are.
 use mathlib.Core.Bool.{Bool, true, false}
 use mathlib.Core.List.{List, [], _∷_, _++_, map}
 use mathlib.Core.Path.{_≡_}
@@ -35,7 +35,7 @@ freshColour =
     0x82 ∷ 0x00 ∷ 0x7F ∷ 0xC8 ∷ 0x00 ∷ 0x00 ∷ 0x80 ∷ 0x00 ∷ 0x1F ∷ 0xFE ∷ 0x13 ∷ 0xFE ∷ 0x00 ∷ 0x00 ∷ 0x00 ∷ 0x00 ∷ 0x00 ∷
     0x00 ∷ 0x00 ∷ 0x00 ∷ 0x00 ∷ 0x00 ∷ 0x00 ∷ 0x00 ∷ 0x00 ∷ 0x00 ∷ 0x00 ∷ 0x00 ∷ 0x00 ∷ 0x80 ∷ 0x08 ∷ 0x00 ∷ 0x00 ∷ 0x00 ∷ []
 
--- States in which every field holds something of its own: OAM rises and the page falls
+-- States of mixed contents: OAM rises and the page falls
 
 abbrev pub upFrom : ℕ → ℕ → List ℕ
 upFrom k zero = []
@@ -97,32 +97,32 @@ mixedColours =
 abbrev pub mixedBytes : List ℕ → List ℕ
 mixedBytes fields = rising ++ falling ++ mixedColours ++ fields
 
--- 128 banks, code 3: ROM bank 77, RAM bank 2, mode 1, high bits 2
+-- 128 banks, code 3: ROM bank 77, RAM bank 2, mode 1, enabled, high bits 2
 abbrev pub mixedMbc1 : Memory
 mixedMbc1 =
-    mixed true false true 0 5 true false (cartridgeOf 128 3) (Mbc1 (record { rom = 77; ram = 2; mode = true; enabled = false; high = 2 }))
+    mixed true false true 0 5 true false (cartridgeOf 128 3) (Mbc1 (record { rom = 77; ram = 2; mode = true; enabled = true; high = 2 }))
 
 abbrev pub mixedMbc1Fields : List ℕ
 mixedMbc1Fields =
     0xAB ∷ 0x09 ∷ 0x73 ∷ 0x9A ∷ 0x2B ∷ 0x3C ∷ 0x4D ∷ 0x61 ∷ 0x38 ∷ 0x24 ∷ 0x10 ∷ 0x68 ∷ 0x1F ∷ 0xFF ∷ 0xFF ∷ 0xFF ∷ 0xC0 ∷
-    0x24 ∷ 0x68 ∷ 0xAC ∷ 0xE1 ∷ 0x35 ∷ 0x79 ∷ 0xBD ∷ 0xFF ∷ 0xFF ∷ 0xFF ∷ 0x83 ∷ 0x0B ∷ 0xB2 ∷ 0x69 ∷ 0x52 ∷ 0xB3 ∷ 0xC0 ∷ []
+    0x24 ∷ 0x68 ∷ 0xAC ∷ 0xE1 ∷ 0x35 ∷ 0x79 ∷ 0xBD ∷ 0xFF ∷ 0xFF ∷ 0xFF ∷ 0x83 ∷ 0x0B ∷ 0xB2 ∷ 0x69 ∷ 0x72 ∷ 0xB3 ∷ 0xC0 ∷ []
 
 -- monochrome; 16 banks: ROM bank 9, enabled
 abbrev pub mixedMbc2 : Memory
-mixedMbc2 = mixed false true false 0 1 true false (cartridgeOf 16 0) (Mbc2 (record { rom = 9; enabled = true }))
+mixedMbc2 = mixed false true false 0 1 true true (cartridgeOf 16 0) (Mbc2 (record { rom = 9; enabled = true }))
 
 abbrev pub mixedMbc2Fields : List ℕ
 mixedMbc2Fields =
-    0x43 ∷ 0x09 ∷ 0x73 ∷ 0x9A ∷ 0x2B ∷ 0x3C ∷ 0x4D ∷ 0x61 ∷ 0x38 ∷ 0x24 ∷ 0x10 ∷ 0x68 ∷ 0x1F ∷ 0xFF ∷ 0xFF ∷ 0xFF ∷ 0xC0 ∷
+    0x43 ∷ 0x89 ∷ 0x73 ∷ 0x9A ∷ 0x2B ∷ 0x3C ∷ 0x4D ∷ 0x61 ∷ 0x38 ∷ 0x24 ∷ 0x10 ∷ 0x68 ∷ 0x1F ∷ 0xFF ∷ 0xFF ∷ 0xFF ∷ 0xC0 ∷
     0x24 ∷ 0x68 ∷ 0xAC ∷ 0xE1 ∷ 0x35 ∷ 0x79 ∷ 0xBD ∷ 0xFF ∷ 0xFF ∷ 0xFF ∷ 0x83 ∷ 0x12 ∷ 0x00 ∷ 0x48 ∷ 0x22 ∷ 0xB3 ∷ 0xC0 ∷ []
 
 -- 512 banks, code 4: ROM bank 341, RAM bank 13, enabled
 abbrev pub mixedMbc5 : Memory
-mixedMbc5 = mixed true false true 1 6 false false (cartridgeOf 512 4) (Mbc5 (record { rom = 341; ram = 13; enabled = true }))
+mixedMbc5 = mixed true false true 1 6 false true (cartridgeOf 512 4) (Mbc5 (record { rom = 341; ram = 13; enabled = true }))
 
 abbrev pub mixedMbc5Fields : List ℕ
 mixedMbc5Fields =
-    0xBC ∷ 0x09 ∷ 0x73 ∷ 0x9A ∷ 0x2B ∷ 0x3C ∷ 0x4D ∷ 0x61 ∷ 0x38 ∷ 0x24 ∷ 0x10 ∷ 0x68 ∷ 0x1F ∷ 0xFF ∷ 0xFF ∷ 0xFF ∷ 0xC0 ∷
+    0xBC ∷ 0x89 ∷ 0x73 ∷ 0x9A ∷ 0x2B ∷ 0x3C ∷ 0x4D ∷ 0x61 ∷ 0x38 ∷ 0x24 ∷ 0x10 ∷ 0x68 ∷ 0x1F ∷ 0xFF ∷ 0xFF ∷ 0xFF ∷ 0xC0 ∷
     0x24 ∷ 0x68 ∷ 0xAC ∷ 0xE1 ∷ 0x35 ∷ 0x79 ∷ 0xBD ∷ 0xFF ∷ 0xFF ∷ 0xFF ∷ 0x83 ∷ 0x1C ∷ 0xCA ∷ 0xAE ∷ 0xA2 ∷ 0xB3 ∷ 0xC0 ∷ []
 
 -- a state that is in range, and its bytes
