@@ -5,7 +5,7 @@ use mathlib.Core.List.{List, [], _∷_, _++_}
 use mathlib.Core.Logic.{_⊎_}
 use mathlib.Core.Path.{_≡_}
 use Prim.Native.Nat.{ℕ, _+_, _≤_, _<_}
-use lib.ListN.{replicate}
+use lib.ListN.{length, replicate}
 use Rattle.bus.specs.Fresh.{startedBy}
 use Rattle.commands.specs.Walk.{strangeText}
 use Rattle.lines.specs.Contents.{Filled}
@@ -34,7 +34,7 @@ walkAll x w input = walkLines x w (linesOf input)
 abbrev pub Begins : Fixed → World → Type 0
 Begins x w =
     (w ≡ world (startedBy 1 2 2 false) (replicate 8192 0) (replicate 8192 0) (replicate 8192 0) (replicate 4095 0))
-    × ((x .sound ≡ replicate 48 0) × Filled romByte (x .rom) 32768)
+    × ((x .sound ≡ replicate 48 0) × ((length (x .rom) ≡ 32768) × Filled romByte (x .rom) 32768))
 
 -- The walk on its way
 

@@ -62,17 +62,16 @@ slice-aggregate-walk-6 c = search needs
 
 walk-requires : tie.Need-walk-requires
 walk-requires c κs =
-    let e = c .before .before .before .before .before .before .before .before .begin .ensures in (
+    let e = c .before .before .before .before .before .before .before .before .begin .ensures in
+    let size = slice-aggregate-walk (c .before .before .before .before .before) in (
       worlds-same _ _ (e .0) (e .1 .0) (e .1 .1),
       (
         refl,
-        λ n h. c .before .before .before .before .before .before .before .before .before .before
-            .before .before .before .before .before .before .fill-rom .ensures n (omega (
-              arith,
-              h,
-              slice-aggregate-walk (c .before .before .before .before
-                  .before),
-            )),
+        (
+          omega (arith, size),
+          λ n h. c .before .before .before .before .before .before .before .before .before .before
+              .before .before .before .before .before .before .fill-rom .ensures n (omega (arith, h, size)),
+        ),
       ),
     )
 
