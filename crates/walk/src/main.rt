@@ -122,8 +122,8 @@ fn printed(used: usize, out: &[u8]) -> Waiting
     }
 }
 
-// The answers are printed where every line that was read is answered, before more is waited for, and where there is no room for a line more,
-// of ten bytes.
+// The answers are printed where nothing that was read is left to be answered, so before more is waited for, and where there is no room for a line
+// more, of ten bytes. The beginning of a line that waits for its rest holds them back.
 fn shown(used: usize, reader: Reader, out: &[u8]) -> Waiting
     requires { ⌜ (used ≤ length (now out)) × (10 ≤ length (now out)) ⌝ }
     ensures { λ r. ⌜ (r .used + 10 ≤ length (now (out .entry))) × Shown reader used (length (now (out .entry))) (r .used) (r .lost) ⌝ }
