@@ -6,7 +6,7 @@ use Prim.Native.Nat.{ℕ, _-_, _/_, _%_, _≤_}
 use native.Mathlib.Omega.{arith}
 use lib.ListN.{length, take}
 use lib.Seq.{take-at}
-use borrow.Author.Tests.{eq-eqb}
+use borrow.Author.Tests.{ne-eqb}
 use Rattle.dispatch.specs.Kinds.{kindOf}
 use Rattle.dispatch.specs.Lent.{Lent, start, begin}
 use Rattle.dispatch.specs.Step.{step}
@@ -29,7 +29,7 @@ use Rattle.promise.proofs.Promise.{promise, resumed}
 use Rattle.promise.specs.Admitted.{recordsOf}
 use Rattle.promise.specs.Calls.{writesOf}
 use Rattle.promise.specs.Gate.{Terms, Gate}
-use Rattle.promise.specs.Promise.{Bytes, Typed, Recovers, Told, free, Refuses, Without, Ruled}
+use Rattle.promise.specs.Promise.{Bytes, Typed, Recovers, Told, free, Refuses, Without, Ruled, Judged}
 use Rattle.promise.specs.Runs.{
   Lending,
   Own,
@@ -90,7 +90,7 @@ use Rattle.boundary.specs.Held.{
 use Rattle.boundary.specs.Types.{CallTyped, LendingTyped, TurnTyped, TurnsTyped}
 use Rattle.boundary.proofs.Bytes.{step-whole}
 use Rattle.boundary.proofs.Entries.{entry-step}
-use Rattle.boundary.proofs.Fresh.{begun-fine, fresh-done}
+use Rattle.boundary.proofs.Fresh.{begun-fine, fresh-number, fresh-done}
 use Rattle.in_place.proofs.Fine.{Fine, typed-fine, fine-typed}
 
 -- a state whose image gives it back, over a save of bytes; video and work memory come with each call
@@ -281,7 +281,10 @@ entry-promise image l ts z b m h =
 
 pub entry-begins : EntryBegins
 unfolding freshEntry
-entry-begins image l e f = rw (eq-eqb (length image) imageLen e, begins l f)
+entry-begins image l = (
+  λ e. subst (λ (n : ℕ). Judged l n) (sym (fresh-number image (l .vram) (l .wram) (start l) e)) (begins l),
+  λ n. rw (ne-eqb (length image) imageLen n),
+)
 
 -- on any image that is taken: it is the image of its state
 

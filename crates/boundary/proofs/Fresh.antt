@@ -1,7 +1,7 @@
 -- What the fresh entry leaves: a state of the code's types.
 use mathlib.Core.Bool.{Bool, true, false, _&&_}
 use mathlib.Core.List.{List, [], _∷_}
-use mathlib.Core.Path.{_≡_, refl}
+use mathlib.Core.Path.{_≡_, refl, sym}
 use Prim.Native.Nat.{ℕ, zero, suc}
 use native.Mathlib.Omega.{arith}
 use lib.Dec.{eqb, ltb, lit<}
@@ -9,7 +9,7 @@ use lib.ListN.{length, getD, replicate, length-replicate}
 use lib.IntN.{pos}
 use mir.Syntax.{w32}
 use mir.Val.{SFits}
-use borrow.Author.Tests.{ltb-true, eqb-true, eqb-false}
+use borrow.Author.Tests.{ltb-true, eq-eqb, eqb-true, eqb-false}
 use Rattle.bus.specs.Fresh.{Begun}
 use Rattle.dispatch.proofs.Starts.{by-begun}
 use Rattle.dispatch.specs.Lent.{Lent, start, begin}
@@ -72,6 +72,13 @@ started-fine c m colour =
 
 pub begun-fine : (l : Lent) → start l .number ≡ done → Fine (begin l .state)
 begun-fine l z = by-begun (λ (f : Begun). Fine (f .state)) _ _ _ _ z (λ e. started-fine _ _ (l .colour))
+
+-- the fresh entry's number, with a buffer of an image's length, is the call's
+pub fresh-number : (image v w : List ℕ) (b : Begun) → length image ≡ imageLen → freshEntry image v w b .number ≡ b .number
+unfolding freshEntry
+fresh-number image v w b e =
+    rw (eq-eqb (length image) imageLen e)
+    (by-cond (λ (f : Fresh). f .number ≡ b .number) (eqb (b .number) 0) _ _ (λ s. sym (eqb-true (b .number) 0 s)) (λ s. refl))
 
 -- the fresh entry, done
 pub fresh-done : (image v w : List ℕ) (b : Begun) → freshEntry image v w b .number ≡ done

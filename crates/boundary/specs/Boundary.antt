@@ -9,13 +9,12 @@ use Rattle.entry.specs.Entry.{Fresh, freshEntry, usedEntry}
 use Rattle.image.specs.Layout.{imageLen}
 use Rattle.image.specs.Load.{storable}
 use Rattle.memory.specs.World.{World}
-use Rattle.numbers.specs.Numbers.{done, outOfRange}
+use Rattle.numbers.specs.Numbers.{done, outOfRange, wrongLength}
 use Rattle.packing.specs.Packing.{Below}
 use Rattle.promise.specs.Admitted.{recordsOf}
 use Rattle.promise.specs.Gate.{Terms, Gate, admittedBy, ruledAll}
-use Rattle.promise.specs.Promise.{Typed, Recovers, Told, Refuses, Without}
+use Rattle.promise.specs.Promise.{Typed, Recovers, Told, Refuses, Without, Judged}
 use Rattle.promise.specs.Runs.{
-  Fitting,
   Turn,
   Lends,
   AllLend,
@@ -99,9 +98,13 @@ EntryPromise =
     → TurnsTyped ts
     → EntryKept l (heldAt image l) ts
 
--- there are such: with a buffer of an image's length, a description and lengths as documents 01 and 02 have them are not refused
+-- and which are not refused (crate promise, `Judged`), with a buffer of an image's length; 4 with any other, whatever the description: "Order: 3
+-- (after an image's length, by 4)" (document 01)
 abbrev pub EntryBegins : Type 0
-EntryBegins = (image : List ℕ) (l : Lent) → length image ≡ imageLen → Fitting l → freshly image l .number ≡ done
+EntryBegins =
+    (image : List ℕ) (l : Lent)
+    → (length image ≡ imageLen → Judged l (freshly image l .number))
+    × ((length image ≡ imageLen → ⊥) → freshly image l .number ≡ wrongLength)
 
 -- From any image that is taken, over a save and a log of its lengths (crate promise, `Able`, `Continued`)
 pub record Holding (h : Held) : Type 0 where

@@ -4,7 +4,7 @@ unfoldable pub use Rattle.bus.specs.Fresh.{freshRefused, beginning}
 pub use Rattle.dispatch.specs.Step.{inWorld}
 unfoldable pub use Rattle.dispatch.specs.Step.{stateStep}
 unfoldable pub use Rattle.refusals.specs.Answers.{changed, byteGiven, wordGiven, flagGiven, waitingGiven}
-pub use Rattle.refusals.specs.Refusal.{refusedState, refusedRead, refusedWrite}
+pub use Rattle.refusals.specs.Refusal.{refusedState, refusedRead, refusedWrite, lengthsAre}
 unfoldable pub use Rattle.refusals.specs.Refusal.{orElse, lengthsFit, lengthsRefused, logRefused, lentRefused, eitherInSave}
 unfoldable pub use Rattle.refusals.specs.Refusal.{byteRoom, wordRoom, stateRefused, readRefused, writeRefused}
 unfoldable pub use Rattle.refusals.specs.Refusal.{rawRefused, cyclesRefused, vramLengthRefused, vramRefused, hasBank}

@@ -15,6 +15,7 @@ use Rattle.promise.specs.Bus.call as call
 use Rattle.promise.specs.Bus.on as on
 use Rattle.promise.specs.Calls.{ByteWrite, byte, writesOf}
 use Rattle.promise.specs.Admitted.{letInAll, recordsOf}
+use Rattle.promise.specs.Described.{Described}
 use Rattle.promise.specs.Gate.{Terms, Gate, Asked, gatesAfter, admittedBy, ruledAll, telling}
 use Rattle.promise.specs.Runs.{
   Fitting,
@@ -119,9 +120,16 @@ pub record Kept (l : Lent) (ts : List Turn) : Type 0 where
 abbrev pub Promise : Type 0
 Promise = (l : Lent) (ts : List Turn) → start l .number ≡ done → AllLend (ramOf l) ts → Kept l ts
 
--- and there are such: a description and lengths as documents 01 and 02 have them are not refused
+-- and these are the ones that are not refused: a description and lengths as documents 01 and 02 have them, and no others. "Numbers a call gives
+-- back", in the order 3, 4: 3 where the description is none, whatever is lent; where it is one, 4 unless all lengths fit
+pub record Judged (l : Lent) (number : ℕ) : Type 0 where
+  pub fits : Fitting l → number ≡ done
+  pub only : number ≡ done → Fitting l
+  pub none : ((ram : ℕ) → Described (l .kind) (l .banks) (l .code) ram → ⊥) → number ≡ outOfRange
+  pub other : (ram : ℕ) → Described (l .kind) (l .banks) (l .code) ram → (Fitting l → ⊥) → number ≡ wrongLength
+
 abbrev pub Begins : Type 0
-Begins = (l : Lent) → Fitting l → start l .number ≡ done
+Begins = (l : Lent) → Judged l (start l .number)
 
 -- Save and log depend on the description, the image, the log's length, and the writes and clearings alone: not on a byte of ROM, video memory, work
 -- memory or the sound window, nor on reads, transfers, timer, buttons or screen among the calls
