@@ -16,9 +16,9 @@ use Rattle.promise.specs.Calls.{writesOf}
 use Rattle.promise.specs.Described.{Described}
 use Rattle.promise.specs.Gate.{Terms, Gate, Asked, admittedBy, ofWrite}
 
--- A description and lengths as documents 01 and 02 have them: such a fresh bus is not refused, and no other. "Cartridge and buffers": "ROM is N banks of
--- 16,384 bytes"; "Monochrome: VRAM 8,192, WRAM 8,192. Colour: 16,384 and 32,768"; "Log: 0 to 65,535 bytes"; "The sound window is 48 bytes".
--- The image is as long as the RAM
+-- A description and lengths as documents 01 and 02 have them: such a fresh bus is not refused, and no other. "Cartridge and buffers": "ROM is N
+-- banks of 16,384 bytes"; "Monochrome: VRAM 8,192, WRAM 8,192. Colour: 16,384 and 32,768"; "Log: 0 to 65,535 bytes"; "The sound window is 48
+-- bytes". The image is as long as the RAM
 pub record Fitting (l : Lent) : Type 0 where
   pub described : Described (l .kind) (l .banks) (l .code) (length (l .image))
   pub rom : length (l .rom) ≡ l .banks * 16384
