@@ -102,6 +102,8 @@ module _ (c : Cartridge) (m : Registers) (i : ℕ) where
 pub mbc1-rules : Mbc1Rules
 mbc1-rules =
     record {
+      step = λ c m i v. refl;
+      shown = λ m. refl;
       registers =
           λ c m i v h.
           only i (λ r. Does r c m v (after1 c m i v)) rows 0x0000 0x8000 refl (omega arith) h

@@ -77,6 +77,8 @@ module _ (c : Cartridge) (m : Registers) (i : ℕ) (h : 0xA000 ≤ i) (l : i ≤
 pub mbc2-rules : Mbc2Rules
 mbc2-rules =
     record {
+      step = λ c m i v. refl;
+      shown = λ m. refl;
       enable = enable;
       select = select;
       none = none;

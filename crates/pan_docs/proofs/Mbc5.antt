@@ -104,6 +104,8 @@ module _ (c : Cartridge) (m : Registers) (i : ℕ) where
 pub mbc5-rules : Mbc5Rules
 mbc5-rules =
     record {
+      step = λ c m i v. refl;
+      shown = λ m. refl;
       registers =
           λ c m i v h.
           only i (λ r. Does r c m v (after5 c m i v)) rows 0x0000 0x6000 refl (omega arith) h

@@ -4,7 +4,8 @@ use mathlib.Core.List.{List, [], _∷_}
 use mathlib.Core.Path.{_≡_}
 use Prim.Native.Nat.{ℕ, _+_, _-_, _*_, _^_, _<_, _≤_}
 use lib.Dec.{eqb, ltb}
-use Rattle.mbc.specs.Mbc.{kindMbc1, start, romBank, afterAll, ramBanks, withRom, withRam, withMode, withEnabled, withHigh, after1}
+use Rattle.mbc.specs.Mbc.{kindMbc1, start, romBank, after, afterAll, ramBanks}
+use Rattle.mbc.specs.Mbc.{withRom, withRam, withMode, withEnabled, withHigh, after1}
 use Rattle.mbc.specs.declared.cartridge.Cartridge.{Cartridge}
 use Rattle.mbc.specs.declared.mbc.Mapper.the-variants.{Mbc1}
 use Rattle.mbc.specs.declared.mbc1.Mbc1.{Mbc1 as Registers}
@@ -55,6 +56,9 @@ Does UpperBits c m v t = (m .mode ≡ false → Upper c m t v) × (m .mode ≡ t
 Does Mode c m v t = c .code ≡ 3 → t ≡ withMode m (eqb (bit v 0) 1)
 
 pub record Mbc1Rules : Type 0 where
+  -- a write is one to these registers, whose ROM bank 4000-7FFF shows
+  pub step : (c : Cartridge) (m : Registers) (index v : ℕ) → after c (Mbc1 m) index v ≡ Mbc1 (after1 c m index v)
+  pub shown : (m : Registers) → romBank (Mbc1 m) ≡ m .rom
   pub registers : (c : Cartridge) (m : Registers) (index v : ℕ) → index < 0x8000 → Only rows index (λ r. Does r c m v (after1 c m index v))
   -- A000-BFFF: "RAM off reads FF, writes are ignored"
   pub off : (c : Cartridge) (m : Registers) (index v : ℕ) → 0xA000 ≤ index → index ≤ 0xBFFF → m .enabled ≡ false → RamOff c (Mbc1 m) index v

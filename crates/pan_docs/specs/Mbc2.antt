@@ -6,7 +6,7 @@ use mathlib.Core.Path.{_≡_}
 use Prim.Native.Nat.{ℕ, _^_, _≤_}
 use lib.Dec.{ltb}
 use lib.ListN.{getD}
-use Rattle.mbc.specs.Mbc.{ramSource, answer, byteOf, after2}
+use Rattle.mbc.specs.Mbc.{romBank, after, ramSource, answer, byteOf, after2}
 use Rattle.mbc.specs.declared.cartridge.Cartridge.{Cartridge}
 use Rattle.mbc.specs.declared.mbc.Answer.the-variants.{Stored}
 use Rattle.mbc.specs.declared.mbc.Mapper.the-variants.{Mbc2}
@@ -24,6 +24,9 @@ pub record Bank (c : Cartridge) (m t : Registers) (v : ℕ) : Type 0 where
   pub bank : (n : ℕ) → c .banks ≡ 2 ^ n → Masked n (four v) (t .rom)
 
 pub record Mbc2Rules : Type 0 where
+  -- a write is one to these registers, whose ROM bank 4000-7FFF shows
+  pub step : (c : Cartridge) (m : Registers) (index v : ℕ) → after c (Mbc2 m) index v ≡ Mbc2 (after2 c m index v)
+  pub shown : (m : Registers) → romBank (Mbc2 m) ≡ m .rom
   pub enable : (c : Cartridge) (m : Registers) (index v : ℕ) → index ≤ 0x1FFF → bit index 8 ≡ 0
       → after2 c m index v ≡ record { rom = m .rom; enabled = lowFourA v }
   pub select : (c : Cartridge) (m : Registers) (index v : ℕ) → 0x2000 ≤ index → index ≤ 0x3FFF → bit index 8 ≡ 1 → Bank c m (after2 c m index v) v

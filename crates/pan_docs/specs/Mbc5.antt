@@ -5,7 +5,7 @@ use mathlib.Core.Path.{_≡_}
 use Prim.Native.Nat.{ℕ, _+_, _*_, _^_, _<_, _≤_}
 use lib.Dec.{eqb, ltb}
 use Rattle.mbc.specs.Mbc.{Apart, apartOf, kindMbc5, described, start, romBank}
-use Rattle.mbc.specs.Mbc.{afterAll, ramBanks, withRom5, withRam5, withEnabled5, after5}
+use Rattle.mbc.specs.Mbc.{after, afterAll, ramBanks, withRom5, withRam5, withEnabled5, after5}
 use Rattle.mbc.specs.declared.cartridge.Cartridge.{Cartridge}
 use Rattle.mbc.specs.declared.mbc.Mapper.the-variants.{Mbc5}
 use Rattle.mbc.specs.declared.mbc5.Mbc5.{Mbc5 as Registers}
@@ -42,6 +42,9 @@ Does Ninth c m v t = Bank c m t (nine (bit (m .rom)) (bit v 0))
 Does RamBank c m v t = Ram c m t v
 
 pub record Mbc5Rules : Type 0 where
+  -- a write is one to these registers, whose ROM bank 4000-7FFF shows
+  pub step : (c : Cartridge) (m : Registers) (index v : ℕ) → after c (Mbc5 m) index v ≡ Mbc5 (after5 c m index v)
+  pub shown : (m : Registers) → romBank (Mbc5 m) ≡ m .rom
   pub registers : (c : Cartridge) (m : Registers) (index v : ℕ) → index < 0x6000 → Only rows index (λ r. Does r c m v (after5 c m index v))
   -- 6000-7FFF has no register
   pub none : (c : Cartridge) (m : Registers) (index v : ℕ) → 0x6000 ≤ index → after5 c m index v ≡ m
