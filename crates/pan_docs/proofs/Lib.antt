@@ -1,4 +1,5 @@
 pub mod Bits
+pub mod Page
 pub mod Rows
 pub mod Map
 pub mod Ones
@@ -15,3 +16,4 @@ pub mod Palettes
 pub mod Timer
 pub mod Interrupts
 pub mod Joypad
+pub mod Addresses

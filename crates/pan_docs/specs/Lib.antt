@@ -14,4 +14,5 @@ pub mod Palettes
 pub mod Timer
 pub mod Interrupts
 pub mod Joypad
+pub mod Addresses
 pub mod PanDocs

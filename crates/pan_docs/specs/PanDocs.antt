@@ -1,4 +1,5 @@
 -- The theorems of this crate. Each file is of one section of Pan Docs, quotes it, and says where document 01 departs; RomOnly is document 01's.
+use Rattle.pan_docs.specs.Addresses.{Addresses}
 use Rattle.pan_docs.specs.Colour.{ColourRegisters}
 use Rattle.pan_docs.specs.Interrupts.{InterruptBits}
 use Rattle.pan_docs.specs.Joypad.{JoypadBits}
@@ -15,6 +16,7 @@ use Rattle.pan_docs.specs.Transfers.{TransferRegisters}
 
 pub record PanDocs : Type 0 where
   pub map : MemoryMap
+  pub addresses : Addresses
   pub ones : BitsThatReadOne
   pub ly-is-lyc : LyIsLyc
   pub colour : ColourRegisters

@@ -1,4 +1,5 @@
 -- Each theorem is that of its file in proofs/.
+use Rattle.pan_docs.proofs.Addresses.{addresses}
 use Rattle.pan_docs.proofs.Colour.{colour-registers}
 use Rattle.pan_docs.proofs.Interrupts.{interrupt-bits}
 use Rattle.pan_docs.proofs.Joypad.{joypad-bits}
@@ -20,6 +21,7 @@ returns : tie.Need-returns
 returns c =
     record {
       map = memory-map;
+      addresses = addresses;
       ones = bits-that-read-one;
       ly-is-lyc = ly-is-lyc;
       colour = colour-registers;
