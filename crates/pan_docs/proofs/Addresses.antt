@@ -7,7 +7,7 @@ use native.Mathlib.Omega.{arith}
 use lib.Dec.{lit<}
 use lib.ListN.{length, set}
 use Rattle.hdma.specs.Hdma.{starts}
-use Rattle.joypad.specs.Joypad.{padRead, polled}
+use Rattle.joypad.specs.Joypad.{polled}
 use Rattle.interrupt.specs.Flags.{requested, removed}
 use Rattle.lcd.specs.declared.Screen.{Screen}
 use Rattle.memory.specs.declared.Memory.{Memory}
@@ -17,7 +17,7 @@ use Rattle.registers.specs.Colour.{backgroundOf, spritesOf, withBackgroundPalet
 use Rattle.registers.specs.Colour.{backgroundIndexPut, backgroundDataPut, spriteIndexPut, spriteDataPut}
 use Rattle.registers.specs.Page.{readRegister, writeRegister, shownAs, plainRead, lineRead}
 use Rattle.registers.specs.Register.{registerOf, byteAs}
-use Rattle.registers.specs.State.{loaded, stored, screenOf, onScreen, timerOf, withTimer, polledIn}
+use Rattle.registers.specs.State.{loaded, stored, screenOf, onScreen, withTimer}
 use Rattle.registers.specs.Transfers.{started, startedBy, copyOf}
 use Rattle.registers.specs.declared.transfers.Started.{Started}
 use Rattle.timer.specs.declared.Timer.{Timer}

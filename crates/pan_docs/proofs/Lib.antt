@@ -3,6 +3,7 @@ pub mod Page
 pub mod Rows
 pub mod Map
 pub mod Ones
+pub mod Control
 pub mod LyLyc
 pub mod Banks
 pub mod RomOnly

@@ -114,6 +114,12 @@ lyc-off s v o =
     by-cond (λ (t : Screen). t ≡ with-compare s v) (eqb (s .compare) v) s _ (λ t. ap (λ (x : ℕ). with-compare s x) (eqb-true (s .compare) v t))
     (λ f. cond-false _ _ _ (shows-off s o))
 
+lyc-disabled : (s : Screen) (v : ℕ) → s .lcd .disabled ≡ true → lycWritten s v ≡ with-compare s v
+unfolding lycWritten
+lyc-disabled s v d =
+    by-cond (λ (t : Screen). t ≡ with-compare s v) (eqb (s .compare) v) s _ (λ t. ap (λ (x : ℕ). with-compare s x) (eqb-true (s .compare) v t))
+    (λ f. cond-both (λ (t : Screen). t ≡ with-compare s v) (isSet (s .control) 7) (disabled (with-compare s v) d) refl)
+
 lyc-same : (s : Screen) (v : ℕ) → s .compare ≡ v → lycWritten s v ≡ s
 unfolding lycWritten
 lyc-same s v e = cond-true _ s _ (eq-eqb (s .compare) v e)
@@ -207,6 +213,15 @@ module _ (s : Screen) (v : ℕ) where
   status-off o =
       ap (λ (u : Screen). bit (u .status) 2) (cond-false _ _ (statusPut s v) (shows-off s o)) ∙ read-only (s .status) v 2 (omega arith)
 
+  status-disabled : s .lcd .disabled ≡ true → bit (statusWritten s v .status) 2 ≡ bit (s .status) 2
+  unfolding statusWritten
+  status-disabled d =
+      let P : Screen → Type 0 = λ t. bit (t .status) 2 ≡ bit (s .status) 2 in
+      let t = modeSignalled (statusPut s v) in
+      let p = read-only (s .status) v 2 (omega arith) in
+      let u : t .lcd .disabled ≡ true = mode-by (λ (u : Screen). u .lcd .disabled ≡ true) (statusPut s v) d d in
+      cond-both P (isSet (s .control) 7) (subst P (sym (disabled t u)) (mode-by P (statusPut s v) p p)) p
+
   -- what was requested stays so
   stays-requested : (t : Screen) → bit (t .flags) 1 ≡ 1 → bit (lyCompared t .flags) 1 ≡ 1
   stays-requested t e = by-disabled (t .lcd .disabled) refl
@@ -299,10 +314,12 @@ ly-is-lyc =
       disabled = disabled;
       lyc-written = lyc-written;
       lyc-off = lyc-off;
+      lyc-disabled = lyc-disabled;
       lyc-same = lyc-same;
       status-written = status-written;
       status-equal = status-equal;
       status-off = status-off;
+      status-disabled = status-disabled;
       status-requests = status-requests;
       status-quiet = status-quiet;
     }

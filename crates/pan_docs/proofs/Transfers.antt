@@ -1,24 +1,30 @@
 -- FF51..FF55: an address of two bytes is a number of parts side by side.
 use mathlib.Core.Bool.{true, false, cond}
+use mathlib.Core.List.{List, [], _∷_}
 use mathlib.Core.Logic.{_⊎_, ⊎-elim}
 use mathlib.Core.Path.{_≡_, refl, sym, ap, _∙_}
 use Prim.Native.Nat.{ℕ, _+_, _-_, _*_, _/_, _%_, _^_, _<_, _≤_}
 use native.Mathlib.Omega.{arith}
-use lib.Dec.{eqb, ltb}
+use lib.Dec.{eqb, ltb, lit<}
+use lib.ListN.{length, set}
 use borrow.Author.Tests.{eqb-true, eqb-false, eq-eqb, ne-eqb, ltb-true, ltb-false, lt-ltb, le-ltb}
 use Rattle.bit_utils.specs.Bits.{isSet}
+use Rattle.copies.specs.declared.Finish.the-variants as finish
 use Rattle.hdma.specs.Hdma.{keptBelow, sourceHigh, sourceLow, destinationHigh, destinationLow, firstBlock, starts, running, stopped}
+use Rattle.hdma.specs.Hdma.{generalEnded}
 use Rattle.hdma.specs.PanDocs.{sourceOf, destinationOf}
 use Rattle.hdma.specs.declared.Hdma.{Hdma}
 use Rattle.hdma.specs.declared.Start.the-variants.{Set, Block, General}
 use Rattle.memory.specs.declared.Memory.{Memory}
-use Rattle.registers.specs.Page.{writeRegister}
+use Rattle.registers.specs.Page.{readRegister, writeRegister, shownAs, plainRead}
 use Rattle.registers.specs.Register.{registerOf}
-use Rattle.registers.specs.Transfers.{sourceHighPut, sourceLowPut, destinationHighPut, destinationLowPut}
+use Rattle.registers.specs.Transfers.{sourceHighPut, sourceLowPut, destinationHighPut, destinationLowPut, finished}
 use Rattle.rules.proofs.Tests.{by-cond, cond-true, cond-false}
 use Rattle.pan_docs.specs.Bits.{bit}
+use Rattle.pan_docs.specs.Ones.{Every}
 use Rattle.pan_docs.specs.Transfers.{sourceBits, destinationBits, highByte, TransferRegisters}
 use Rattle.pan_docs.proofs.Bits.{low-mod, bit-none, bit-below, bit-shifted, bit-left, bit-right, bit-weight, is-set}
+use Rattle.pan_docs.proofs.Page.{size, here, past}
 
 -- bits 7..4 of a byte, in their places
 module _ (x j : ℕ) where
@@ -148,6 +154,37 @@ module _ (h : Hdma) (mode v : ℕ) where
   unfolding starts
   stops o e = rw (o, bit-off e)
 
+-- five bytes of FF
+done : (m : Memory) (v : ℕ) (sound : List ℕ) → length (m .page) ≡ 256
+    → Every (λ at. readRegister (finished m finish.General v) sound at ≡ 0xFF) (0x55 ∷ 0x54 ∷ 0x53 ∷ 0x52 ∷ 0x51 ∷ [])
+unfolding finished generalEnded readRegister shownAs plainRead
+done m v sound l =
+    let a = set (m .page) 0x51 0xFF in
+    let b = set a 0x52 0xFF in
+    let c = set b 0x53 0xFF in
+    let d = set c 0x54 0xFF in
+    let la = size (m .page) 0x51 0xFF l in
+    let lb = size a 0x52 0xFF la in
+    let lc = size b 0x53 0xFF lb in (
+      here d 0x55 0xFF (lit< tt) (size c 0x54 0xFF lc),
+      (
+        past d 0x55 0xFF (λ e. omega arith) (here c 0x54 0xFF (lit< tt) lc),
+        (
+          past d 0x55 0xFF (λ e. omega arith) (past c 0x54 0xFF (λ e. omega arith) (here b 0x53 0xFF (lit< tt) lb)),
+          (
+            past d 0x55 0xFF (λ e. omega arith)
+                (past c 0x54 0xFF (λ e. omega arith) (past b 0x53 0xFF (λ e. omega arith) (here a 0x52 0xFF (lit< tt) la))),
+            (
+              past d 0x55 0xFF (λ e. omega arith)
+                  (past c 0x54 0xFF (λ e. omega arith)
+                  (past b 0x53 0xFF (λ e. omega arith) (past a 0x52 0xFF (λ e. omega arith) (here (m .page) 0x51 0xFF (lit< tt) l)))),
+              tt,
+            ),
+          ),
+        ),
+      ),
+    )
+
 pub transfer-registers : TransferRegisters
 transfer-registers =
     record {
@@ -157,6 +194,8 @@ transfer-registers =
       destination-low = destination-low;
       length = λ v. ap (λ (x : ℕ). (x + 1) * 16) (sym (low-mod 7 v));
       general = general;
+      ends-so = λ m v. refl;
+      done = done;
       hblank = hblank;
       still = still;
       running-on = λ h v. record { is = refl; shows = sym (low-mod 7 v); source = refl; destination = refl };

@@ -2,6 +2,7 @@ pub mod Bits
 pub mod Rows
 pub mod Map
 pub mod Ones
+pub mod Control
 pub mod LyLyc
 pub mod Banks
 pub mod RomOnly

@@ -63,11 +63,14 @@ pub record LyIsLyc : Type 0 where
   -- a write of FF45: a new value is stored, and compared while the display is on; the same value changes nothing (the Rust's)
   pub lyc-written : (s : Screen) (v : ℕ) → on s → (s .compare ≡ v → ⊥) → Compared (with-compare s v) (lycWritten s v)
   pub lyc-off : (s : Screen) (v : ℕ) → bit (s .control) 7 ≡ 0 → lycWritten s v ≡ with-compare s v
+  -- and so with the screen disabled, whatever bit 7 says: compared is nothing
+  pub lyc-disabled : (s : Screen) (v : ℕ) → s .lcd .disabled ≡ true → lycWritten s v ≡ with-compare s v
   pub lyc-same : (s : Screen) (v : ℕ) → s .compare ≡ v → lycWritten s v ≡ s
-  -- a write of FF41: bits 6..3 are the written ones, 1..0 stay, and bit 2 is LY = LYC, or stays with the display off
+  -- a write of FF41: bits 6..3 are the written ones, 1..0 stay, and bit 2 is LY = LYC, or stays with the display off or the screen disabled
   pub status-written : (s : Screen) (v : ℕ) → StatusBits s (statusWritten s v) v
   pub status-equal : (s : Screen) (v : ℕ) → on s → bit (statusWritten s v .status) 2 ≡ cond (equal s) 1 0
   pub status-off : (s : Screen) (v : ℕ) → bit (s .control) 7 ≡ 0 → bit (statusWritten s v .status) 2 ≡ bit (s .status) 2
+  pub status-disabled : (s : Screen) (v : ℕ) → s .lcd .disabled ≡ true → bit (statusWritten s v .status) 2 ≡ bit (s .status) 2
   -- LCD is requested just then
   pub status-requests : (s : Screen) (v : ℕ) → statusRaises s v ≡ true → bit (statusWritten s v .flags) 1 ≡ 1
   pub status-quiet : (s : Screen) (v : ℕ) → statusRaises s v ≡ false → statusWritten s v .flags ≡ s .flags

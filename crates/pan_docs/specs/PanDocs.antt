@@ -1,6 +1,7 @@
 -- The theorems of this crate. Each file is of one section of Pan Docs, quotes it, and says where document 01 departs; RomOnly is document 01's.
 use Rattle.pan_docs.specs.Addresses.{Addresses}
 use Rattle.pan_docs.specs.Colour.{ColourRegisters}
+use Rattle.pan_docs.specs.Control.{ControlBits}
 use Rattle.pan_docs.specs.Interrupts.{InterruptBits}
 use Rattle.pan_docs.specs.Joypad.{JoypadBits}
 use Rattle.pan_docs.specs.LyLyc.{LyIsLyc}
@@ -18,6 +19,7 @@ pub record PanDocs : Type 0 where
   pub map : MemoryMap
   pub addresses : Addresses
   pub ones : BitsThatReadOne
+  pub control : ControlBits
   pub ly-is-lyc : LyIsLyc
   pub colour : ColourRegisters
   pub transfers : TransferRegisters

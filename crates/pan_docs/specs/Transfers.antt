@@ -1,17 +1,22 @@
 -- Pan Docs, "CGB Registers": FF51..FF55, of a byte write to the page on a colour machine.
 use mathlib.Core.Bool.{Bool, true, false, cond}
+use mathlib.Core.List.{List, [], _∷_}
 use mathlib.Core.Logic.{_⊎_}
 use mathlib.Core.Path.{_≡_}
 use Prim.Native.Nat.{ℕ, _+_, _-_, _*_, _<_, _≤_}
 use lib.Dec.{eqb, ltb}
+use lib.ListN.{length as len}
+use Rattle.copies.specs.declared.Finish.the-variants as finish
 use Rattle.hdma.specs.Hdma.{starts, running, stopped}
 use Rattle.hdma.specs.PanDocs.{lengthOf}
 use Rattle.hdma.specs.declared.Hdma.{Hdma}
 use Rattle.hdma.specs.declared.Start.the-variants.{Set, Block, General}
 use Rattle.hdma.specs.declared.Written.{Written}
 use Rattle.memory.specs.declared.Memory.{Memory}
-use Rattle.registers.specs.Page.{writeRegister}
+use Rattle.registers.specs.Page.{readRegister, writeRegister}
+use Rattle.registers.specs.Transfers.{finished, startedBy}
 use Rattle.pan_docs.specs.Bits.{bit, low}
+use Rattle.pan_docs.specs.Ones.{Every}
 
 -- "FF51, FF52: source, high and low, its low 4 bits ignored": bit j of the address from those of the high and of the low byte
 abbrev pub sourceBits : (ℕ → ℕ) → (ℕ → ℕ) → ℕ → ℕ
@@ -47,6 +52,10 @@ pub record TransferRegisters : Type 0 where
   pub length : (v : ℕ) → lengthOf v ≡ (low 7 v + 1) * 16
   -- "bit 7 at 0 copies all at once (general purpose)"
   pub general : (h : Hdma) (mode v : ℕ) → h .on ≡ false → bit v 7 ≡ 0 → starts h mode v ≡ General
+  -- "a general transfer done reads FF"; document 01: FF51..FF54 too. (The page has 256 bytes, as its type says.)
+  pub ends-so : (m : Memory) (v : ℕ) → startedBy m v General .copy .finish ≡ finish.General
+  pub done : (m : Memory) (v : ℕ) (sound : List ℕ) → len (m .page) ≡ 256
+      → Every (λ at. readRegister (finished m finish.General v) sound at ≡ 0xFF) (0x55 ∷ 0x54 ∷ 0x53 ∷ 0x52 ∷ 0x51 ∷ [])
   -- "at 1 sixteen bytes at each HBlank": HDMA is on from now on; that a first block goes at once in mode 0 is the Rust's
   pub hblank : (h : Hdma) (mode v : ℕ) → h .on ≡ false → bit v 7 ≡ 1
       → starts h mode v ≡ cond (eqb mode 0) (Block (running h v)) (Set (running h v))

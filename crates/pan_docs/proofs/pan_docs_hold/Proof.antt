@@ -1,6 +1,7 @@
 -- Each theorem is that of its file in proofs/.
 use Rattle.pan_docs.proofs.Addresses.{addresses}
 use Rattle.pan_docs.proofs.Colour.{colour-registers}
+use Rattle.pan_docs.proofs.Control.{control-bits}
 use Rattle.pan_docs.proofs.Interrupts.{interrupt-bits}
 use Rattle.pan_docs.proofs.Joypad.{joypad-bits}
 use Rattle.pan_docs.proofs.LyLyc.{ly-is-lyc}
@@ -23,6 +24,7 @@ returns c =
       map = memory-map;
       addresses = addresses;
       ones = bits-that-read-one;
+      control = control-bits;
       ly-is-lyc = ly-is-lyc;
       colour = colour-registers;
       transfers = transfer-registers;
