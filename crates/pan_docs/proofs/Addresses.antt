@@ -2,13 +2,14 @@
 use mathlib.Core.Bool.{true}
 use mathlib.Core.List.{List, [], _∷_}
 use mathlib.Core.Path.{_≡_, refl, sym, ap}
-use Prim.Native.Nat.{ℕ}
+use Prim.Native.Nat.{ℕ, zero, suc, _<_}
 use native.Mathlib.Omega.{arith}
 use lib.Dec.{lit<}
 use lib.ListN.{length, set}
 use Rattle.hdma.specs.Hdma.{starts}
 use Rattle.joypad.specs.Joypad.{polled}
-use Rattle.interrupt.specs.Flags.{requested, removed}
+use Rattle.interrupt.specs.Flags.{named, requested, removed}
+use Rattle.interrupt.specs.declared.Pending.the-variants.{Some}
 use Rattle.lcd.specs.declared.Screen.{Screen}
 use Rattle.memory.specs.declared.Memory.{Memory}
 use Rattle.palette.specs.Palette.{writeIndex, writeData}
@@ -17,13 +18,15 @@ use Rattle.registers.specs.Colour.{backgroundOf, spritesOf, withBackgroundPalet
 use Rattle.registers.specs.Colour.{backgroundIndexPut, backgroundDataPut, spriteIndexPut, spriteDataPut}
 use Rattle.registers.specs.Page.{readRegister, writeRegister, shownAs, plainRead, lineRead}
 use Rattle.registers.specs.Register.{registerOf, byteAs}
-use Rattle.registers.specs.State.{loaded, stored, screenOf, onScreen, withTimer}
+use Rattle.registers.specs.State.{loaded, stored, screenOf, onScreen, withTimer, requestedIn, removedIn}
 use Rattle.registers.specs.Transfers.{started, startedBy, copyOf}
 use Rattle.registers.specs.declared.transfers.Started.{Started}
+use Rattle.state_calls.specs.State.{onInterrupt}
 use Rattle.timer.specs.declared.Timer.{Timer}
 use Rattle.rules.proofs.Tests.{cond-true}
 use Rattle.pan_docs.specs.Addresses.{ScreenIn, ScreenAddresses, PaletteIn, PaletteAddresses, TimerIn, TimerAddresses}
 use Rattle.pan_docs.specs.Addresses.{InterruptAddresses, JoypadAddresses, Addresses}
+use Rattle.pan_docs.specs.Interrupts.{interruptAt}
 use Rattle.pan_docs.specs.Ones.{Every}
 use Rattle.pan_docs.proofs.Page.{size, here, past}
 
@@ -147,10 +150,21 @@ timer-addresses =
       after = λ m t l. timer-after m l t;
     }
 
+named-at : (k : ℕ) → k < 5 → named k ≡ Some (interruptAt k)
+unfolding named
+named-at zero h = refl
+named-at (suc zero) h = refl
+named-at (suc (suc zero)) h = refl
+named-at (suc (suc (suc zero))) h = refl
+named-at (suc (suc (suc (suc zero)))) h = refl
+named-at (suc (suc (suc (suc (suc k))))) h = absurd (omega arith)
+
 interrupt-addresses : InterruptAddresses
 interrupt-addresses =
     record {
       waiting = λ m. refl;
+      request = λ m k h. ap (onInterrupt m requestedIn) (named-at k h);
+      remove = λ m k h. ap (onInterrupt m removedIn) (named-at k h);
       requests = λ m i l. here (m .page) 0x0F (requested (loaded m 0x0F) i) (lit< tt) l;
       removes = λ m i l. here (m .page) 0x0F (removed (loaded m 0x0F) i) (lit< tt) l;
     }

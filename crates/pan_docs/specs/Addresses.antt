@@ -3,7 +3,7 @@
 use mathlib.Core.Bool.{true, cond}
 use mathlib.Core.List.{List, [], _∷_}
 use mathlib.Core.Path.{_≡_}
-use Prim.Native.Nat.{ℕ}
+use Prim.Native.Nat.{ℕ, _<_}
 use lib.ListN.{length}
 use Rattle.hdma.specs.Hdma.{starts}
 use Rattle.interrupt.specs.Flags.{requested, removed}
@@ -16,14 +16,15 @@ use Rattle.memory.specs.declared.Memory.{Memory}
 use Rattle.palette.specs.Palette.{writeIndex, writeData}
 use Rattle.palette.specs.declared.Color.{Color}
 use Rattle.palette.specs.declared.Palette.{Palette}
-use Rattle.refusals.specs.Answers.{waitingGiven}
+use Rattle.refusals.specs.Answers.{changed, waitingGiven}
 use Rattle.refusals.specs.Refusal.{refusedState}
 use Rattle.registers.specs.Colour.{backgroundOf, spritesOf, withBackgroundPalette, withSpritePalette}
 use Rattle.registers.specs.Page.{readRegister, writeRegister}
 use Rattle.registers.specs.State.{loaded, stored, screenOf, onScreen, timerOf, withTimer, requestedIn, removedIn, polledIn}
 use Rattle.registers.specs.Transfers.{startedBy, copyOf}
-use Rattle.state_calls.specs.State.{getInterruptsCall}
+use Rattle.state_calls.specs.State.{getInterruptsCall, requestCall, removeCall}
 use Rattle.timer.specs.declared.Timer.{Timer}
+use Rattle.pan_docs.specs.Interrupts.{interruptAt}
 use Rattle.pan_docs.specs.Ones.{Every}
 
 -- "LCD Control, LCD Status Registers": a screen and its registers FF40, FF41, FF45 in a state; with FF0F, which "requests"
@@ -86,6 +87,9 @@ pub record TimerAddresses : Type 0 where
 -- "Interrupts": "FFFF enables, FF0F requests"
 pub record InterruptAddresses : Type 0 where
   pub waiting : (m : Memory) → getInterruptsCall m ≡ waitingGiven (refusedState m) (firstOf (loaded m 0xFF) (loaded m 0x0F))
+  -- a call's number is the interrupt's bit
+  pub request : (m : Memory) (k : ℕ) → k < 5 → requestCall m k ≡ changed (refusedState m) m (requestedIn m (interruptAt k))
+  pub remove : (m : Memory) (k : ℕ) → k < 5 → removeCall m k ≡ changed (refusedState m) m (removedIn m (interruptAt k))
   pub requests : (m : Memory) (i : Interrupt) → length (m .page) ≡ 256 → loaded (requestedIn m i) 0x0F ≡ requested (loaded m 0x0F) i
   pub removes : (m : Memory) (i : Interrupt) → length (m .page) ≡ 256 → loaded (removedIn m i) 0x0F ≡ removed (loaded m 0x0F) i
 
