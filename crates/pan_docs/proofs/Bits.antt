@@ -1,5 +1,5 @@
 -- Laws of bits: of a remainder, a quotient, two numbers side by side, an `or`, and of a bit made 1 or 0.
-use mathlib.Core.Bool.{Bool, false, cond}
+use mathlib.Core.Bool.{Bool, true, false, cond}
 use mathlib.Core.Path.{_≡_, refl, sym, ap, _∙_}
 use Prim.Native.Nat.{ℕ, zero, suc, _+_, _-_, _*_, _/_, _%_, _^_, _<_, _≤_, max}
 use native.Mathlib.Nat.{pow-suc, zero-mul, mod-lt}
@@ -144,6 +144,12 @@ bit-clear x n f = let d = eqb-false (bit x n) 1 f in omega (arith, bit-small x n
 pub is-set : (x n : ℕ) → isSet x n ≡ eqb (bit x n) 1
 unfolding isSet bit
 is-set x n = refl
+
+pub is-one : (x n : ℕ) → bit x n ≡ 1 → isSet x n ≡ true
+is-one x n e = is-set x n ∙ eq-eqb (bit x n) 1 e
+
+pub is-zero : (x n : ℕ) → bit x n ≡ 0 → isSet x n ≡ false
+is-zero x n e = is-set x n ∙ ne-eqb (bit x n) 1 (λ p. omega arith)
 
 -- a bit made 1 or 0; the others stay
 module _ (x n : ℕ) where

@@ -1,27 +1,19 @@
 -- FF40: what holds of the screen with the new value, and of it with another window line or delay, holds after the write.
-use mathlib.Core.Bool.{true, false}
+use mathlib.Core.Bool.{true}
 use mathlib.Core.Logic.{_⊎_, ⊎-elim}
 use mathlib.Core.Path.{_≡_, refl, ap, _∙_}
 use Prim.Native.Nat.{ℕ}
-use native.Mathlib.Omega.{arith}
 use lib.Dec.{eqb, ltb}
 use lib.IntN.{pos}
 use mir.Syntax.{w32}
 use mir.Val.{ofZ}
-use borrow.Author.Tests.{eq-eqb, ne-eqb}
 use Rattle.bit_utils.specs.Bits.{isSet}
 use Rattle.lcd.specs.Lcd.{with-lcd, with-delay, with-window, with-control, screenEnabled, screenDisabled, windowLineReset, controlPut, controlWritten}
 use Rattle.lcd.specs.declared.Screen.{Screen}
 use Rattle.rules.proofs.Tests.{cond-both, cond-true, cond-false}
 use Rattle.pan_docs.specs.Bits.{bit}
 use Rattle.pan_docs.specs.Control.{ControlBits}
-use Rattle.pan_docs.proofs.Bits.{is-set}
-
-set : (v k : ℕ) → bit v k ≡ 1 → isSet v k ≡ true
-set v k e = is-set v k ∙ eq-eqb (bit v k) 1 e
-
-clear : (v k : ℕ) → bit v k ≡ 0 → isSet v k ≡ false
-clear v k e = is-set v k ∙ ne-eqb (bit v k) 1 (λ p. omega arith)
+use Rattle.pan_docs.proofs.Bits.{is-set, is-one, is-zero}
 
 module _ (P : Screen → Type 0) (s : Screen) where
   reset-by : P s → P (with-lcd s (with-window (s .lcd) (pos 144))) → P (windowLineReset s)
@@ -62,22 +54,22 @@ module _ (s : Screen) (v : ℕ) where
 
   off : bit v 7 ≡ 0 → controlWritten s v .lcd .disabled ≡ true
   unfolding controlWritten
-  off e = ap (λ (t : Screen). t .lcd .disabled) (cond-false (isSet v 7) _ (screenDisabled (controlPut s v)) (clear v 7 e))
+  off e = ap (λ (t : Screen). t .lcd .disabled) (cond-false (isSet v 7) _ (screenDisabled (controlPut s v)) (is-zero v 7 e))
 
   on : bit v 7 ≡ 1 → controlWritten s v .lcd .disabled ≡ s .lcd .disabled
   unfolding controlWritten
   on e =
       let P : Screen → Type 0 = λ t. t .lcd .disabled ≡ s .lcd .disabled in
       let d = put-by P refl (reset-by P (with-control s v) refl refl) in
-      ap (λ (t : Screen). t .lcd .disabled) (cond-true (isSet v 7) (screenEnabled (controlPut s v)) _ (set v 7 e))
+      ap (λ (t : Screen). t .lcd .disabled) (cond-true (isSet v 7) (screenEnabled (controlPut s v)) _ (is-one v 7 e))
       ∙ enabled-by P (controlPut s v) d d
 
   -- no window goes on
   same-window : (bit (s .control) 5 ≡ 1) ⊎ (bit v 5 ≡ 0) → controlPut s v ≡ with-control s v
   unfolding controlPut
   same-window =
-      ⊎-elim (λ e. cond-true _ _ _ (set (s .control) 5 e))
-      (λ e. cond-both (λ (t : Screen). t ≡ with-control s v) (isSet (s .control) 5) refl (cond-false _ _ _ (clear v 5 e)))
+      ⊎-elim (λ e. cond-true _ _ _ (is-one (s .control) 5 e))
+      (λ e. cond-both (λ (t : Screen). t ≡ with-control s v) (isSet (s .control) 5) refl (cond-false _ _ _ (is-zero v 5 e)))
 
   window-line : (bit (s .control) 5 ≡ 1) ⊎ (bit v 5 ≡ 0) → controlWritten s v .lcd .window ≡ s .lcd .window
   unfolding controlWritten

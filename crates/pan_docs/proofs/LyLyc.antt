@@ -1,5 +1,6 @@
 -- LY = LYC, by the four ways that the comparison goes: other lines, a source that is not selected, a signal that stands, and a request.
 use mathlib.Core.Bool.{Bool, true, false, cond, not, _&&_, _||_, and-true}
+use mathlib.Core.Logic.{_⊎_, ⊎-elim}
 use mathlib.Core.Path.{_≡_, refl, sym, ap, _∙_, subst}
 use Prim.Native.Nat.{ℕ, _+_, _-_, _*_, _/_, _%_, _<_, _≤_}
 use native.Mathlib.Omega.{arith}
@@ -7,13 +8,13 @@ use lib.Dec.{eqb, ltb}
 use borrow.Author.Tests.{eqb-true, eqb-false, eq-eqb, ne-eqb, ltb-true, not-true}
 use Rattle.bit_utils.specs.Bits.{isSet, setBit}
 use Rattle.lcd.specs.Lcd.{with-compare, lcdRequested, lycSignalled, lyEqual, lyDiffers}
-use Rattle.lcd.specs.Lcd.{lyCompared, lycWritten, statusPut, modeSignalled, statusWritten}
+use Rattle.lcd.specs.Lcd.{lyCompared, scanlineWritten, lycWritten, statusPut, modeSignalled, statusWritten}
 use Rattle.lcd.specs.PanDocs.{modeSelected}
 use Rattle.lcd.specs.declared.Screen.{Screen}
 use Rattle.rules.proofs.Tests.{by-cond, cond-both, cond-true, cond-false, untrue, both-true, neither}
 use Rattle.pan_docs.specs.Bits.{bit}
 use Rattle.pan_docs.specs.LyLyc.{equal, raises, noSignal, modeRaises, lycRaises, statusRaises, on, Compared, StatusBits, LyIsLyc}
-use Rattle.pan_docs.proofs.Bits.{is-set, bit-below, bit-shifted, bit-left}
+use Rattle.pan_docs.proofs.Bits.{is-set, is-one, is-zero, bit-below, bit-shifted, bit-left}
 use Rattle.pan_docs.proofs.Bits.{bit-right, bit-set-here, bit-set-other, bit-unset-here, bit-unset-other}
 
 eqb-sym : (a b : ℕ) (t : Bool) → eqb a b ≡ t → eqb b a ≡ t
@@ -96,23 +97,17 @@ module _ (s : Screen) where
   unfolding lyCompared
   disabled d = cond-true (s .lcd .disabled) s _ d
 
-  shows-on : bit (s .control) 7 ≡ 1 → isSet (s .control) 7 ≡ true
-  shows-on e = is-set (s .control) 7 ∙ eq-eqb _ 1 e
-
-  shows-off : bit (s .control) 7 ≡ 0 → isSet (s .control) 7 ≡ false
-  shows-off e = is-set (s .control) 7 ∙ ne-eqb (bit (s .control) 7) 1 (λ p. omega arith)
-
 lyc-written : (s : Screen) (v : ℕ) → on s → (s .compare ≡ v → ⊥) → Compared (with-compare s v) (lycWritten s v)
 unfolding lycWritten
 lyc-written s v o d =
-    subst (Compared (with-compare s v)) (sym (cond-false _ s _ (ne-eqb (s .compare) v d) ∙ cond-true _ _ _ (shows-on s (o .0))))
+    subst (Compared (with-compare s v)) (sym (cond-false _ s _ (ne-eqb (s .compare) v d) ∙ cond-true _ _ _ (is-one (s .control) 7 (o .0))))
     (compared (with-compare s v) (o .1))
 
 lyc-off : (s : Screen) (v : ℕ) → bit (s .control) 7 ≡ 0 → lycWritten s v ≡ with-compare s v
 unfolding lycWritten
 lyc-off s v o =
     by-cond (λ (t : Screen). t ≡ with-compare s v) (eqb (s .compare) v) s _ (λ t. ap (λ (x : ℕ). with-compare s x) (eqb-true (s .compare) v t))
-    (λ f. cond-false _ _ _ (shows-off s o))
+    (λ f. cond-false _ _ _ (is-zero (s .control) 7 o))
 
 lyc-disabled : (s : Screen) (v : ℕ) → s .lcd .disabled ≡ true → lycWritten s v ≡ with-compare s v
 unfolding lycWritten
@@ -123,6 +118,13 @@ lyc-disabled s v d =
 lyc-same : (s : Screen) (v : ℕ) → s .compare ≡ v → lycWritten s v ≡ s
 unfolding lycWritten
 lyc-same s v e = cond-true _ s _ (eq-eqb (s .compare) v e)
+
+-- FF44
+ly-read-only : (s : Screen) (v : ℕ) → (bit (s .lcd .line) 7 ≡ 0) ⊎ (bit v 7 ≡ 1) → scanlineWritten s v ≡ s
+unfolding scanlineWritten
+ly-read-only s v =
+    ⊎-elim (λ e. cond-false _ _ _ (is-zero (s .lcd .line) 7 e))
+    (λ e. cond-both (λ (t : Screen). t ≡ s) (isSet (s .lcd .line) 7) (cond-true _ _ _ (is-one v 7 e)) refl)
 
 -- FF41
 
@@ -204,14 +206,14 @@ module _ (s : Screen) (v : ℕ) where
       let t = modeSignalled (statusPut s v) in
       let d : t .lcd .disabled ≡ false = mode-by (λ (u : Screen). u .lcd .disabled ≡ false) (statusPut s v) (o .1) (o .1) in
       let e : equal t ≡ equal s = rw (mode-bits .line, mode-bits .lyc) in
-      ap (λ (u : Screen). bit (u .status) 2) (cond-true _ (lyCompared t) _ (shows-on s (o .0)))
+      ap (λ (u : Screen). bit (u .status) 2) (cond-true _ (lyCompared t) _ (is-one (s .control) 7 (o .0)))
       ∙ compared t d .bit2
       ∙ ap (λ (b : Bool). cond b 1 0) e
 
   status-off : bit (s .control) 7 ≡ 0 → bit (statusWritten s v .status) 2 ≡ bit (s .status) 2
   unfolding statusWritten
   status-off o =
-      ap (λ (u : Screen). bit (u .status) 2) (cond-false _ _ (statusPut s v) (shows-off s o)) ∙ read-only (s .status) v 2 (omega arith)
+      ap (λ (u : Screen). bit (u .status) 2) (cond-false _ _ (statusPut s v) (is-zero (s .control) 7 o)) ∙ read-only (s .status) v 2 (omega arith)
 
   status-disabled : s .lcd .disabled ≡ true → bit (statusWritten s v .status) 2 ≡ bit (s .status) 2
   unfolding statusWritten
@@ -312,6 +314,7 @@ ly-is-lyc =
     record {
       compared = compared;
       disabled = disabled;
+      ly-read-only = ly-read-only;
       lyc-written = lyc-written;
       lyc-off = lyc-off;
       lyc-disabled = lyc-disabled;

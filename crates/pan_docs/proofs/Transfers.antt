@@ -8,7 +8,6 @@ use native.Mathlib.Omega.{arith}
 use lib.Dec.{eqb, ltb, lit<}
 use lib.ListN.{length, set}
 use borrow.Author.Tests.{eqb-true, eqb-false, eq-eqb, ne-eqb, ltb-true, ltb-false, lt-ltb, le-ltb}
-use Rattle.bit_utils.specs.Bits.{isSet}
 use Rattle.copies.specs.declared.Finish.the-variants as finish
 use Rattle.hdma.specs.Hdma.{keptBelow, sourceHigh, sourceLow, destinationHigh, destinationLow, firstBlock, starts, running, stopped}
 use Rattle.hdma.specs.Hdma.{generalEnded}
@@ -23,7 +22,7 @@ use Rattle.rules.proofs.Tests.{by-cond, cond-true, cond-false}
 use Rattle.pan_docs.specs.Bits.{bit}
 use Rattle.pan_docs.specs.Ones.{Every}
 use Rattle.pan_docs.specs.Transfers.{sourceBits, destinationBits, highByte, TransferRegisters}
-use Rattle.pan_docs.proofs.Bits.{low-mod, bit-none, bit-below, bit-shifted, bit-left, bit-right, bit-weight, is-set}
+use Rattle.pan_docs.proofs.Bits.{low-mod, bit-none, bit-below, bit-shifted, bit-left, bit-right, bit-weight, is-one, is-zero}
 use Rattle.pan_docs.proofs.Page.{size, here, past}
 
 -- bits 7..4 of a byte, in their places
@@ -132,27 +131,21 @@ module _ (m : Memory) (v : ℕ) (e : m .core .banks .colour ≡ true) where
       (bit-shifted (m .core .hdma .destination) 8 (j - 8))
 
 module _ (h : Hdma) (mode v : ℕ) where
-  bit-off : bit v 7 ≡ 0 → isSet v 7 ≡ false
-  bit-off e = is-set v 7 ∙ ne-eqb (bit v 7) 1 (λ p. omega arith)
-
-  bit-on : bit v 7 ≡ 1 → isSet v 7 ≡ true
-  bit-on e = is-set v 7 ∙ eq-eqb (bit v 7) 1 e
-
   general : h .on ≡ false → bit v 7 ≡ 0 → starts h mode v ≡ General
   unfolding starts
-  general o e = rw (o, bit-off e)
+  general o e = rw (o, is-zero v 7 e)
 
   hblank : h .on ≡ false → bit v 7 ≡ 1 → starts h mode v ≡ cond (eqb mode 0) (Block (running h v)) (Set (running h v))
   unfolding starts firstBlock
-  hblank o e = rw (o, bit-on e)
+  hblank o e = rw (o, is-one v 7 e)
 
   still : h .on ≡ true → bit v 7 ≡ 1 → starts h mode v ≡ Set (running h v)
   unfolding starts
-  still o e = rw (o, bit-on e)
+  still o e = rw (o, is-one v 7 e)
 
   stops : h .on ≡ true → bit v 7 ≡ 0 → starts h mode v ≡ Set (stopped h)
   unfolding starts
-  stops o e = rw (o, bit-off e)
+  stops o e = rw (o, is-zero v 7 e)
 
 -- five bytes of FF
 done : (m : Memory) (v : ℕ) (sound : List ℕ) → length (m .page) ≡ 256

@@ -1,11 +1,12 @@
 -- Pan Docs, "LCD Status Registers": of FF41 "bits 6..3 select the interrupt sources LYC, mode 2, mode 1, mode 0; bit 2 is LY = LYC, bits 1..0 the
 -- mode, both read-only"; "FF45 LYC is compared with" LY. The comparison is the Rust's `compare_ly_to_lyc`; LY is the scan line that the host sets.
 use mathlib.Core.Bool.{Bool, true, false, cond, not, _&&_, _||_}
+use mathlib.Core.Logic.{_⊎_}
 use mathlib.Core.Path.{_≡_}
 use Prim.Native.Nat.{ℕ, _+_, _/_, _%_, _<_, _≤_}
 use lib.Bits.{bitAnd}
 use lib.Dec.{eqb, ltb}
-use Rattle.lcd.specs.Lcd.{with-compare, lyCompared, lycWritten, statusWritten}
+use Rattle.lcd.specs.Lcd.{with-compare, lyCompared, scanlineWritten, lycWritten, statusWritten}
 use Rattle.lcd.specs.declared.Screen.{Screen}
 use Rattle.pan_docs.specs.Bits.{bit}
 
@@ -60,6 +61,8 @@ on s = (bit (s .control) 7 ≡ 1) × (s .lcd .disabled ≡ false)
 pub record LyIsLyc : Type 0 where
   pub compared : (s : Screen) → s .lcd .disabled ≡ false → Compared s (lyCompared s)
   pub disabled : (s : Screen) → s .lcd .disabled ≡ true → lyCompared s ≡ s
+  -- "FF44 LY is read-only". Departs: a line of 128 or more, given less, disables the screen (the Rust's)
+  pub ly-read-only : (s : Screen) (v : ℕ) → (bit (s .lcd .line) 7 ≡ 0) ⊎ (bit v 7 ≡ 1) → scanlineWritten s v ≡ s
   -- a write of FF45: a new value is stored, and compared while the display is on; the same value changes nothing (the Rust's)
   pub lyc-written : (s : Screen) (v : ℕ) → on s → (s .compare ≡ v → ⊥) → Compared (with-compare s v) (lycWritten s v)
   pub lyc-off : (s : Screen) (v : ℕ) → bit (s .control) 7 ≡ 0 → lycWritten s v ≡ with-compare s v
