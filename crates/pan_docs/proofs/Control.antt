@@ -8,7 +8,8 @@ use lib.IntN.{pos}
 use mir.Syntax.{w32}
 use mir.Val.{ofZ}
 use Rattle.bit_utils.specs.Bits.{isSet}
-use Rattle.lcd.specs.Lcd.{with-lcd, with-delay, with-window, with-control, screenEnabled, screenDisabled, windowLineReset, controlPut, controlWritten}
+use Rattle.lcd.specs.Lcd.{with-lcd, with-delay, with-window, with-control}
+use Rattle.lcd.specs.Lcd.{screenEnabled, screenDisabled, windowLineReset, controlPut, controlWritten}
 use Rattle.lcd.specs.declared.Screen.{Screen}
 use Rattle.rules.proofs.Tests.{cond-both, cond-true, cond-false}
 use Rattle.pan_docs.specs.Bits.{bit}
