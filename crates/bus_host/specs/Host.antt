@@ -1,10 +1,9 @@
 -- What the host of the whole-bus lists lends (oracle/README.md, "The whole bus"): of each memory, what the bus needs.
 use mathlib.Core.Bool.{Bool, cond}
-use mathlib.Core.List.{List}
+use mathlib.Core.List.{List, _++_}
 use Prim.Native.Nat.{ℕ}
 use lib.Dec.{ltb}
 use lib.ListN.{length, take, drop}
-use lib.Seq.{paste}
 use Rattle.mbc.specs.Mbc.{romLen, ramLen}
 use Rattle.mbc.specs.declared.cartridge.Cartridge.{Cartridge}
 use Rattle.mbc.specs.declared.mbc.Mapper.{Mapper}
@@ -29,7 +28,7 @@ lengthsIn m = lentOf (lengthsOf (m .core .cartridge) (m .core .mapper) (m .core 
 
 -- the sound window ("The whole bus": N and Y bring its 48 bytes), as far as there is room
 abbrev pub heard : List ℕ → ℕ → List ℕ → List ℕ
-heard given from sound = paste sound 0 (drop from given) (smaller 48 (length sound))
+heard given from sound = take (smaller 48 (length sound)) (drop from given) ++ drop (smaller 48 (length sound)) sound
 
 -- the memories' parts that are lent
 abbrev pub lentParts : Lengths → World → World

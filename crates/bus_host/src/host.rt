@@ -5,7 +5,7 @@ ghost use lib.ListN.{length, take, drop};
 ghost use Rattle.bus.specs.Calls.{outcome};
 ghost use Rattle.dispatch.specs.Step.{step};
 ghost use Rattle.memory.specs.World.{world, fixed};
-ghost use Rattle.bus_host.specs.Host.{smaller, lengthsOf, lentOf, lengthsIn, lentParts};
+ghost use Rattle.bus_host.specs.Host.{smaller, lengthsOf, lentOf, lengthsIn, heard, lentParts};
 use dispatch::Call;
 use dispatch::Performed;
 use lines::pattern;
@@ -101,15 +101,13 @@ pub fn perform(
 }
 
 // Takes the 48 bytes of the sound window that stand from `from` on.
-pub fn hear(given: &[u8; 54], from: usize, sound: &mut [u8])
+pub fn hear(given: [u8; 54], from: usize, sound: &mut [u8])
     requires { ⌜ from ≤ 6 ⌝ }
+    ensures { λ _. ⌜ now (sound .exit) ≡ heard given from (now (sound .entry)) ⌝ }
 {
     let n = least(48, sound.len());
-    let mut i = 0;
-    while i < n {
-        sound[i] = given[from + i];
-        i += 1;
-    }
+    let to = from + n;
+    bytes::copy(&given[from..to], sound);
 }
 
 // What N says of a bus: mapper, log2 N, RAM code, colour. The log's length stands between these and the sound window.
@@ -120,7 +118,7 @@ struct Description {
     colour: bool,
 }
 
-fn described(given: &[u8; 54]) -> Description {
+fn described(given: [u8; 54]) -> Description {
     Description {
         kind: given[0],
         banks: Cartridge::banks_of(given[1]),
@@ -163,7 +161,7 @@ fn begin(
 
 // A fresh bus as N describes it, with save and sound window as the list says. Colour is a flag.
 pub fn fresh(
-    given: &[u8; 54],
+    given: [u8; 54],
     rom: &[u8],
     vram: &mut [u8],
     wram: &mut [u8],

@@ -90,7 +90,7 @@ fn begun(
     sound: &mut [u8],
 ) -> Given {
     let given = line.given;
-    let done = host::fresh(&given, rom, vram, wram, save, log, sound);
+    let done = host::fresh(given, rom, vram, wram, save, log, sound);
     let memory = done.memory;
     Given {
         memory: memory,
@@ -100,7 +100,7 @@ fn begun(
 
 fn heard(memory: Memory, line: Line, sound: &mut [u8]) -> Given {
     let given = line.given;
-    host::hear(&given, 0, sound);
+    host::hear(given, 0, sound);
     Given {
         memory: memory,
         ours: numbered(numbers::DONE),
