@@ -1,6 +1,5 @@
 -- The definitions of the bus that the promise is made over, under one roof: where they stand is said here alone.
 pub use Rattle.bus.specs.Calls.{Outcome, outcome}
-pub use Rattle.bus.specs.Fresh.{Begun, begun}
 pub use Rattle.dispatch.specs.Kinds.{refused, Kind, Reading, Clearing, Other}
 unfoldable pub use Rattle.dispatch.specs.Kinds.{kindOf}
 pub use Rattle.dispatch.specs.Lent.{Lent, start, begin}
@@ -12,4 +11,3 @@ pub use Rattle.dispatch.specs.declared.StateCall.the-variants as on
 pub use Rattle.refusals.specs.Refusal.{nextIndex}
 unfoldable pub use Rattle.refusals.specs.Refusal.{inSave, inSound, byteOwed, wordOwed}
 pub use Rattle.refusals.specs.declared.Done.{Done}
-pub use Rattle.transfer_calls.specs.declared.Moved.{Moved}
