@@ -1,18 +1,19 @@
 // Test, set and clear one bit of a byte, as the Rust's bit_utils.rs. A bit over 7, for which the Rust takes another bit, is refused by 7.
+#![tactic(auto)]
 ghost use Rattle.std.specs.Prelude.{◌≡◌};
 ghost use Rattle.bit_utils.specs.Bits.{tested, changed, set_bit, unset_bit};
 
 pub mod within;
 
 // The number, and whether the bit is set.
-#[derive(Drop)]
+#[derive(Clone, Copy)]
 pub struct Tested {
     pub number: u8,
     pub set: bool,
 }
 
 // The number, and the byte with its bit changed.
-#[derive(Drop)]
+#[derive(Clone, Copy)]
 pub struct Changed {
     pub number: u8,
     pub byte: u8,

@@ -11,7 +11,7 @@ use mbc::{Cartridge, Mapper};
 use memory::Memory;
 use refusals::Done;
 
-#[derive(Drop)]
+#[derive(Clone, Copy)]
 pub struct Lengths {
     pub rom: usize,
     pub vram: usize,
@@ -109,7 +109,7 @@ pub fn hear(given: [u8; 54], from: usize, sound: &mut [u8])
 }
 
 // What N says of a bus: mapper, log2 N, RAM code, colour. The log's length stands between these and the sound window.
-#[derive(Drop)]
+#[derive(Clone, Copy)]
 struct Description {
     kind: u8,
     banks: u16,

@@ -4,7 +4,7 @@ ghost use Rattle.commands.specs.Walk.{number_from, Within, read_line, write_line
 
 use lines::line::digit;
 
-#[derive(Drop)]
+#[derive(Clone, Copy)]
 pub enum Command {
     Read(u16),
     Write(u16, u8),
@@ -13,7 +13,7 @@ pub enum Command {
     Strange,
 }
 
-#[derive(Drop)]
+#[derive(Clone, Copy)]
 pub enum Number {
     Is(u64),
     Wrong,

@@ -6,7 +6,7 @@ use lines::line::hex_digit;
 use lines::number::{high, low};
 
 // The first `size` bytes.
-#[derive(Drop)]
+#[derive(Clone, Copy)]
 pub struct Text {
     pub bytes: [u8; 10],
     pub size: usize,

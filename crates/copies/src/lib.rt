@@ -1,10 +1,11 @@
 // The bytes that a transfer copies, by value: OAM DMA's, and where a general transfer's end. The bus and the image call it alike.
+#![tactic(auto)]
 ghost use Rattle.std.specs.Prelude.{◌≡◌, ◌≤◌, ◌+◌};
 ghost use Rattle.copies.specs.PanDocs.{vram_end};
 ghost use Rattle.copies.specs.Copies.{nothing, oam_copy, landed, Bounded};
 
 // Which registers a copy sets at its end.
-#[derive(Drop)]
+#[derive(Clone, Copy)]
 pub enum Finish {
     Nothing,
     Block,
@@ -12,7 +13,7 @@ pub enum Finish {
 }
 
 // `count` bytes from `source` on, each to the next place from `destination` on.
-#[derive(Drop)]
+#[derive(Clone, Copy)]
 pub struct Copy {
     pub source: u16,
     pub destination: u16,

@@ -1,4 +1,5 @@
 // One enum of the bus calls, and one dispatch over it: whatever is shown of `step` over a list of calls is shown of this code.
+#![tactic(auto)]
 ghost use Rattle.std.specs.Prelude.{◌≡◌};
 ghost use Rattle.memory.specs.World.{world, fixed};
 ghost use Rattle.bus.specs.Calls.{buffers};
@@ -12,7 +13,7 @@ use refusals::{Byte, Done, Flag, Waiting, Word};
 use transfer_calls::Moved;
 
 // The calls on the state alone, named after the Rust's functions.
-#[derive(Drop)]
+#[derive(Clone, Copy)]
 pub enum StateCall {
     Load(u16),
     Store(u16, u8),
@@ -40,7 +41,7 @@ pub enum StateCall {
 }
 
 // All bus calls: those to which memories are lent, and those on the state alone.
-#[derive(Drop)]
+#[derive(Clone, Copy)]
 pub enum Call {
     ReadByte(u16),
     ReadWord(u16),
@@ -53,7 +54,7 @@ pub enum Call {
 }
 
 // The number, the value as a number, and the state after the call.
-#[derive(Drop)]
+#[derive(Clone, Copy)]
 pub struct Performed {
     pub number: u8,
     pub value: u16,

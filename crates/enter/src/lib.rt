@@ -1,6 +1,7 @@
 // The C boundary's dispatch: one function over the bus calls, which makes each by its own entry of crate host. Its contract is `entry` (crate
 // entry), which lists of C entries fold (crate boundary), and its proof uses nothing of an entry but its contract: so what is shown of such lists is
 // shown of the entries that a C host links. Nothing of it is exported.
+#![tactic(auto)]
 ghost use Rattle.std.specs.Prelude.{[], ◌≡◌};
 ghost use Rattle.dispatch.specs.declared.Call.TheVariants.{State};
 ghost use Rattle.dispatch.specs.declared.StateCall.TheVariants.{Host};
@@ -15,7 +16,7 @@ use lcd::Lcd;
 pub mod beside;
 
 // The number, and the value as a number.
-#[derive(Drop)]
+#[derive(Clone, Copy)]
 pub struct Entered {
     pub number: u8,
     pub value: u16,

@@ -1,11 +1,12 @@
 // What an entry of the C boundary does: decode the image, make the call, encode the state (specs/Entry.antt, specs/Host.antt). It is a definition:
 // the crates quick_reads, quick_writes, quick_state and quick_screen do the same on the image itself, and crate host exports the entries.
+#![tactic(auto)]
 ghost use Rattle.entry.specs.LentLess.{LentLess};
 ghost use Rattle.entry.specs.One.{OneEntry};
 ghost use Rattle.entry.specs.Refused.{RefusedEntry};
 
 // One of the eight numbers of the screen that the host sets, with its value (crate lcd, `Lcd`).
-#[derive(Drop)]
+#[derive(Clone, Copy)]
 pub enum HostNumber {
     Disabled(bool),
     Line(u8),
@@ -18,7 +19,7 @@ pub enum HostNumber {
 }
 
 // The number, and the value as a number.
-#[derive(Drop)]
+#[derive(Clone, Copy)]
 pub struct Given {
     pub number: u8,
     pub value: u16,

@@ -1,12 +1,13 @@
 // The registers FF51..FF55 and the addresses of the colour transfers, as the Rust's mmu/mod.rs: the writes of FF51..FF54, `do_cgb_dma`, and what
 // `do_hdma` and `do_gdma` do beside the copying, which the bus does. Leans on bit_utils and on std's wrapping sums.
+#![tactic(auto)]
 ghost use Rattle.std.specs.Prelude.{◌≡◌, ◌*◌, ◌/◌, ◌%◌, ◌<◌, ◌≤◌};
 ghost use Rattle.hdma.specs.PanDocs.{length_of};
 ghost use Rattle.hdma.specs.Hdma.{switched, kept_below, first_block, shown_in, fallen, still_on, source_high, source_low, destination_high, destination_low};
 ghost use Rattle.hdma.specs.Hdma.{starts, source_used, destination_used, stepped, block_ended, general_ended, start_of};
 
 // Whether an HBlank transfer runs, and the two addresses, which the registers do not always show.
-#[derive(Drop)]
+#[derive(Clone, Copy)]
 pub struct Hdma {
     pub on: bool,
     pub source: u16,
@@ -14,14 +15,14 @@ pub struct Hdma {
 }
 
 // A register's write: the addresses after it, and the byte that the page stores.
-#[derive(Drop)]
+#[derive(Clone, Copy)]
 pub struct Written {
     pub hdma: Hdma,
     pub byte: u8,
 }
 
 // What a write of FF55 does: it sets HDMA and the page's byte, and may have a block copied at once; or all is copied at once, and set at the end.
-#[derive(Drop)]
+#[derive(Clone, Copy)]
 pub enum Start {
     Set(Written),
     Block(Written),
@@ -29,7 +30,7 @@ pub enum Start {
 }
 
 // After a transfer: the addresses, and FF51..FF55.
-#[derive(Drop)]
+#[derive(Clone, Copy)]
 pub struct Ended {
     pub hdma: Hdma,
     pub r51: u8,

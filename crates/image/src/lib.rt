@@ -1,5 +1,6 @@
 // The state image: a state as bytes, and back. specs/Layout.antt has the bytes, specs/Load.antt the two calls, specs/Laws.antt that they
 // go round. Each part has its own function, so that a caller who needs one part takes that alone.
+#![tactic(auto)]
 ghost use Rattle.std.specs.Prelude.{◌≡◌, true, ◌+◌, ◌≤◌, length, take};
 ghost use Rattle.numbers.specs.Numbers.{done};
 ghost use Rattle.image.specs.Layout.{image_len, image_of};
@@ -26,14 +27,14 @@ pub use layout::{
 use memory::{Core, Memory};
 
 // The number, and the state that an image gave.
-#[derive(Drop)]
+#[derive(Clone, Copy)]
 pub struct Loaded {
     pub number: u8,
     pub state: Memory,
 }
 
 // The number, and the state that an image gave, without its arrays.
-#[derive(Drop)]
+#[derive(Clone, Copy)]
 pub struct Opened {
     pub number: u8,
     pub core: Core,

@@ -2,7 +2,7 @@
 ghost use Rattle.std.specs.Prelude.{◌≡◌, ◌<◌};
 ghost use Rattle.joypad.specs.Joypad.{named, bit_of};
 
-#[derive(Drop)]
+#[derive(Clone, Copy)]
 pub enum Button {
     Up,
     Down,
@@ -15,7 +15,7 @@ pub enum Button {
 }
 
 // The button of a number, if it has one.
-#[derive(Drop)]
+#[derive(Clone, Copy)]
 pub enum Named {
     Some(Button),
     None,

@@ -1,5 +1,6 @@
 // The eight buttons and FF00, as the Rust's joypad/mod.rs with `get_joypad_state`, `set_joypad_state` and the two tests of FF00 of mmu/mod.rs.
 // FF00 (control) and FF0F (flags) are bytes of the high page: the caller passes them as stored. Leans on bit_utils and interrupt.
+#![tactic(auto)]
 ghost use Rattle.std.specs.Prelude.{◌≡◌, not, ◌%◌};
 ghost use Rattle.bit_utils.specs.Bits.{is_set};
 ghost use Rattle.joypad.specs.PanDocs.{low_four};
@@ -12,7 +13,7 @@ pub mod buttons;
 use buttons::Named;
 
 // The Rust's Controller, with `joypad_state` beside it. A bit of `released` and of `state` is 1 while its button is up.
-#[derive(Drop)]
+#[derive(Clone, Copy)]
 pub struct Controller {
     pub released: u8,
     pub action: bool,
@@ -21,14 +22,14 @@ pub struct Controller {
 }
 
 // The number, and the controller after a press or a release.
-#[derive(Drop)]
+#[derive(Clone, Copy)]
 pub struct Pressed {
     pub number: u8,
     pub controller: Controller,
 }
 
 // After an update: the controller, and FF0F as stored.
-#[derive(Drop)]
+#[derive(Clone, Copy)]
 pub struct Polled {
     pub controller: Controller,
     pub flags: u8,

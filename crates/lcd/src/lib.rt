@@ -1,12 +1,13 @@
 // The LCD functions of the Rust's bus (mmu/mod.rs): the screen with the registers that they touch goes in by value and comes back.
 // Leans on bit_utils for single bits and on interrupt for requests.
+#![tactic(auto)]
 ghost use Rattle.std.specs.Prelude.{◌≡◌};
 ghost use Rattle.lcd.specs.PanDocs.{mode_selected};
 ghost use Rattle.lcd.specs.Lcd.{numbers_of, lcd_requested, screen_enabled, screen_disabled, window_line_reset, lyc_signalled, ly_equal, ly_differs, ly_compared, scanline_written, lyc_written, control_put, control_written, status_put, mode_signalled, status_written};
 
 // What the host sets too: screen disabled, scan line, `irq48_signal`, LCD mode, and of the GpuCycles `screen_enable_delay_cycles`,
 // `cycles_counter`, `aux_cycles_counter`, `window_line`.
-#[derive(Drop)]
+#[derive(Clone, Copy)]
 pub struct Lcd {
     pub disabled: bool,
     pub line: u8,
@@ -19,7 +20,7 @@ pub struct Lcd {
 }
 
 // These with FF40, FF41, FF45, FF4A and FF0F as the page stores them.
-#[derive(Drop)]
+#[derive(Clone, Copy)]
 pub struct Screen {
     pub lcd: Lcd,
     pub control: u8,

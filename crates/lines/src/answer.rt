@@ -3,7 +3,7 @@ ghost use Rattle.std.specs.Prelude.{◌≡◌, ◌≤◌, take};
 ghost use Rattle.lines.specs.Answer.{Says, Agrees, not_ours};
 
 // `number` is 0 where every call took its input.
-#[derive(Drop)]
+#[derive(Clone, Copy)]
 pub struct Ours {
     pub number: u8,
     pub bytes: [u8; 12],

@@ -2,7 +2,7 @@
 ghost use Rattle.std.specs.Prelude.{◌≡◌, ◌+◌, ◌*◌, ◌<◌, ◌≤◌, length, drop, ◌==◌};
 ghost use Rattle.lines.specs.Text.{digit_of, hex_digit, byte_of, bytes_in, is_field, width_of, puts, parsed, line_of, Holds};
 
-#[derive(Drop)]
+#[derive(Clone, Copy)]
 pub enum Pair {
     Byte(u8),
     Wrong,

@@ -5,7 +5,7 @@ ghost use Rattle.lines.specs.Reader.{fed, part, pending, standing, Inside, Given
 use libc::{STDIN_FILENO, STDOUT_FILENO};
 
 // The bytes from `at` to `end` are read and not yet given. `more`: there may be more to read.
-#[derive(Drop)]
+#[derive(Clone, Copy)]
 pub struct Reader {
     pub at: usize,
     pub end: usize,
@@ -13,7 +13,7 @@ pub struct Reader {
 }
 
 // A line stands from `from` to `to`, without its line end. A line that does not fit the buffer is dropped as `Long`. `Read`: go on.
-#[derive(Drop)]
+#[derive(Clone, Copy)]
 pub enum Found {
     Line,
     Long,
@@ -21,7 +21,7 @@ pub enum Found {
     End,
 }
 
-#[derive(Drop)]
+#[derive(Clone, Copy)]
 pub struct Step {
     pub found: Found,
     pub from: usize,

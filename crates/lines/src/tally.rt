@@ -5,7 +5,7 @@ ghost use Rattle.lines.specs.Tally as counts;
 use libc::STDOUT_FILENO;
 
 // A letter counts at its code modulo 64, where no two letters meet.
-#[derive(Drop)]
+#[derive(Clone, Copy)]
 pub struct Tally {
     pub answers: [u64; 64],
     pub differ: [u64; 64],

@@ -4,7 +4,7 @@ ghost use Rattle.mbc.specs.PanDocs.{masked};
 ghost use Rattle.mbc.specs.Cartridge.{rom_len, ram_banks, has_banks, has_code, log2, banks_of};
 
 // N, the ROM's banks of 16,384 bytes, and the header's RAM code.
-#[derive(Drop)]
+#[derive(Clone, Copy)]
 pub struct Cartridge {
     pub banks: u16,
     pub code: u8,

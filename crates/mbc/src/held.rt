@@ -11,7 +11,7 @@ use crate::mbc5::Mbc5;
 use crate::{mbc1, mbc2, rom_only};
 
 // Those that the mapper lacks hold their starting values.
-#[derive(Drop)]
+#[derive(Clone, Copy)]
 pub struct Registers {
     pub kind: u8,
     pub rom: u16,

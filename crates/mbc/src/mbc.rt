@@ -13,7 +13,7 @@ use crate::mbc5::Mbc5;
 use crate::{mbc1, mbc2, mbc5, rom_only};
 
 // Kinds are the state image's: each mapper's file has its own.
-#[derive(Drop)]
+#[derive(Clone, Copy)]
 pub enum Mapper {
     RomOnly,
     Mbc1(Mbc1),
@@ -25,14 +25,14 @@ pub enum Mapper {
 const LAST: u8 = mbc5::KIND;
 
 // What a write asks of the save.
-#[derive(Drop)]
+#[derive(Clone, Copy)]
 pub enum Answer {
     Stored { at: usize, value: u8 },
     NotStored,
 }
 
 // Where a read finds its byte; `Half` is a save byte of which the low half counts.
-#[derive(Drop)]
+#[derive(Clone, Copy)]
 pub enum Source {
     Rom(usize),
     Save(usize),
@@ -40,26 +40,26 @@ pub enum Source {
     Fixed(u8),
 }
 
-#[derive(Drop)]
+#[derive(Clone, Copy)]
 pub struct Fresh {
     pub number: u8,
     pub cartridge: Cartridge,
     pub mapper: Mapper,
 }
 
-#[derive(Drop)]
+#[derive(Clone, Copy)]
 pub struct Written {
     pub mapper: Mapper,
     pub answer: Answer,
 }
 
-#[derive(Drop)]
+#[derive(Clone, Copy)]
 pub struct ReadByte {
     pub number: u8,
     pub value: u8,
 }
 
-#[derive(Drop)]
+#[derive(Clone, Copy)]
 pub struct WriteByte {
     pub number: u8,
     pub mapper: Mapper,

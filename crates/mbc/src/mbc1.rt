@@ -11,7 +11,7 @@ use crate::held::{Registers, bit};
 
 pub const KIND: u8 = 1;
 
-#[derive(Drop)]
+#[derive(Clone, Copy)]
 pub struct Mbc1 {
     // The ROM bank at 4000..7FFF.
     pub rom: u16,

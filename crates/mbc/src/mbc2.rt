@@ -14,7 +14,7 @@ pub const KIND: u8 = 2;
 // Half bytes, one in each byte of the save.
 pub const RAM_LEN: usize = 512;
 
-#[derive(Drop)]
+#[derive(Clone, Copy)]
 pub struct Mbc2 {
     // The ROM bank at 4000..7FFF.
     pub rom: u16,

@@ -11,7 +11,7 @@ use crate::held::{Registers, bit};
 
 pub const KIND: u8 = 3;
 
-#[derive(Drop)]
+#[derive(Clone, Copy)]
 pub struct Mbc5 {
     // The ROM bank at 4000..7FFF. The Rust's `selected_rom_bank_high` is its ninth bit: with 512 banks nothing is masked off, with fewer that bit never counts.
     pub rom: u16,

@@ -1,5 +1,6 @@
 // The state of the bus, as the Rust's `Memory` without what is lent: its groups, its ranges, and how it starts; and the memory map.
 // The groups are the records of the crates below; the lent memories are slices, which the calls take beside the state.
+#![tactic(auto)]
 ghost use Rattle.std.specs.Prelude.{not, ◌||◌, ◌≡◌, ◌<◌};
 ghost use Rattle.memory.specs.Ranges.{banks_in_range, hdma_in_range, groups_in_range, palettes_in_range, in_range, core_in_range, vram_len, wram_len};
 ghost use Rattle.memory.specs.Start.{zeroed, start_hdma, started};
@@ -20,7 +21,7 @@ pub use region::{
 pub use start::start_page;
 
 // `is_cgb`, `vram_bank` and `wram_bank`.
-#[derive(Drop)]
+#[derive(Clone, Copy)]
 pub struct Banks {
     pub colour: bool,
     pub vram: u8,
@@ -28,14 +29,14 @@ pub struct Banks {
 }
 
 // `div_cycles` and `tima_cycles`.
-#[derive(Drop)]
+#[derive(Clone, Copy)]
 pub struct Clock {
     pub div: u8,
     pub tima: u16,
 }
 
 // All of the state but its arrays: what the ranges read but for the colours, and what the lent lengths follow.
-#[derive(Drop)]
+#[derive(Clone, Copy)]
 pub struct Core {
     pub banks: Banks,
     pub lcd: Lcd,
@@ -48,7 +49,7 @@ pub struct Core {
     pub used: u16,
 }
 
-#[derive(Drop)]
+#[derive(Clone, Copy)]
 pub struct Memory {
     pub oam: [u8; 256],
     // The Rust's `high_ram`: FF00..FFFF.

@@ -2,7 +2,7 @@
 ghost use Rattle.std.specs.Prelude.{◌≡◌};
 ghost use Rattle.memory.specs.Region.{region_of};
 
-#[derive(Drop)]
+#[derive(Clone, Copy)]
 pub enum Region {
     // 0000..7FFF: the cartridge's ROM; a write is to the mapper's registers.
     Rom,

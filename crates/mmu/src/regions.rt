@@ -120,7 +120,7 @@ pub fn put_mapper(memory: Memory, index: u16, value: u8) -> Memory
 }
 
 // What a write in A000..BFFF leaves of the bus: the mapper, and how many bytes of the log are used.
-#[derive(Drop)]
+#[derive(Clone, Copy)]
 pub struct Mapping {
     pub mapper: Mapper,
     pub used: u16,

@@ -1,4 +1,5 @@
 // The numbers that a call gives back, as document 01 lists them. specs/Numbers.antt has the same table for the contracts.
+#![tactic(auto)]
 
 // Done.
 pub const DONE: u8 = 0;

@@ -1,5 +1,6 @@
 // The colour palettes of a colour machine, as `update_color_palette` and `set_color_palette` of the Rust's mmu/mod.rs, on one palette memory:
 // the background's (FF68, FF69) and the sprites' (FF6A, FF6B) work alike. Leans on bit_utils.
+#![tactic(auto)]
 ghost use Rattle.std.specs.Prelude.{◌≡◌, ◌<◌};
 ghost use Rattle.palette.specs.PanDocs.{address_of, color_of, number_of, low_byte, high_byte, with_low, with_high, channels, byte_in, put_in, moves};
 ghost use Rattle.palette.specs.Palette.{
@@ -13,7 +14,7 @@ ghost use Rattle.palette.specs.Palette.{
 };
 
 // The Rust's CGBColor: each channel has 5 bits.
-#[derive(Drop)]
+#[derive(Clone, Copy)]
 pub struct Color {
     pub red: u8,
     pub green: u8,
@@ -21,7 +22,7 @@ pub struct Color {
 }
 
 // The index register, the data register, and the 32 colours, at palette * 4 + colour.
-#[derive(Drop)]
+#[derive(Clone, Copy)]
 pub struct Palette {
     pub index: u8,
     pub data: u8,
@@ -29,7 +30,7 @@ pub struct Palette {
 }
 
 // What a write of data leaves of the registers, and of the colour at the address.
-#[derive(Drop)]
+#[derive(Clone, Copy)]
 pub struct Written {
     pub index: u8,
     pub data: u8,

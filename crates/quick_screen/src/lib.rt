@@ -1,5 +1,6 @@
 // The screen's calls on the image itself, as crate quick_state has the others; and what a host that draws takes of an image and sets there: the screen's numbers,
 // OAM. A call that sets one number asks for the image's number in two (`image::mapper_number`, `image::rest_number`), each put in place.
+#![tactic(auto)]
 ghost use Rattle.std.specs.Prelude.{◌≡◌};
 ghost use Rattle.std.specs.Int.{w32};
 ghost use Rattle.std.proofs.Common.{of_z};
@@ -16,7 +17,7 @@ use entry::HostNumber;
 use lcd::Lcd;
 
 // An image's number, and the eight numbers of its screen.
-#[derive(Drop)]
+#[derive(Clone, Copy)]
 pub struct Shown {
     pub number: u8,
     pub lcd: Lcd,

@@ -5,7 +5,7 @@ ghost use Rattle.entry.specs.Entry.{changed, state_entry, given};
 ghost use Rattle.entry.specs.Host.{overflow_entry};
 
 // An image's number, and the cycles left until TIMA overflows.
-#[derive(Drop)]
+#[derive(Clone, Copy)]
 pub struct Left {
     pub number: u8,
     pub cycles: u32,

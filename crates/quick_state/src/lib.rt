@@ -2,6 +2,7 @@
 // decode, call, encode. None has a `requires`: an image that is not taken is refused by its number, then what the call itself refuses.
 // The timer's, the joypad's and the interrupts' calls ask for that number in two (`image::mapper_number`, `image::rest_number`), each put in place.
 // The screen's calls are in crate quick_screen.
+#![tactic(auto)]
 ghost use Rattle.std.specs.Prelude.{◌≡◌};
 ghost use Rattle.dispatch.specs.Step.{flag_number};
 ghost use Rattle.entry.specs.Entry.{given};

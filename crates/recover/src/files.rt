@@ -6,7 +6,7 @@ ghost use Rattle.libc.specs.Io.{Ended};
 use libc::{PATH_MAX, SEEK_SET};
 
 // How many bytes were read; `good`: the system did not refuse.
-#[derive(Drop)]
+#[derive(Clone, Copy)]
 pub struct Got {
     pub good: bool,
     pub len: usize,
@@ -131,7 +131,7 @@ pub fn name_of(fd: i32, out: &mut [u8]) -> usize
 }
 
 // What stands under a name: nothing, something, or what the system does not tell.
-#[derive(Drop)]
+#[derive(Clone, Copy)]
 pub enum There {
     Nothing,
     Something,

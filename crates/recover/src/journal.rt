@@ -13,7 +13,7 @@ use recover_messages::message::Why;
 use savelog::Form;
 
 // A log that is open: the argument that names it, the form of its records, the bytes before them, the bytes of the file, whether its mark is torn.
-#[derive(Drop)]
+#[derive(Clone, Copy)]
 pub struct Log {
     pub fd: i32,
     pub name: usize,

@@ -6,7 +6,7 @@ use crate::files;
 use crate::files::There;
 use recover_text::put::pair;
 
-#[derive(Drop)]
+#[derive(Clone, Copy)]
 pub enum Kept {
     Done,
     // Done, and the folder could not be flushed.

@@ -1,6 +1,7 @@
 // recover [--replace] [--speak] [--old | --bare] SAVE LOG [NEW]: plays a save log back over a save, shows what that changes, and writes the
 // recovered save to NEW.
 // Everything is decided on what was read, before a byte is written. What is shown is crate recover_text's, what is told recover_messages', recovery savelog's.
+#![tactic(auto)]
 mod begin;
 mod files;
 mod journal;
@@ -26,7 +27,7 @@ use told::Told;
 use words::Asked;
 
 // Both files that are read.
-#[derive(Drop)]
+#[derive(Clone, Copy)]
 struct Sources {
     save: Source,
     log: Source,

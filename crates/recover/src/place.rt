@@ -11,7 +11,7 @@ use crate::{files, say, told};
 use recover_messages::message::Why;
 
 // The name's length; 0 where nothing is to be written. `good`: not refused. `free`: nothing stands under the name; else `told` is of what does.
-#[derive(Drop)]
+#[derive(Clone, Copy)]
 pub struct Place {
     pub good: bool,
     pub free: bool,

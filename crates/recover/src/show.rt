@@ -17,7 +17,7 @@ use recover_text::{rows, speak};
 const ROOM: usize = 65536;
 
 // How many bytes were printed; `good`: all of them could be.
-#[derive(Drop)]
+#[derive(Clone, Copy)]
 pub struct Printed {
     pub good: bool,
     pub len: usize,

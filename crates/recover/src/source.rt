@@ -4,7 +4,7 @@ use crate::{files, say, told};
 use recover_messages::message::Why;
 
 // Its descriptor, below 0 where it was told why not, and what the system told of it.
-#[derive(Drop)]
+#[derive(Clone, Copy)]
 pub struct Source {
     pub fd: i32,
     pub told: Told,

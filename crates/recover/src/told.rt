@@ -8,7 +8,7 @@ use libc::PATH_MAX;
 use libc::types::{stat, timespec};
 
 // What the call answered, and what it put.
-#[derive(Drop)]
+#[derive(Clone, Copy)]
 pub struct Answer {
     pub status: i32,
     pub stat: stat,
@@ -26,7 +26,7 @@ fn ask(path: &[u8; PATH_MAX], mut s: stat) -> Answer
 }
 
 // `good`: the system told it. A file is known by its device and its number there; it was last written at `seconds` and `nanoseconds`.
-#[derive(Drop)]
+#[derive(Clone, Copy)]
 pub struct Told {
     pub good: bool,
     pub regular: bool,

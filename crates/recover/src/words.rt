@@ -2,7 +2,7 @@
 use libc::PATH_MAX;
 
 // A file is the number of the argument that names it; 0 where none does. `good`: nothing is wrong so far.
-#[derive(Drop)]
+#[derive(Clone, Copy)]
 pub struct Asked {
     pub good: bool,
     pub replace: bool,
@@ -14,7 +14,7 @@ pub struct Asked {
     pub new: usize,
 }
 
-#[derive(Drop)]
+#[derive(Clone, Copy)]
 pub enum Word {
     Replace,
     Speak,

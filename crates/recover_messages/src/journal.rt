@@ -9,7 +9,7 @@ ghost use Rattle.recover_messages.specs.Journal.{recovery_by, part_limit, PartsL
 use savelog::{Form, OLD_RECORD_LEN, RECORD_LEN};
 
 // Of the bytes so far: how many, and where the last one that is not 0 ends.
-#[derive(Drop)]
+#[derive(Clone, Copy)]
 pub struct Scan {
     pub len: usize,
     pub end: usize,

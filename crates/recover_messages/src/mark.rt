@@ -6,7 +6,7 @@ ghost use Rattle.recover_messages.specs.Mark.{mark_of};
 pub const MARK_LEN: usize = 4;
 
 // What a file begins with: the mark; some of it, and zeros; anything else.
-#[derive(Drop)]
+#[derive(Clone, Copy)]
 pub enum Mark {
     Whole,
     Torn,

@@ -11,7 +11,7 @@ use recover_text::put;
 use savelog::Form;
 
 // What a file is told for.
-#[derive(Drop)]
+#[derive(Clone, Copy)]
 pub enum Why {
     // Nothing stands under its name that the system tells of; it is a folder, a pipe or a device.
     Absent,

@@ -13,7 +13,7 @@ pub const ROW: usize = 16;
 pub const ROOM: usize = 150;
 
 // The text of the rows up to, not including, `next` stands in the first `len` bytes.
-#[derive(Drop)]
+#[derive(Clone, Copy)]
 pub struct Part {
     pub next: usize,
     pub len: usize,

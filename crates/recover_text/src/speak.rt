@@ -18,7 +18,7 @@ const INSIDE: u8 = 1;
 const BEHIND: u8 = 2;
 
 // Where the text ends that is said so far, and where the next byte stands.
-#[derive(Drop)]
+#[derive(Clone, Copy)]
 pub struct Said {
     pub end: usize,
     pub place: u8,

@@ -1,4 +1,5 @@
 // What a call answers; when it is refused, and by which number. Lengths come as numbers, so that a call asks before it touches what is lent.
+#![tactic(auto)]
 ghost use Rattle.std.specs.Prelude.{◌≡◌};
 ghost use Rattle.refusals.specs.Refusal.{or_else, state_refused, refused_state, use_refused, lengths_are, lengths_fit, lengths_refused, log_refused, lent_refused, read_refused, write_refused, in_save, in_sound, next_index, either_in_save, byte_room, word_room, byte_owed, word_owed, raw_refused, cycles_refused, vram_length_refused, has_bank, vram_refused};
 
@@ -11,35 +12,35 @@ mod door;
 pub use door::{byte_given, changed, flag_given, waiting_given, word_given};
 
 // The number, and the state after the call.
-#[derive(Drop)]
+#[derive(Clone, Copy)]
 pub struct Done {
     pub number: u8,
     pub memory: Memory,
 }
 
 // The number, and the byte.
-#[derive(Drop)]
+#[derive(Clone, Copy)]
 pub struct Byte {
     pub number: u8,
     pub value: u8,
 }
 
 // The number, and the word.
-#[derive(Drop)]
+#[derive(Clone, Copy)]
 pub struct Word {
     pub number: u8,
     pub value: u16,
 }
 
 // The number, and the answer to a question.
-#[derive(Drop)]
+#[derive(Clone, Copy)]
 pub struct Flag {
     pub number: u8,
     pub value: bool,
 }
 
 // The number, and the interrupt that is served first.
-#[derive(Drop)]
+#[derive(Clone, Copy)]
 pub struct Waiting {
     pub number: u8,
     pub pending: Pending,

@@ -29,7 +29,7 @@ pub fn read_line(lcd: Lcd) -> u8
 }
 
 // The parts of the page that a read tells apart: each asks for one thing beside the byte, or for none.
-#[derive(Drop)]
+#[derive(Clone, Copy)]
 pub enum Part {
     // FF00..FF0F: the joypad's state.
     Low,

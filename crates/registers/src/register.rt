@@ -2,7 +2,7 @@
 ghost use Rattle.std.specs.Prelude.{◌≡◌};
 ghost use Rattle.registers.specs.Register.{register_of, byte_as};
 
-#[derive(Drop)]
+#[derive(Clone, Copy)]
 pub enum Register {
     // FF10..FF3F: a write there is the host's.
     Sound,

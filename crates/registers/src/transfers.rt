@@ -11,7 +11,7 @@ use hdma::{Ended, Start, Written};
 use memory::Memory;
 
 // A write that starts a transfer: the state before any byte is copied, and what is copied.
-#[derive(Drop)]
+#[derive(Clone, Copy)]
 pub struct Started {
     pub memory: Memory,
     pub copy: Copy,

@@ -1,7 +1,7 @@
 // The letters, and how many bytes each takes and gives: oracle/README.md, "The parts".
 ghost use Rattle.std.specs.Prelude.{◌≤◌};
 
-#[derive(Drop)]
+#[derive(Clone, Copy)]
 pub enum Letter {
     Bits,
     Timer,
@@ -14,7 +14,7 @@ pub enum Letter {
     Interrupts,
 }
 
-#[derive(Drop)]
+#[derive(Clone, Copy)]
 pub enum Known {
     Some(Letter),
     None,

@@ -1,5 +1,6 @@
 // replay: reads lines of the Rust's answers from standard input (oracle/README.md, "The parts"), gives the input of each to our public calls, and
 // counts for each letter the answers and those that differ. A program has no exit status: what it prints is the verdict.
+#![tactic(auto)]
 ghost use Rattle.std.specs.Prelude.{length};
 ghost use Rattle.lines.specs.Reader.{Inside};
 
@@ -15,7 +16,7 @@ mod letter;
 mod mapper;
 
 // What is counted, where the reader stands, and whether there may be more lines.
-#[derive(Drop)]
+#[derive(Clone, Copy)]
 struct State {
     tally: Tally,
     reader: Reader,

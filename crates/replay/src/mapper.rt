@@ -4,7 +4,7 @@ use lines::number::{high, low, word};
 use lines::pattern;
 use mbc::{Answer, Cartridge, Mapper, Registers, Source};
 
-#[derive(Drop)]
+#[derive(Clone, Copy)]
 pub enum Made {
     Some(Mapper),
     None,

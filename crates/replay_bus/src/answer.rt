@@ -7,7 +7,7 @@ use lines::answer::{Ours, refused};
 use lines::number::{high, low};
 use memory::Memory;
 
-#[derive(Drop)]
+#[derive(Clone, Copy)]
 pub struct Given {
     pub memory: Memory,
     pub ours: Ours,

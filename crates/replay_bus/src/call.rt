@@ -6,7 +6,7 @@ use dispatch::{Call, StateCall};
 use lines::number::{long, word};
 use packing::signed_of;
 
-#[derive(Drop)]
+#[derive(Clone, Copy)]
 pub enum Made {
     Some(Call),
     None,

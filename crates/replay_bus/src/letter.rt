@@ -1,7 +1,7 @@
 // The letters, and how many bytes each takes and gives: oracle/README.md, "The whole bus".
 ghost use Rattle.std.specs.Prelude.{◌≡◌, ◌≤◌};
 
-#[derive(Drop)]
+#[derive(Clone, Copy)]
 pub struct Shape {
     pub known: bool,
     pub takes: usize,

@@ -5,7 +5,7 @@ use crate::letter::shape_of;
 use lines::line::parse;
 
 // `known`: the line is of a form that a list has.
-#[derive(Drop)]
+#[derive(Clone, Copy)]
 pub struct Line {
     pub known: bool,
     pub letter: u8,

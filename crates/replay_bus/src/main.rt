@@ -1,6 +1,7 @@
 // replay_bus: reads lists of calls on a whole bus with the Rust's answers from standard input (oracle/README.md, "The whole bus"), makes each call
 // through our public calls, each on what the last one left, and counts for each letter the answers and those that differ. A program has no exit
 // status: what it prints is the verdict.
+#![tactic(auto)]
 ghost use Rattle.std.specs.Prelude.{◌≡◌, ◌≤◌, length};
 ghost use Rattle.lines.specs.Reader.{Inside};
 
@@ -20,7 +21,7 @@ mod letter;
 mod line;
 
 // A step of the reader: what it found, the line if it is one of a list, and where the reader stands.
-#[derive(Drop)]
+#[derive(Clone, Copy)]
 struct Taken {
     found: Found,
     line: Line,
@@ -28,7 +29,7 @@ struct Taken {
 }
 
 // The bus, its log's length, what is counted, where the reader stands, and whether there may be more lines.
-#[derive(Drop)]
+#[derive(Clone, Copy)]
 struct State {
     memory: Memory,
     room: u16,

@@ -1,1 +1,2 @@
 // Laws that the proofs above cite. It holds no code: see proofs/.
+#![tactic(auto)]

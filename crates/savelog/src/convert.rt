@@ -8,7 +8,7 @@ ghost use Rattle.savelog.specs.ConvertLaws.{OldCorner, SameRecords, ThereAndBack
 use crate::{Form, LOG_LIMIT, OLD_ADDRESS_END};
 
 // The number, and how many bytes of the target are the new log.
-#[derive(Drop)]
+#[derive(Clone, Copy)]
 pub struct Converted {
     pub number: u8,
     pub len: u16,

@@ -1,5 +1,6 @@
 // The save log: a record for each stored save byte, appended one by one and, after a loss, played back over the save.
 // specs/Log.antt says what the bytes mean, specs/Laws.antt what survives a cut; recovery's numbers are those of crate `numbers`.
+#![tactic(auto)]
 ghost use Rattle.std.specs.Prelude.{true, ◌++◌, ◌≡◌, ◌+◌, ◌<◌, ◌≤◌, length, take, drop};
 ghost use Rattle.savelog.specs.Log.{Three, Four, width, address_end, width_of, end_of, log_limit, bytes_of, number_from, record_number, fields_of, record_of, records_by, records, sound_record, all_sound, apply_all, lengths_fit, Recovers, Appends, cleared_use, use_in_range, full};
 ghost use Rattle.savelog.specs.Laws.{Corner, AppendLaw, PrefixLaw, LastIgnored, CopiesLaw, OneRecovery, OneAppend};
@@ -9,7 +10,7 @@ mod convert;
 pub use convert::{Converted, converters_hold, to_new, to_old};
 
 // The forms of a record: four bytes, and the three of versions before 3.0, which players' old logs have.
-#[derive(Drop)]
+#[derive(Clone, Copy)]
 pub enum Form {
     Three,
     Four,
@@ -35,7 +36,7 @@ pub const LOG_LIMIT: usize = 65535;
 pub const SAVE_LIMIT: usize = 131072;
 
 // What a record's bits say.
-#[derive(Drop)]
+#[derive(Clone, Copy)]
 pub struct Rec {
     pub mark: u32,
     pub address: usize,

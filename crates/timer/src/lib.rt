@@ -1,5 +1,6 @@
 // The timer: DIV and TIMA after a number of cycles, as the Rust's timer.rs, on a record by value. FF0F is crate interrupt's.
 // One step of DIV in 256 cycles, one of TIMA in a period of TAC: how many there are is a quotient, and no loop makes them.
+#![tactic(auto)]
 ghost use Rattle.std.specs.Prelude.{◌≡◌, ◌+◌, ◌*◌, ◌%◌, ◌<◌, ◌≤◌};
 ghost use Rattle.timer.specs.PanDocs.{period};
 ghost use Rattle.timer.specs.AtOnce.{periods_in, stepped};
@@ -12,7 +13,7 @@ use interrupt::Interrupt;
 pub mod lent;
 
 // FF04..FF07 and FF0F as the page stores them, with the two remainders.
-#[derive(Drop)]
+#[derive(Clone, Copy)]
 pub struct Timer {
     pub div: u8,
     pub tima: u8,
@@ -24,28 +25,28 @@ pub struct Timer {
 }
 
 // The number, and the timer after the call.
-#[derive(Drop)]
+#[derive(Clone, Copy)]
 pub struct Updated {
     pub number: u8,
     pub timer: Timer,
 }
 
 // DIV, and the cycles since its last step.
-#[derive(Drop)]
+#[derive(Clone, Copy)]
 pub struct Divided {
     pub div: u8,
     pub cycles: u8,
 }
 
 // TIMA, and FF0F.
-#[derive(Drop)]
+#[derive(Clone, Copy)]
 pub struct Stepped {
     pub tima: u8,
     pub flags: u8,
 }
 
 // Full periods, and the cycles since the last of them.
-#[derive(Drop)]
+#[derive(Clone, Copy)]
 pub struct Periods {
     pub full: u32,
     pub rest: u16,

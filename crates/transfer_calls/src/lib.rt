@@ -1,4 +1,5 @@
 // The transfers that a host starts: OAM DMA, and one block of HDMA. What refuses them is asked of the state and the lengths before anything is touched.
+#![tactic(auto)]
 ghost use Rattle.memory.specs.World.{world, fixed};
 ghost use Rattle.bus.specs.Calls.{buffers};
 ghost use Rattle.transfer_calls.specs.Transfers.{Transfers, Moves, OneMoved};
@@ -7,7 +8,7 @@ use memory::Memory;
 use refusals::Done;
 
 // The number, the answer of do_hdma, and the state after the call.
-#[derive(Drop)]
+#[derive(Clone, Copy)]
 pub struct Moved {
     pub number: u8,
     pub cycles: u8,

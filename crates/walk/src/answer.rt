@@ -13,7 +13,7 @@ use commands::{command, text};
 use memory::Memory;
 
 // What is printed, and the state after the line.
-#[derive(Drop)]
+#[derive(Clone, Copy)]
 pub struct Answer {
     pub text: Text,
     pub memory: Memory,

@@ -1,5 +1,6 @@
 // walk: the bus walk. Reads commands from standard input to its end, a line each, makes their calls on one bus, and prints a line for each
 // (document 01, "Corners that decide", the last paragraph). It takes no argument, and ends early where its answers cannot be written.
+#![tactic(auto)]
 ghost use Rattle.std.specs.Prelude.{◌+◌, ◌≤◌, ◌++◌, [], ◌≡◌, length, take, replicate, true, false, cond};
 ghost use Rattle.bus.specs.Fresh.{started_by};
 ghost use Rattle.commands.specs.Walk.{strange_text};
@@ -19,7 +20,7 @@ mod answer;
 mod out;
 
 // The bus, and how many bytes wait to be printed.
-#[derive(Drop)]
+#[derive(Clone, Copy)]
 struct Kept {
     memory: Memory,
     used: usize,
@@ -27,7 +28,7 @@ struct Kept {
 
 // These, and where the reader stands. `long`: the line that is read does not fit the buffer, and its first part is dropped. `more`: the walk goes on.
 // `lost`: it does not, as answers could not be written.
-#[derive(Drop)]
+#[derive(Clone, Copy)]
 struct State {
     kept: Kept,
     reader: Reader,
@@ -37,7 +38,7 @@ struct State {
 }
 
 // The bus after the walk, and how it ended.
-#[derive(Drop)]
+#[derive(Clone, Copy)]
 struct Ended {
     memory: Memory,
     more: bool,
@@ -45,7 +46,7 @@ struct Ended {
 }
 
 // How many bytes wait to be printed, with room for a line more behind them. What could not be written is lost.
-#[derive(Drop)]
+#[derive(Clone, Copy)]
 struct Waiting {
     used: usize,
     lost: bool,
