@@ -1,0 +1,5 @@
+-- One bit as a number.
+use Rattle.mbc.proofs.mbc5.Mbc5.registers.Goals as goal
+
+pub returns : goal.returns
+returns c = rw c.bit.ensures

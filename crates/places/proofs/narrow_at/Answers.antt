@@ -1,0 +1,28 @@
+-- The two bytes read hold the field, and a shift and a remainder take it out.
+use mathlib.Core.Path.{ap, ◌∙◌}
+use Prim.Native.Nat.{ℕ, ◌+◌, ◌-◌, ◌*◌, ◌/◌, ◌%◌, ◌^◌}
+use native.Mathlib.Nat.{mod-lt}
+use native.Mathlib.Omega.{arith}
+use lib.Pow.{pow_pos}
+use Rattle.places.proofs.Laws.{power, power_le, field_window}
+use Rattle.places.proofs.narrow_at.Goals as goal
+
+pub nonzero_rem-result : goal.nonzero_rem-result
+nonzero_rem-result c = rw (power c.args.width (omega arith)) (pow_pos c.args.width)
+
+pub overflow_cast-result : goal.overflow_cast-result
+overflow_cast-result c =     let w = c.args.width in
+    let x = c.two_at-n.result / 2 ^ ((c.args.bit + w + 7) / 8 * 8 - (c.args.bit + w)) in
+    let a = power_le w 16 (omega arith) in
+    let b = mod-lt x (pow_pos w) in
+    rw (power w (omega arith)) (record { fits = omega (arith, a, b) })
+
+pub returns : goal.returns
+returns c =     let l = c.args.bytes.now in
+    let w = c.args.width in
+    let bit = c.args.bit in
+    let end = (bit + w + 7) / 8 in
+    let s = end * 8 - (bit + w) in
+    let f = field_window l (λ i. (c.shared_slice_known-1.given i).fits) (end - 2) 2 (omega arith) s w bit (omega arith) (omega arith) in
+    let e = ap (λ (x : ℕ). x / 2 ^ s % 2 ^ w) c.two_at-n.ensures ∙ f in
+    rw (power w (omega arith)) (e, mod-lt (c.two_at-n.result / 2 ^ s) (pow_pos w))
