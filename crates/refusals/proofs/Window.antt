@@ -1,7 +1,6 @@
 -- The save's window: an index is in it where its region is the save's.
 use Rattle.std.proofs.Common.{◌≡◌, ℕ, true, false, [], ◌∷◌, refl, ap, arith}
 use denote.Enum.Declared.{tag_of}
-use types.Run.{OneOf, miss}
 use Rattle.memory.specs.contracts.region.Region.{the_type}
 use Rattle.memory.specs.Region.{region_of}
 use Rattle.memory.specs.declared.region.Region.{Region}
@@ -30,11 +29,11 @@ in_save_false i f e =
     let z : ◌≡◌ {A = ℕ} 0 1 = cc in
     omega arith
 
--- the other regions, by their numbers
-pub not_save : (r : Region) → OneOf (0 ∷ 1 ∷ 3 ∷ 4 ∷ 5 ∷ []) (tag_of the_type r) → is_save r ≡ false
+-- the other regions
+pub not_save : (r : Region) → (r ≡ Save → ⊥) → is_save r ≡ false
 not_save Rom k = refl
 not_save Vram k = refl
-not_save Save k = absurd (miss (0 ∷ 1 ∷ 3 ∷ 4 ∷ 5 ∷ []) 2 tt k)
+not_save Save k = absurd (k refl)
 not_save Wram k = refl
 not_save Oam k = refl
 not_save Page k = refl

@@ -1,0 +1,7 @@
+-- Each field is at its place.
+use Rattle.image.specs.Patches.{clock_put}
+use Rattle.image.proofs.fields.put_clock.Goals as goal
+
+pub returns : goal.returns
+unfolding clock_put
+returns c = rw c.put_u8.ensures at c.put_u16.ensures

@@ -1,0 +1,13 @@
+-- In colour the palette taken out, changed and put back, else the byte.
+use mathlib.Core.Path.{sym, ◌∙◌}
+use Rattle.rules.proofs.Tests.{cond_true, cond_false}
+use Rattle.registers.specs.Colour.{sprite_index_put}
+use Rattle.registers.proofs.colour.write_sprite_index.Goals as goal
+
+pub returns-then-banks : goal.returns-then-banks
+unfolding sprite_index_put
+returns-then-banks c = rw (c.write_index-next.ensures, c.sprites_of-palette.ensures) at c.with_sprites.ensures ∙ sym (cond_true _ _ _ c.if-banks.true)
+
+pub returns : goal.returns
+unfolding sprite_index_put
+returns c = c.store.ensures ∙ sym (cond_false _ _ _ c.if-banks.false)
