@@ -1,7 +1,0 @@
--- By what the calls give.
-use borrow.Author.Rules.{rules}
-use Rattle.screen_calls.proofs.do_lyc_write.Statement.{statement}
-use Rattle.screen_calls.proofs.do_lyc_write.Tie as tie
-
-pub do_lyc_write_spec : {M : Type 1} → statement M
-do_lyc_write_spec = tie.close (tie.spec (λ c κs. search rules) (λ c κs. search rules) (λ c κs. search rules) (λ c. rw (← c.before.before.refused.ensures, ← c.before.do-lyc-write.ensures) c.changed.ensures))
