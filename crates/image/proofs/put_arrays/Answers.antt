@@ -18,7 +18,7 @@ bytes_of-sprites-requires c = range_sprites c.args.memory (storable_state c.args
 pub returns : goal.returns
 unfolding arrays_of
 returns c =     let m = c.args.memory in
-    let t = c.type_inv.ensures in
+    let t = c.typed.ensures in
     let b : length c.bytes_of-background.result ≡ 60 = ap length c.bytes_of-background.ensures ∙ repacked_length (fives 96) (eights 60) (channels m.background) in
     let s : length c.bytes_of-sprites.result ≡ 60 = ap length c.bytes_of-sprites.ensures ∙ repacked_length (fives 96) (eights 60) (channels m.sprites) in
     stored_parts c.args.image.now m.oam m.page c.bytes_of-background.result c.bytes_of-sprites.result c.requires.0 t.oam.0 t.page.0 b s

@@ -16,8 +16,8 @@ returns c =     let o : (i : ℕ) → Fits w8 (get_or c.args.memory.oam i 0) = �
     record {
       oam = (search rules, λ i. (o i).fits);
       page = (search rules, λ i. (p i).fits);
-      background = simp length-map at c.well_formed.0.1.1.1.1.0.1.0.1;
-      sprites = simp length-map at c.well_formed.0.1.1.1.1.1.0.1.0.1;
+      background = c.well_formed.0.1.1.1.1.0.1.0.1;
+      sprites = c.well_formed.0.1.1.1.1.1.0.1.0.1;
       numbers = omega (arith, k);
       delay = record { sfits = omega (arith, l) };
       counter = record { sfits = omega (arith, l) };
