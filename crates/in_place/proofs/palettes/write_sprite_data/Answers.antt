@@ -1,0 +1,17 @@
+-- In colour the palette is written, else the byte is stored.
+use native.Mathlib.Omega.{arith}
+use Rattle.registers.specs.Colour.{sprite_data_put}
+use Rattle.in_place.proofs.Images.{state, size, in_colour_law, in_monochrome}
+use Rattle.in_place.proofs.PaletteLaws.{sprite_data}
+use Rattle.in_place.proofs.palettes.write_sprite_data.Goals as goal
+
+pub put_data-requires : goal.put_data-requires
+put_data-requires c = (size _ c.requires, (omega arith, omega arith))
+
+pub returns-then-is_colour : goal.returns-then-is_colour
+unfolding sprite_data_put
+returns-then-is_colour c = in_colour_law (state _ c.requires) 0x6B c.args.value _ c.is_colour.ensures c.if-is_colour.true (sprite_data _ c.requires c.args.value (omega arith) c.put_data.ensures)
+
+pub returns : goal.returns
+unfolding sprite_data_put
+returns c = in_monochrome (state _ c.requires) 0x6B c.args.value _ c.is_colour.ensures c.if-is_colour.false c.store.ensures
