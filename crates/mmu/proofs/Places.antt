@@ -1,7 +1,5 @@
 -- A byte read and a byte write by the region of the index; and the bounds that a state in range gives.
-use Rattle.std.proofs.Common.{◌≡◌, ℕ, ◌+◌, ◌-◌, ◌*◌, ◌<◌, ◌≤◌, Bool, true, false, cond, ltb, ◌⊎◌, List, [], ◌∷◌, length, set, sym, refl, ap, ◌∙◌, inl, inr, ⊎_elim, arith, lit≤, ltb-false, ltb-true}
-use denote.Enum.Declared.{tag_of}
-use types.Run.{OneOf, miss}
+use Rattle.std.proofs.Common.{◌≡◌, ℕ, ◌+◌, ◌-◌, ◌*◌, ◌<◌, ◌≤◌, Bool, true, false, cond, ltb, ◌⊎◌, List, [], length, set, sym, refl, ap, ◌∙◌, inl, inr, ⊎_elim, arith, lit≤, ltb-false, ltb-true}
 use Rattle.rules.proofs.Tests.{by_cond, cond_both, cond_false, cond_true}
 use Rattle.mbc.proofs.Laws.{mapped_rom, mapped_ram, stored_within}
 use Rattle.mbc.specs.Mbc.{mapped, read_at, after, answer, in_range, ram_len}
@@ -11,7 +9,6 @@ use Rattle.mbc.specs.declared.mbc.Answer.TheVariants.{Stored, NotStored}
 use Rattle.mbc.specs.declared.mbc.Mapper.{Mapper}
 use Rattle.memory.proofs.Laws.{range_banks, range_mapper, vram_fits, wram_fits}
 use Rattle.memory.proofs.Regions.{Within, within}
-use Rattle.memory.specs.contracts.region.Region.{the_type}
 use Rattle.memory.specs.Region.{region_of}
 use Rattle.memory.specs.World.{World, world, Fixed, with_mapper, with_used}
 use Rattle.memory.specs.declared.Memory.{Memory}
@@ -69,42 +66,39 @@ pub read_by : (x : Fixed) (m : Memory) (v w s : List ℕ) (i : ℕ) {r : Region}
     → b ≡ read_byte x m v w s i
 read_by x m v w s i e p = p ∙ ap (λ (r : Region). byte_in r x m v w s i) (sym e)
 
--- what the arm `_` of a `match` tells: which regions are left, by their numbers
+-- the arm `_` of a `match`: which regions are left
 
-abbrev pub Among : List ℕ → Region → Type 0
-Among ks r = OneOf ks (tag_of the_type r)
-
-lent_in : (r : Region) (i : ℕ) → Within r i → Among (0 ∷ 1 ∷ 2 ∷ 3 ∷ []) r → i < 0xFE00
-lent_in Rom i h k = omega arith
-lent_in Vram i h k = omega (arith, h.1)
-lent_in Save i h k = omega (arith, h.1)
-lent_in Wram i h k = h.1
-lent_in Oam i h k = absurd (miss (0 ∷ 1 ∷ 2 ∷ 3 ∷ []) 4 tt k)
-lent_in Page i h k = absurd (miss (0 ∷ 1 ∷ 2 ∷ 3 ∷ []) 5 tt k)
+lent_in : (r : Region) (i : ℕ) → Within r i → (r ≡ Oam → ⊥) → (r ≡ Page → ⊥) → i < 0xFE00
+lent_in Rom i h o p = omega arith
+lent_in Vram i h o p = omega (arith, h.1)
+lent_in Save i h o p = omega (arith, h.1)
+lent_in Wram i h o p = h.1
+lent_in Oam i h o p = absurd (o refl)
+lent_in Page i h o p = absurd (p refl)
 
 -- neither OAM nor page
-pub lent_below : (i : ℕ) {r : Region} → region_of i ≡ r → Among (0 ∷ 1 ∷ 2 ∷ 3 ∷ []) r → i < 0xFE00
-lent_below i {r} e k = lent_in r i (within i e) k
+pub lent_below : (i : ℕ) {r : Region} → region_of i ≡ r → (r ≡ Oam → ⊥) → (r ≡ Page → ⊥) → i < 0xFE00
+lent_below i {r} e o p = lent_in r i (within i e) o p
 
 -- of what is lent, neither video nor work memory
-mapped_in : (r : Region) (i : ℕ) → Within r i → i < 0xFE00 → Among (0 ∷ 2 ∷ 4 ∷ 5 ∷ []) r → (r ≡ Rom) ⊎ (r ≡ Save)
-mapped_in Rom i h l k = inl refl
-mapped_in Vram i h l k = absurd (miss (0 ∷ 2 ∷ 4 ∷ 5 ∷ []) 1 tt k)
-mapped_in Save i h l k = inr refl
-mapped_in Wram i h l k = absurd (miss (0 ∷ 2 ∷ 4 ∷ 5 ∷ []) 3 tt k)
-mapped_in Oam i h l k = absurd (omega (arith, h.0))
-mapped_in Page i h l k = absurd (omega arith)
+mapped_in : (r : Region) (i : ℕ) → Within r i → i < 0xFE00 → (r ≡ Vram → ⊥) → (r ≡ Wram → ⊥) → (r ≡ Rom) ⊎ (r ≡ Save)
+mapped_in Rom i h l v w = inl refl
+mapped_in Vram i h l v w = absurd (v refl)
+mapped_in Save i h l v w = inr refl
+mapped_in Wram i h l v w = absurd (w refl)
+mapped_in Oam i h l v w = absurd (omega (arith, h.0))
+mapped_in Page i h l v w = absurd (omega arith)
 
-module _ (i : ℕ) {r : Region} (e : region_of i ≡ r) (l : i < 0xFE00) (k : Among (0 ∷ 2 ∷ 4 ∷ 5 ∷ []) r) where
+module _ (i : ℕ) {r : Region} (e : region_of i ≡ r) (l : i < 0xFE00) (not_vram : r ≡ Vram → ⊥) (not_wram : r ≡ Wram → ⊥) where
   pub mapped_by : mapped i ≡ true
   mapped_by =
       ⊎_elim (λ q. mapped_rom i (within i (e ∙ q))) (λ q. let b = within i (e ∙ q) in mapped_ram i b.0 b.1)
-      (mapped_in r i (within i e) l k)
+      (mapped_in r i (within i e) l not_vram not_wram)
 
   pub read_mapped : (x : Fixed) (m : Memory) (v w s : List ℕ) {b : ℕ} → b ≡ read_at m.core.cartridge m.core.mapper x.rom s i
       → b ≡ read_byte x m v w s i
   read_mapped x m v w s p =
-      ⊎_elim (λ q. read_by x m v w s i (e ∙ q) p) (λ q. read_by x m v w s i (e ∙ q) p) (mapped_in r i (within i e) l k)
+      ⊎_elim (λ q. read_by x m v w s i (e ∙ q) p) (λ q. read_by x m v w s i (e ∙ q) p) (mapped_in r i (within i e) l not_vram not_wram)
 
 -- the save, of every state with this cartridge, mapper and log use: what an answer does, and a write, with a full log and with room
 

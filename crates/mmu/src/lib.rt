@@ -1,6 +1,7 @@
 // Reads and writes of the bus on lent memories, as the Rust's mmu/mod.rs: `read_byte`, `write_byte` and the transfers that a write starts.
 // These are the calls within: the state is in range and the lengths are right. The public ones, which see to that, are in the crates bus, write_calls and transfer_calls.
 #![tactic(auto)]
+
 ghost use Rattle.std.specs.Prelude.{◌≡◌, ◌<◌, []};
 ghost use Rattle.memory.specs.World.{world, fixed};
 ghost use Rattle.copies.specs.Copies.{oam_copy, Bounded};

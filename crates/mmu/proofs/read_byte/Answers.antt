@@ -20,7 +20,7 @@ pub read-requires : goal.read-requires
 read-requires c = let b = within _ (sym c.region_of-region.ensures ∙ c.in-Page.is) in search (rules, b)
 
 pub read_lent-requires : goal.read_lent-requires
-read_lent-requires c = (ready_reaches c.requires, (c.region_of-region.ensures, lent_below _ (sym c.region_of-region.ensures) c.in_default.in_default-own.keys3))
+read_lent-requires c = (ready_reaches c.requires, (c.region_of-region.ensures, lent_below _ (sym c.region_of-region.ensures) c.in_default.not-Oam c.in_default.not-Page))
 
 pub returns-in-Oam : goal.returns-in-Oam
 returns-in-Oam c = read_by _ _ _ _ _ _ (sym c.region_of-region.ensures ∙ c.in-Oam.is) refl

@@ -25,4 +25,4 @@ shape_of-log c = c.write_byte.auto.log ∙ c.write_byte-half.auto.log
 
 pub returns : goal.returns
 unfolding word_at
-returns c = rw (c.write_byte-half.ensures, c.wrapping_add_u16-above.ensures) at c.write_byte.ensures
+returns c = rw (c.write_byte-half.ensures, c.wrapping_add_u16-above.ensures.value) at c.write_byte.ensures

@@ -11,7 +11,7 @@ pub read_cgb_wram-requires : goal.read_cgb_wram-requires
 read_cgb_wram-requires c = (within _ (sym c.requires.1.0 ∙ c.in-Wram.is), c.requires.0.wram)
 
 pub read-requires : goal.read-requires
-read-requires c = let R = c.requires.0 in (R.mapper, (mapped_by _ (sym c.requires.1.0) c.requires.1.1 c.in_default.in_default-own.keys3, (R.rom, R.save)))
+read-requires c = let R = c.requires.0 in (R.mapper, (mapped_by _ (sym c.requires.1.0) c.requires.1.1 c.in_default.not-Vram c.in_default.not-Wram, (R.rom, R.save)))
 
 pub returns-in-Vram : goal.returns-in-Vram
 returns-in-Vram c = λ m y e. read_by _ m _ _ _ _ (sym c.requires.1.0 ∙ c.in-Vram.is) (rw e c.read_cgb_lcd_ram.ensures)
@@ -20,4 +20,4 @@ pub returns-in-Wram : goal.returns-in-Wram
 returns-in-Wram c = λ m y e. read_by _ m _ _ _ _ (sym c.requires.1.0 ∙ c.in-Wram.is) (rw e c.read_cgb_wram.ensures)
 
 pub returns-in_default : goal.returns-in_default
-returns-in_default c = λ m y e. read_mapped _ (sym c.requires.1.0) c.requires.1.1 c.in_default.in_default-own.keys3 _ m _ _ _ (rw e c.read.ensures)
+returns-in_default c = λ m y e. read_mapped _ (sym c.requires.1.0) c.requires.1.1 c.in_default.not-Vram c.in_default.not-Wram _ m _ _ _ (rw e c.read.ensures)
