@@ -28,9 +28,6 @@ overflow_sub-index c = within _ (sym c.region_of.ensures ∙ c.in-Page.is)
 pub overflow_cast-index : goal.overflow_cast-index
 overflow_cast-index c = let b = within _ (sym c.region_of.ensures ∙ c.in-Page.is) in search (rules, b)
 
-pub write-requires : goal.write-requires
-write-requires c = let b = within _ (sym c.region_of.ensures ∙ c.in-Page.is) in search (rules, b)
-
 pub returns-in-Rom : goal.returns-in-Rom
 returns-in-Rom c = put_rom _ _ _ (sym c.region_of.ensures ∙ c.in-Rom.is) c.put_mapper.ensures
 

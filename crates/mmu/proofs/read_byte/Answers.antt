@@ -16,9 +16,6 @@ overflow_sub-index c = within _ (sym c.region_of-region.ensures ∙ c.in-Page.is
 pub overflow_cast-index : goal.overflow_cast-index
 overflow_cast-index c = let b = within _ (sym c.region_of-region.ensures ∙ c.in-Page.is) in search (rules, b)
 
-pub read-requires : goal.read-requires
-read-requires c = let b = within _ (sym c.region_of-region.ensures ∙ c.in-Page.is) in search (rules, b)
-
 pub read_lent-requires : goal.read_lent-requires
 read_lent-requires c = (ready_reaches c.requires, (c.region_of-region.ensures, lent_below _ (sym c.region_of-region.ensures) c.in_default.not-Oam c.in_default.not-Page))
 
