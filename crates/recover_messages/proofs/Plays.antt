@@ -1,11 +1,11 @@
 -- A journal played part by part is played as a whole. And recovery by old records is that of the converted log.
-use mathlib.Core.Bool.{Bool, true, false, cond, ◌&&◌}
+use mathlib.Core.Bool.{Bool, true, false, cond}
 use mathlib.Core.Path.{◌≡◌, refl, sym, ap, ◌∙◌, subst}
 use mathlib.Core.List.{List, [], ◌∷◌, ◌++◌, append-nil}
-use Prim.Native.Nat.{ℕ, ◌-◌, ◌*◌, ◌/◌, ◌%◌, ◌≤◌, ◌<◌}
+use Prim.Native.Nat.{ℕ, ◌-◌, ◌%◌, ◌≤◌, ◌<◌}
 use native.Mathlib.Decide.{dec_lt}
 use native.Mathlib.Omega.{arith}
-use lib.Dec.{leb, ltb, eqb}
+use lib.Dec.{leb, eqb}
 use lib.ListN.{length, take}
 use lib.Seq.{take_all, length-take-le}
 use borrow.Author.Tests.{lt-ltb, ltb-true, le-leb, lt-leb}
@@ -16,7 +16,6 @@ use Rattle.savelog.specs.declared.Form.{Form}
 use Rattle.savelog.specs.declared.Form.TheVariants.{Three, Four}
 use Rattle.savelog.specs.declared.Rec.{Rec}
 use Rattle.savelog.specs.Convert.{Conversion, converted, conversion, room, length_by, old_recovery}
-use Rattle.savelog.specs.ConvertLaws.{new_log}
 use Rattle.savelog.proofs.Laws.{some_width, records_none, save_within}
 use Rattle.savelog.proofs.Converts.{result, by_sound}
 use Rattle.savelog.proofs.ConvertLaws.{same_records, past_stays, old_lengths}

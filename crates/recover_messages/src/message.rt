@@ -178,7 +178,8 @@ pub fn damage(
     }
     let from = bytes_of(form, n);
     let to = from + form.len();
-    let number = records_in(form, s.len) + n;
+    let before = records_in(form, s.len);
+    let number = before + n;
     damaged(
         out,
         name,

@@ -5,8 +5,8 @@ use Prim.Native.Nat.{ℕ, suc, ◌+◌, ◌-◌, ◌*◌, ◌≤◌, ◌<◌}
 use native.Mathlib.Nat.{mul-suc, mul-zero}
 use native.Mathlib.Numerals.{add-one}
 use native.Mathlib.Omega.{arith}
-use lib.ListN.{length, take, drop, get_or, set, length-append, length-drop, take-append-drop, drop_of_length-le}
-use lib.Seq.{length-take-le, take_at, take_all, take-length, take-suc, drop_at, drop-drop, set_split}
+use lib.ListN.{length, take, drop, get_or, set, length-append, length-drop, take-append-drop}
+use lib.Seq.{length-take-le, take_at, take-suc, drop_at, drop-drop, set_split}
 use Rattle.recover_text.specs.Text.{Put, texts, numbered}
 
 -- no text
@@ -87,18 +87,14 @@ pub numbered_none : (f : ℕ → List ℕ) (from k : ℕ) → k ≤ from → num
 unfolding numbered
 numbered_none f from k h = let e : k - from ≡ 0 = omega arith in rw e
 
--- a text copied into the rest of a buffer
-pub put_copied : (o s l : List ℕ) (at : ℕ) → at + length s ≤ length o
-    → l ≡ take (length s) s ++ drop (length s) (take (length o - at) (drop at o))
-    → Put o at s (take at o ++ (l ++ drop (length o - at) (drop at o))) (at + length s)
-put_copied o s l at h e =
-    let d = length-drop at o in
-    let r : drop (length o - at) (drop at o) ≡ [] = drop_of_length-le (drop at o) {i = length o - at} (omega arith) in
-    let m : take (length o - at) (drop at o) ≡ drop at o = take_all (length o - at) (drop at o) (omega arith) in
+-- a text copied over as many bytes of a buffer
+pub put_copied : (o s l : List ℕ) (at k : ℕ) → at + length s ≤ length o → k ≡ length s → l ≡ s
+    → Put o at s (take at o ++ (l ++ drop k (drop at o))) (at + length s)
+put_copied o s l at k h e f =
     record {
       fits = h;
       ends = refl;
-      bytes = rw (e, r, m, take-length s, drop-drop (length s) at o, append-nil (s ++ drop (at + length s) o));
+      bytes = rw (e, f, drop-drop (length s) at o);
     }
 
 -- what was put at the start is there to be read

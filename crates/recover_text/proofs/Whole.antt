@@ -1,17 +1,16 @@
 -- How long all rows' texts are. And the rows of whole rows are all of a save.
 use mathlib.Core.Bool.{Bool, true, false, cond}
-use mathlib.Core.Path.{◌≡◌, refl, sym, ◌∙◌}
-use mathlib.Core.List.{List, [], ◌++◌, append-nil}
-use Prim.Native.Nat.{ℕ, zero, suc, ◌+◌, ◌-◌, ◌*◌, ◌≤◌, ◌<◌}
-use native.Mathlib.Nat.{mul-suc, mul-zero, mul-le-mul_left}
+use mathlib.Core.Path.{◌≡◌, refl, ◌∙◌}
+use mathlib.Core.List.{List, [], ◌++◌}
+use Prim.Native.Nat.{ℕ, zero, suc, ◌+◌, ◌*◌, ◌≤◌, ◌<◌}
+use native.Mathlib.Nat.{mul-suc, mul-zero}
 use native.Mathlib.Omega.{arith}
-use lib.ListN.{length, take, drop, length-append, length-drop, drop_of_length-le}
-use lib.Seq.{length-take-le, take_all, take-add, drop-drop}
-use Rattle.recover_text.specs.Text.{Put, numbered}
-use Rattle.recover_text.specs.Rows.{row_bytes, row, row_count, row_line, same_bytes, changed_lines, row_lines, row_room, Rows, Shows, RowsLaw}
+use lib.ListN.{length, take, drop, length-append, length-drop}
+use lib.Seq.{length-take-le, take_all, take-add}
+use Rattle.recover_text.specs.Text.{numbered}
+use Rattle.recover_text.specs.Rows.{row_bytes, row, row_count, row_line, same_bytes, changed_lines, row_lines, row_room, Rows, RowsLaw}
 use Rattle.recover_text.specs.Speak.{said, text_line, byte_lines, heard, row_heard, heard_room}
 use Rattle.recover_text.specs.Report.{hex_rows, heard_rows, report}
-use Rattle.recover_text.specs.declared.rows.Part.{Part}
 use Rattle.recover_text.proofs.Lines.{line_length}
 use Rattle.recover_text.proofs.Hearing.{lines_length, text_line_length}
 

@@ -18,8 +18,9 @@ pub fn text(out: &mut [u8], at: usize, s: &[u8]) -> usize
     requires { at + length s.now ≤ length out.old }
     ensures { Put out.old at s.now out.new result }
 {
-    bytes::copy(s, &mut out[at..]);
-    at + s.len()
+    let end = at + s.len();
+    out[at..end].copy_from_slice(s);
+    end
 }
 
 // A number in decimal.

@@ -1,0 +1,11 @@
+-- The bytes so far are put; each turn puts one more behind them.
+use Prim.Native.Nat.{◌-◌, ◌≤◌}
+use lib.ListN.{length, take}
+use Rattle.recover_text.specs.Text.{Put, hexes}
+use Rattle.recover_text.proofs.put.hexes.Given as goal
+
+abbrev pub invariant-loop-i : goal.invariant-loop-i
+invariant-loop-i l = (l.i ≤ length l.s) × Put l.initial.out l.at (hexes (take l.i l.s)) l.out l.end
+
+abbrev pub decreases-loop-i : goal.decreases-loop-i
+decreases-loop-i l = length l.s - l.i
