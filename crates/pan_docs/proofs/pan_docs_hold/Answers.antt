@@ -15,12 +15,10 @@ use Rattle.pan_docs.proofs.Palettes.{palette_bits}
 use Rattle.pan_docs.proofs.RomOnly.{rom_only_rules}
 use Rattle.pan_docs.proofs.Timer.{timer_bits}
 use Rattle.pan_docs.proofs.Transfers.{transfer_registers}
-use Rattle.pan_docs.proofs.pan_docs_hold.Statement.{statement}
-use Rattle.pan_docs.proofs.pan_docs_hold.Tie as tie
+use Rattle.pan_docs.proofs.pan_docs_hold.Goals as goal
 
-returns : tie.Need-returns
-returns c =
-    record {
+pub returns : goal.returns
+returns c =     record {
       map = memory_map;
       addresses = addresses;
       ones = bits_that_read_one;
@@ -39,6 +37,3 @@ returns c =
       mbc5 = mbc5_rules;
       mbc5_writes = mbc5_writes;
     }
-
-pub pan_docs_hold_spec : {M : Type 1} → statement M
-pan_docs_hold_spec = tie.close (tie.spec returns)
