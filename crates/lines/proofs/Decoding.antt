@@ -1,5 +1,5 @@
 -- Bytes are decoded one a turn: those of a text are the ones that were put, and those that its rest has.
-use Rattle.std.proofs.Common.{◌≡◌, ℕ, suc, ◌+◌, ◌-◌, ◌*◌, ◌<◌, ◌≤◌, Bool, List, [], ◌∷◌, ◌++◌, length, get_or, take, drop, set, sym, refl, ap, ◌∙◌, append_assoc, append-nil, add-one, arith, length-set, take-append-drop, length-take-le, get_or-drop, drop-drop, take-suc-set, drop-set-lt}
+use Rattle.std.proofs.Common.{◌≡◌, ℕ, suc, ◌+◌, ◌-◌, ◌*◌, ◌<◌, ◌≤◌, Bool, List, [], ◌∷◌, ◌++◌, length, get_or, take, drop, set, sym, ap, ◌∙◌, append_assoc, append-nil, add-one, arith, length-set, take-append-drop, length-take-le, get_or-drop, drop-drop, take-suc-set, drop-set-lt}
 use Rattle.lines.specs.Text.{digit_of, byte_of, and_then, bytes_in, puts, parsed}
 use Rattle.lines.specs.declared.line.Pair.{Pair}
 use Rattle.lines.specs.declared.line.Pair.TheVariants.{Byte, Wrong}

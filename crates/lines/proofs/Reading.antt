@@ -1,17 +1,13 @@
 -- Lists of bytes with line feeds: what a search for one shows, and what the lines of a list are.
-use Rattle.std.proofs.Common.{◌≡◌, ℕ, suc, ◌+◌, ◌-◌, ◌<◌, ◌≤◌, Bool, true, false, cond, eqb, List, [], ◌∷◌, ◌++◌, length, get_or, take, drop, set, sym, refl, ap, ◌∙◌, add-one, arith, length-drop, length-take-le, get_or-drop, take-suc, drop-drop, take-suc-set, drop-set-lt, take-add, drop_at, eqb-true}
+use Rattle.std.proofs.Common.{◌≡◌, ℕ, zero, suc, ◌+◌, ◌-◌, ◌<◌, ◌≤◌, Bool, true, false, cond, eqb, List, [], ◌∷◌, ◌++◌, length, get_or, take, drop, set, sym, refl, ap, ◌∙◌, add-one, arith, length-drop, length-take-le, get_or-drop, take-suc, drop-drop, take-suc-set, drop-set-lt, eqb-true, eq-eqb, ne_eqb, Some, None}
+use Rattle.std.proofs.lemmas.List.{drop-take}
 use Rattle.rules.proofs.Tests.{untrue}
-use Rattle.bytes.specs.Bytes.{index_of, index_after, slice}
+use Rattle.memchr.specs.Find.{is_byte, IsFirstByte}
 use Rattle.lines.specs.Reader.{begun, lines_of, fed, part}
 
--- a part is what `bytes::scan` searches
-pub slice_part : (l : List ℕ) (from to : ℕ) → from ≤ to → to ≤ length l → slice from to l ≡ part from to l
-unfolding slice
-slice_part l from to h k =
-    let e : to ≡ from + (to - from) = omega arith in
-    ap (λ (n : ℕ). drop from (take n l)) e
-    ∙ (ap (drop from) (take-add from (to - from) l)
-    ∙ drop_at (take from l) (take (to - from) (drop from l)) from (length-take-le from l (omega arith)))
+-- a part of a part's bytes
+pub part_drop : (l : List ℕ) (from to : ℕ) → from ≤ to → drop from (take to l) ≡ part from to l
+part_drop l from to h = let e : to ≡ from + (to - from) = omega arith in ap (λ (n : ℕ). drop from (take n l)) e ∙ drop-take from (to - from) l
 
 pub length_part : (l : List ℕ) (from to : ℕ) → from ≤ to → to ≤ length l → length (part from to l) ≡ to - from
 length_part l from to h k = length-take-le (to - from) (drop from l) (omega (arith, length-drop from l))
@@ -24,28 +20,25 @@ cuts_next : (c : ℕ) (s : List ℕ) (k : ℕ) → eqb c 10 ≡ false → Cuts s
 unfolding fed
 cuts_next c s k e p = (ap (λ (l : List ℕ). c ∷ l) p.0, rw e p.1)
 
-module _ (c : ℕ) (s : List ℕ) (all : index_of 10 s < length s → Cuts s (index_of 10 s)) where
-  cuts_by : (b : Bool) → eqb c 10 ≡ b → index_after b (index_of 10 s) < length (c ∷ s) → Cuts (c ∷ s) (index_after b (index_of 10 s))
-  unfolding index_after fed
-  cuts_by true e h = (ap (λ (n : ℕ). n ∷ s) (eqb-true c 10 e), refl)
-  cuts_by false e h = cuts_next c s (index_of 10 s) e (all (omega arith))
+-- where the first line feed is at k
+cuts_at : (s : List ℕ) (k : ℕ) → k < length s → get_or s k 0 ≡ 10 → ((j : ℕ) → j < k → get_or s j 0 ≡ 10 → ⊥) → Cuts s k
+unfolding fed
+cuts_at [] k h e n = absurd (omega arith)
+cuts_at (c ∷ s) zero h e n = (ap (λ (m : ℕ). m ∷ s) e, refl)
+cuts_at (c ∷ s) (suc k) h e n = cuts_next c s k (ne_eqb c 10 (n 0 (omega arith))) (cuts_at s k (omega arith) e (λ j l. n (suc j) (omega arith)))
 
-pub cuts : (s : List ℕ) → index_of 10 s < length s → Cuts s (index_of 10 s)
-unfolding index_of
-cuts [] h = absurd (omega arith)
-cuts (c ∷ s) h = cuts_by c s (cuts s) (eqb c 10) refl h
+clear_all : (s : List ℕ) → ((j : ℕ) → j < length s → get_or s j 0 ≡ 10 → ⊥) → fed s ≡ false
+unfolding fed
+clear_all [] n = refl
+clear_all (c ∷ s) n = rw (ne_eqb c 10 (n 0 (omega arith))) (clear_all s (λ j l. n (suc j) (omega arith)))
 
-module _ (c : ℕ) (s : List ℕ) (all : length s ≤ index_of 10 s → fed s ≡ false) where
-  clear_by : (b : Bool) → eqb c 10 ≡ b → length (c ∷ s) ≤ index_after b (index_of 10 s) → cond b true (fed s) ≡ false
-  unfolding index_after
-  clear_by true e h = absurd (omega arith)
-  clear_by false e h = all (omega arith)
+-- what a search for a line feed shows
+pub cuts : (s : List ℕ) (k : ℕ) → IsFirstByte (is_byte 10) s (Some k) → (k < length s) × Cuts s k
+cuts s k f = (f.0.high, cuts_at s k f.0.high (eqb-true _ _ f.1) (λ j l e. f.0.before j (omega arith) l (eq-eqb _ _ e)))
 
 -- where none is found there is none
-pub clear : (s : List ℕ) → length s ≤ index_of 10 s → fed s ≡ false
-unfolding index_of fed
-clear [] h = refl
-clear (c ∷ s) h = clear_by c s (clear s) (eqb c 10) refl h
+pub clear : (s : List ℕ) → IsFirstByte (is_byte 10) s None → fed s ≡ false
+clear s f = clear_all s (λ j l e. f j (omega arith) l (eq-eqb _ _ e))
 
 -- The lines
 

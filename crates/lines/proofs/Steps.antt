@@ -1,12 +1,12 @@
 -- A step of the reader: of the places that it goes by, each kind of step is what specs/Reader.antt says.
-use Rattle.std.proofs.Common.{◌≡◌, ℕ, suc, ◌+◌, ◌-◌, ◌<◌, ◌≤◌, Bool, true, false, ltb, List, [], ◌∷◌, ◌++◌, length, take, drop, sym, refl, ap, ◌∙◌, arith, length-drop, length-take-le, take-take, drop-drop, take-add}
-use Rattle.bytes.specs.Bytes.{index_of, slice}
+use Rattle.std.proofs.Common.{◌≡◌, ℕ, suc, ◌+◌, ◌-◌, ◌<◌, ◌≤◌, Bool, true, false, ltb, List, [], ◌∷◌, ◌++◌, length, take, drop, sym, refl, ap, ◌∙◌, arith, length-drop, length-take-le, take-take, drop-drop, take-add, Some, None}
+use Rattle.memchr.specs.Find.{is_byte, IsFirstByte}
 use Rattle.lines.specs.Reader.{fed, part, standing, Ended, Last, Came, Dropped, Over}
 use Rattle.lines.specs.declared.reader.Found.{Found}
 use Rattle.lines.specs.declared.reader.Found.TheVariants.{Line, Long, Read, End}
 use Rattle.lines.specs.declared.reader.Reader.{Reader}
 use Rattle.lines.specs.declared.reader.Step.{Step}
-use Rattle.lines.proofs.Reading.{slice_part, length_part, cuts, clear}
+use Rattle.lines.proofs.Reading.{part_drop, length_part, cuts, clear}
 
 abbrev step : Found → ℕ → ℕ → Reader → Step
 step found from to next = record { found = found; from = from; to = to; next = next }
@@ -60,35 +60,33 @@ module _ (l : List ℕ) (at end : ℕ) (h : at ≤ end) (k : end ≤ length l) w
         stays = ap (ltb 0) (sym (length-take-le n (drop (end - at) m) (omega (arith, length-drop (end - at) m))));
       }
 
-  module _ (stop : ℕ) (found : stop ≡ at + index_of 10 (slice at end l)) where
-    place : index_of 10 (slice at end l) ≡ index_of 10 (part at end l)
-    place = ap (index_of 10) (slice_part l at end h k)
+  pub step_clear : IsFirstByte (is_byte 10) (part at end l) None → fed (part at end l) ≡ false
+  step_clear f = clear (part at end l) f
 
-    pub step_clear : end ≤ stop → fed (part at end l) ≡ false
-    step_clear f = clear (part at end l) (omega (arith, place, length_part l at end h k))
+  module _ (size : ℕ) (found : IsFirstByte (is_byte 10) (part at end l) (Some size)) where
+    pub step_inside : at + size < end
+    step_inside = omega (arith, (cuts (part at end l) size found).0, length_part l at end h k)
 
-    module _ (inside : stop < end) where
-      index : stop - at ≡ index_of 10 (part at end l)
-      index = omega (arith, place)
+    line : take size (part at end l) ≡ part at (at + size) l
+    line =
+        let i = step_inside in
+        let e : at + size - at ≡ size = omega arith in
+        rw e (take-take size (end - at) (drop at l) (omega arith))
 
-      line : take (index_of 10 (part at end l)) (part at end l) ≡ part at stop l
-      line = rw (← index) (take-take (stop - at) (end - at) (drop at l) (omega arith))
+    rest : drop (suc size) (part at end l) ≡ part (at + size + 1) end l
+    rest =
+        let i = step_inside in
+        part_drop (drop at l) (suc size) (end - at) (omega arith)
+        ∙ (let e : end - at - suc size ≡ end - (at + size + 1) = omega arith in
+        let f : at + suc size ≡ at + size + 1 = omega arith in
+        rw e (ap (take (end - (at + size + 1))) (drop-drop (suc size) at l ∙ ap (λ (n : ℕ). drop n l) f)))
 
-      rest : drop (suc (index_of 10 (part at end l))) (part at end l) ≡ part (stop + 1) end l
-      unfolding slice
-      rest =
-          rw (← index)
-          (slice_part (drop at l) (suc (stop - at)) (end - at) (omega arith) (omega (arith, length-drop at l))
-          ∙ (let e : end - at - suc (stop - at) ≡ end - (stop + 1) = omega arith in
-          let f : at + suc (stop - at) ≡ stop + 1 = omega arith in
-          rw e (ap (take (end - (stop + 1))) (drop-drop (suc (stop - at)) at l ∙ ap (λ (n : ℕ). drop n l) f))))
-
-      pub step_ended : (more : Bool) → Ended (part at end l) more l (step Line at stop (standing (stop + 1) end more))
-      step_ended more =
-          let p = cuts (part at end l) (omega (arith, place, length_part l at end h k)) in
-          record {
-            cut = p.0 ∙ (ap (λ (a : List ℕ). a ++ (10 ∷ drop (suc (index_of 10 (part at end l))) (part at end l))) line
-                ∙ ap (λ (b : List ℕ). part at stop l ++ (10 ∷ b)) rest);
-            clear = ap fed (sym line) ∙ p.1;
-            stays = refl;
-          }
+    pub step_ended : (more : Bool) → Ended (part at end l) more l (step Line at (at + size) (standing (at + size + 1) end more))
+    step_ended more =
+        let p = (cuts (part at end l) size found).1 in
+        record {
+          cut = p.0 ∙ (ap (λ (a : List ℕ). a ++ (10 ∷ drop (suc size) (part at end l))) line
+              ∙ ap (λ (b : List ℕ). part at (at + size) l ++ (10 ∷ b)) rest);
+          clear = ap fed (sym line) ∙ p.1;
+          stays = refl;
+        }

@@ -2,6 +2,9 @@
 ghost use Rattle.std.specs.Prelude.{◌≡◌, ◌+◌, ◌*◌, ◌<◌, ◌≤◌, length, drop, ◌==◌};
 ghost use Rattle.lines.specs.Text.{digit_of, hex_digit, byte_of, bytes_in, is_field, width_of, puts, parsed, line_of, Holds};
 
+// What stands between the fields of a line.
+const SPACE: u8 = b' ';
+
 #[derive(Clone, Copy)]
 pub enum Pair {
     Byte(u8),
@@ -101,10 +104,10 @@ pub fn parse(s: &[u8], takes: usize, gives: usize, given: &mut [u8], answer: &mu
     if s.len() != middle + 1 + width(gives) {
         return false;
     }
-    if s[1] != b' ' {
+    if s[1] != SPACE {
         return false;
     }
-    if s[middle] != b' ' {
+    if s[middle] != SPACE {
         return false;
     }
     if !field(s, 2, takes, given) {

@@ -1,8 +1,8 @@
-// The lines of standard input, one at a time. What is read stands in a buffer that the caller lends.
+// The lines of an input, one at a time. What is read stands in a buffer that the caller lends.
 ghost use Rattle.std.specs.Prelude.{◌≡◌, ◌+◌, ◌-◌, ◌≤◌, true, false, length, take};
 ghost use Rattle.lines.specs.Reader.{fed, part, pending, standing, Inside, Given, Finds};
 
-use libc::{STDIN_FILENO, STDOUT_FILENO};
+use std::io::{Read, Write};
 
 // The bytes from `at` to `end` are read and not yet given. `more`: there may be more to read.
 #[derive(Clone, Copy)]
@@ -39,17 +39,18 @@ pub fn new() -> Reader
     }
 }
 
-// Reads behind the first `kept` bytes: how many came, 0 at the end. A read that fails ends the input too, and is told.
-fn read_on(buf: &mut [u8], kept: usize) -> usize
+// Reads behind the first `kept` bytes: how many came, 0 at the end. A read that fails ends the input too, and is told on the output.
+fn read_on<R: Read, W: Write>(input: &mut R, output: &mut W, buf: &mut [u8], kept: usize) -> usize
     requires { kept ≤ length buf.old }
     ensures { (kept + result ≤ length buf.new) × (take kept buf.new ≡ take kept buf.old) }
 {
-    let got = libc::read(STDIN_FILENO, &mut buf[kept..]);
-    if got < 0 {
-        io::write_all(STDOUT_FILENO, b"the input could not be read to its end\n");
-        return 0;
+    match input.read(&mut buf[kept..]) {
+        Ok(n) => n,
+        Err(_) => {
+            let _ = output.write_all(b"the input could not be read to its end\n");
+            0
+        }
     }
-    io::count(got, &buf[kept..])
 }
 
 // Moves the bytes from `from` to `to` to the front.
@@ -65,7 +66,13 @@ fn move_down(buf: &mut [u8], from: usize, to: usize)
 }
 
 // Reads once, behind a line that is not whole.
-fn fill(buf: &mut [u8], at: usize, end: usize) -> Step
+fn fill<R: Read, W: Write>(
+    input: &mut R,
+    output: &mut W,
+    buf: &mut [u8],
+    at: usize,
+    end: usize,
+) -> Step
     requires { (at ≤ end) × ((end ≤ length buf.old) × (fed (part at end buf.old) ≡ false)) }
     ensures { Given (length buf.new) result × Finds (part at end buf.old) true buf.new result }
 {
@@ -79,7 +86,7 @@ fn fill(buf: &mut [u8], at: usize, end: usize) -> Step
         };
     }
     move_down(buf, at, end);
-    let n = read_on(buf, kept);
+    let n = read_on(input, output, buf, kept);
     Step {
         found: Found::Read,
         from: 0,
@@ -118,27 +125,31 @@ fn last(buf: &[u8], at: usize, end: usize) -> Step
     }
 }
 
-pub fn next(buf: &mut [u8], reader: Reader) -> Step
+pub fn next<R: Read, W: Write>(
+    input: &mut R,
+    output: &mut W,
+    buf: &mut [u8],
+    reader: Reader,
+) -> Step
     requires { Inside (length buf.old) reader }
     ensures { Given (length buf.new) result × Finds (pending buf.old reader) reader.more buf.new result }
 {
     let at = reader.at;
     let end = reader.end;
-    let stop = bytes::scan::find(buf, at, end, b'\n');
-    if stop < end {
+    if let Some(size) = memchr::memchr(b'\n', &buf[at..end]) {
         return Step {
             found: Found::Line,
             from: at,
-            to: stop,
+            to: at + size,
             next: Reader {
-                at: stop + 1,
+                at: at + size + 1,
                 end: end,
                 more: reader.more,
             },
         };
     }
     if reader.more {
-        return fill(buf, at, end);
+        return fill(input, output, buf, at, end);
     }
     last(buf, at, end)
 }

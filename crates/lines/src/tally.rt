@@ -2,7 +2,8 @@
 ghost use Rattle.std.specs.Prelude.{◌≡◌, ◌%◌, ◌<◌};
 ghost use Rattle.lines.specs.Tally as counts;
 
-use libc::STDOUT_FILENO;
+use std::io;
+use std::io::Write;
 
 // A letter counts at its code modulo 64, where no two letters meet.
 #[derive(Clone, Copy)]
@@ -23,34 +24,24 @@ fn place(letter: u8) -> usize
 fn more(n: u64) -> u64
     ensures { result ≡ counts.more n }
 {
-    std::num::wrapping_add_u64(n, 1)
-}
-
-fn say(words: &[u8]) {
-    io::write_all(STDOUT_FILENO, words);
+    n.wrapping_add(1)
 }
 
 // The line of a letter that occurred.
-fn report_letter(name: u8, answers: u64, differ: u64) {
+fn report_letter<W: Write>(output: &mut W, name: u8, answers: u64, differ: u64) -> io::Result<()> {
     if answers == 0 {
-        return;
+        return Ok(());
     }
-    say(&[name]);
-    say(b" ");
-    io::print_decimal(STDOUT_FILENO, answers);
-    say(b" answers, ");
-    io::print_decimal(STDOUT_FILENO, differ);
-    say(b" differ\n");
+    output.write_all(&[name])?;
+    writeln!(output, " {answers} answers, {differ} differ")
 }
 
 // The line that says that not every line was compared.
-fn report_unknown(unknown: u64) {
+fn report_unknown<W: Write>(output: &mut W, unknown: u64) -> io::Result<()> {
     if unknown == 0 {
-        return;
+        return Ok(());
     }
-    say(b"? ");
-    io::print_decimal(STDOUT_FILENO, unknown);
-    say(b" lines are of no known form\n");
+    writeln!(output, "? {unknown} lines are of no known form")
 }
 
 impl Tally {
@@ -86,13 +77,11 @@ impl Tally {
     }
 
     // The letters in the order of `names`.
-    pub fn report(self, names: &[u8]) {
-        let mut i = 0;
-        while i < names.len() {
-            let at = place(names[i]);
-            report_letter(names[i], self.answers[at], self.differ[at]);
-            i += 1;
+    pub fn report<W: Write>(self, output: &mut W, names: &[u8]) -> io::Result<()> {
+        for name in names {
+            let at = place(*name);
+            report_letter(output, *name, self.answers[at], self.differ[at])?;
         }
-        report_unknown(self.unknown);
+        report_unknown(output, self.unknown)
     }
 }
