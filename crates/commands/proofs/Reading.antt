@@ -1,14 +1,12 @@
 -- A number is read a character at a time: what the characters from i on say, after digits that wrote n.
-use mathlib.Core.Path.{◌≡◌, sym, ap, ◌∙◌}
+use mathlib.Core.Path.{◌≡◌}
 use mathlib.Core.List.{List}
 use Prim.Native.Nat.{ℕ, ◌+◌, ◌*◌, ◌≤◌, ◌<◌}
 use native.Mathlib.Numerals.{add-one}
-use native.Mathlib.Omega.{arith}
 use borrow.Author.Tests.{lt-ltb, le-ltb, le-leb, lt-leb}
 use lib.ListN.{length, drop, get_or}
 use lib.Seq.{drop-cons, drop-length}
 use Rattle.lines.specs.Text.{digit_of}
-use Rattle.commands.specs.declared.command.Number.{Number}
 use Rattle.commands.specs.declared.command.Number.TheVariants.{Is, Wrong}
 use Rattle.commands.specs.Walk.{number_from}
 

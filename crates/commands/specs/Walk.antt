@@ -1,6 +1,6 @@
 -- The lines of the bus walk: document 01, "Corners that decide", the last paragraph. Characters by their ASCII codes:
 -- R 82, W 87, T 84, ? 63, space 32, line feed 10, the digit 0 48.
-use Rattle.std.specs.Prelude.{cond, ◌&&◌, List, [], ◌∷◌, ◌++◌, ◌≡◌, ℕ, ◌+◌, ◌*◌, ◌≤◌, eqb, leb, ltb, length, take, drop, get_or}
+use Rattle.std.specs.Prelude.{cond, List, [], ◌∷◌, ◌++◌, ◌≡◌, ℕ, ◌+◌, ◌*◌, ◌≤◌, eqb, leb, ltb, length, take, drop, get_or}
 use Rattle.lines.specs.Text.{digit_of, byte_text, index_text}
 use Rattle.commands.specs.declared.command.Command.{Command}
 use Rattle.commands.specs.declared.command.Command.TheVariants.{Read, Write, Update, Strange}
