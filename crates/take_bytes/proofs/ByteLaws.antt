@@ -1,10 +1,10 @@
 -- A byte read on the image itself: it is in a lent memory or in the image. And the number: the image's or, of an image that is taken, the lengths'.
 use mathlib.Core.Bool.{Bool, true, cond}
+use mathlib.Core.Logic.{◌⊎◌, inl, inr}
 use mathlib.Core.List.{List, [], ◌∷◌}
 use mathlib.Core.Path.{◌≡◌, refl, sym, ap, subst, ◌∙◌}
 use Prim.Native.Nat.{ℕ, ◌+◌, ◌*◌, ◌-◌, ◌<◌, ◌≤◌}
 use native.Mathlib.Omega.{arith}
-use types.Run.{miss}
 use lib.ListN.{length, get_or}
 use borrow.Author.Tests.{eq-eqb, ne_eqb}
 use Rattle.image.proofs.FieldLaws.{fields_in}
@@ -28,7 +28,7 @@ use Rattle.memory.specs.declared.Core.{Core}
 use Rattle.memory.specs.declared.Memory.{Memory}
 use Rattle.memory.specs.declared.region.Region.{Region}
 use Rattle.memory.specs.declared.region.Region.TheVariants.{Rom, Vram, Save, Wram, Oam, Page}
-use Rattle.mmu.proofs.Places.{Among, read_by, holds_vram, holds_wram}
+use Rattle.mmu.proofs.Places.{read_by, holds_vram, holds_wram}
 use Rattle.mmu.specs.Access.{Ready, read_byte}
 use Rattle.mmu.specs.PanDocs.{vram_at, wram_at}
 use Rattle.packing.specs.Packing.{Below}
@@ -178,49 +178,61 @@ module _ (x : Fixed) (i v w s : List ℕ) (b : Below 256 i)
 
 -- what the arm `_` of a `match` tells
 
-others : (r : Region) → Among (2 ∷ 4 ∷ 5 ∷ []) r → Others r
-others Rom k = absurd (miss (2 ∷ 4 ∷ 5 ∷ []) 0 tt k)
-others Vram k = absurd (miss (2 ∷ 4 ∷ 5 ∷ []) 1 tt k)
-others Save k = tt
-others Wram k = absurd (miss (2 ∷ 4 ∷ 5 ∷ []) 3 tt k)
-others Oam k = tt
-others Page k = tt
+others : (r : Region) → (r ≡ Rom → ⊥) → (r ≡ Vram → ⊥) → (r ≡ Wram → ⊥) → Others r
+others Rom a b c = absurd (a refl)
+others Vram a b c = absurd (b refl)
+others Save a b c = tt
+others Wram a b c = absurd (c refl)
+others Oam a b c = tt
+others Page a b c = tt
 
-near : (r : Region) → Among (0 ∷ 1 ∷ 3 ∷ []) r → Near r
-near Rom k = tt
-near Vram k = tt
-near Save k = absurd (miss (0 ∷ 1 ∷ 3 ∷ []) 2 tt k)
-near Wram k = tt
-near Oam k = absurd (miss (0 ∷ 1 ∷ 3 ∷ []) 4 tt k)
-near Page k = absurd (miss (0 ∷ 1 ∷ 3 ∷ []) 5 tt k)
+near : (r : Region) → (r ≡ Save → ⊥) → (r ≡ Oam → ⊥) → (r ≡ Page → ⊥) → Near r
+near Rom a b c = tt
+near Vram a b c = tt
+near Save a b c = absurd (a refl)
+near Wram a b c = tt
+near Oam a b c = absurd (b refl)
+near Page a b c = absurd (c refl)
 
-pub near_left : {r q : Region} → r ≡ q → Among (0 ∷ 1 ∷ 3 ∷ []) r → Near q
-near_left {r} e k = subst Near e (near r k)
+pub near_left : {r q : Region} → r ≡ q → (r ≡ Save → ⊥) → (r ≡ Oam → ⊥) → (r ≡ Page → ⊥) → Near q
+near_left {r} e a b c = subst Near e (near r a b c)
 
 pub rom_near : (index : ℕ) → index < 0x8000 → Near (region_of index)
 rom_near index h = subst Near (sym (region_at Rom index h)) tt
 
-wram_in : (r : Region) → Near r → Among (2 ∷ 3 ∷ 4 ∷ 5 ∷ []) r → r ≡ Wram
-wram_in Rom h k = absurd (miss (2 ∷ 3 ∷ 4 ∷ 5 ∷ []) 0 tt k)
-wram_in Vram h k = absurd (miss (2 ∷ 3 ∷ 4 ∷ 5 ∷ []) 1 tt k)
-wram_in Save h k = absurd h
-wram_in Wram h k = refl
-wram_in Oam h k = absurd h
-wram_in Page h k = absurd h
+wram_in : (r : Region) → Near r → (r ≡ Rom → ⊥) → (r ≡ Vram → ⊥) → r ≡ Wram
+wram_in Rom h a b = absurd (a refl)
+wram_in Vram h a b = absurd (b refl)
+wram_in Save h a b = absurd h
+wram_in Wram h a b = refl
+wram_in Oam h a b = absurd h
+wram_in Page h a b = absurd h
 
-pub wram_left : {r q : Region} → r ≡ q → Near q → Among (2 ∷ 3 ∷ 4 ∷ 5 ∷ []) r → q ≡ Wram
-wram_left {r} e h k = sym e ∙ wram_in r (subst Near (sym e) h) k
+pub wram_left : {r q : Region} → r ≡ q → Near q → (r ≡ Rom → ⊥) → (r ≡ Vram → ⊥) → q ≡ Wram
+wram_left {r} e h a b = sym e ∙ wram_in r (subst Near (sym e) h) a b
 
-pub others_left : {r q : Region} → r ≡ q → Among (2 ∷ 4 ∷ 5 ∷ []) r → Others q
-others_left {r} e k = subst Others e (others r k)
+pub others_left : {r q : Region} → r ≡ q → (r ≡ Rom → ⊥) → (r ≡ Vram → ⊥) → (r ≡ Wram → ⊥) → Others q
+others_left {r} e a b c = subst Others e (others r a b c)
 
-save_in : (r : Region) → Others r → Among (0 ∷ 1 ∷ 2 ∷ 3 ∷ []) r → r ≡ Save
-save_in Rom h k = absurd h
-save_in Vram h k = absurd h
-save_in Save h k = refl
-save_in Wram h k = absurd h
-save_in Oam h k = absurd (miss (0 ∷ 1 ∷ 2 ∷ 3 ∷ []) 4 tt k)
-save_in Page h k = absurd (miss (0 ∷ 1 ∷ 2 ∷ 3 ∷ []) 5 tt k)
+save_in : (r : Region) → Others r → (r ≡ Oam → ⊥) → (r ≡ Page → ⊥) → r ≡ Save
+save_in Rom h a b = absurd h
+save_in Vram h a b = absurd h
+save_in Save h a b = refl
+save_in Wram h a b = absurd h
+save_in Oam h a b = absurd (a refl)
+save_in Page h a b = absurd (b refl)
 
-pub save_left : {r q : Region} → r ≡ q → Others q → Among (0 ∷ 1 ∷ 2 ∷ 3 ∷ []) r → q ≡ Save
-save_left {r} e h k = sym e ∙ save_in r (subst Others (sym e) h) k
+pub save_left : {r q : Region} → r ≡ q → Others q → (r ≡ Oam → ⊥) → (r ≡ Page → ⊥) → q ≡ Save
+save_left {r} e h a b = sym e ∙ save_in r (subst Others (sym e) h) a b
+
+-- what an arm of three regions tells
+
+pub others_of : {r q : Region} → r ≡ q → (r ≡ Save) ⊎ ((r ≡ Oam) ⊎ (r ≡ Page)) → Others q
+others_of e (inl a) = subst Others (sym a ∙ e) tt
+others_of e (inr (inl a)) = subst Others (sym a ∙ e) tt
+others_of e (inr (inr a)) = subst Others (sym a ∙ e) tt
+
+pub near_of : {r q : Region} → r ≡ q → (r ≡ Rom) ⊎ ((r ≡ Vram) ⊎ (r ≡ Wram)) → Near q
+near_of e (inl a) = subst Near (sym a ∙ e) tt
+near_of e (inr (inl a)) = subst Near (sym a ∙ e) tt
+near_of e (inr (inr a)) = subst Near (sym a ∙ e) tt
