@@ -4,10 +4,9 @@ use Rattle.mbc.proofs.Cases.Mbc5Exact.{one_field}
 use Rattle.memory.proofs.Laws.{fresh_in_range}
 use Rattle.corners.proofs.Rows.{corners}
 use Rattle.corners.proofs.Zero.{zero_closed, code_four}
-use Rattle.corners.proofs.corners_hold.Statement.{statement}
-use Rattle.corners.proofs.corners_hold.Tie as tie
+use Rattle.corners.proofs.corners_hold.Goals as goal
 
-returns : tie.Need-returns
+pub returns : goal.returns
 returns c = (
   corners,
   zero_closed,
@@ -22,6 +21,3 @@ returns c = (
   },
   one_field,
 )
-
-pub corners_hold_spec : {M : Type 1} → statement M
-corners_hold_spec = tie.close (tie.spec returns)
