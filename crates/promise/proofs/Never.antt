@@ -24,6 +24,7 @@ use Rattle.refusals.specs.declared.Waiting.{Waiting}
 use Rattle.refusals.specs.declared.Word.{Word}
 use Rattle.rules.proofs.Tests.{cond_both}
 use Rattle.savelog.specs.Log.{full}
+use Rattle.registers.specs.State.{requested_in, removed_in}
 use Rattle.state_calls.specs.State.{on_interrupt}
 use Rattle.promise.specs.Bus.{Outcome, Done, in_save}
 use Rattle.promise.specs.Bus.on as on
@@ -144,8 +145,8 @@ module _ (m : Memory) (z : refused_state m ≡ done) where
   alone_clear on.DisableScreen = changed_clear _ m _ state_clear
   alone_clear on.ResetWindowLine = changed_clear _ m _ state_clear
   alone_clear on.GetInterrupts = waiting_clear _ _ state_clear
-  alone_clear (on.RequestInterrupt n) = line_clear _ (named n)
-  alone_clear (on.RemoveInterrupt n) = line_clear _ (named n)
+  alone_clear (on.RequestInterrupt n) = line_clear requested_in (named n)
+  alone_clear (on.RemoveInterrupt n) = line_clear removed_in (named n)
   alone_clear on.IsHdmaEnabled = flag_clear _ _ state_clear
   alone_clear (on.UpdateTimer c) = changed_clear _ m _ (or_clear _ _ state_clear (cycles_clear c))
   alone_clear (on.Press b) = changed_clear _ m _ (or_clear _ _ state_clear (button_clear joypad.after_press m.core.joypad (joypad.named b)))

@@ -3,11 +3,7 @@ use Rattle.dispatch.proofs.Starts.{refused_fresh}
 use Rattle.dispatch.proofs.Unchanged.{refused_promise, read_promise}
 use Rattle.promise.proofs.Each.{transfer_promise, outside_promise}
 use Rattle.promise.proofs.One.{one_outcome}
-use Rattle.promise.proofs.each_call_holds.Statement.{statement}
-use Rattle.promise.proofs.each_call_holds.Tie as tie
+use Rattle.promise.proofs.each_call_holds.Goals as goal
 
-returns : tie.Need-returns
+pub returns : goal.returns
 returns c = (refused_promise, refused_fresh, read_promise, transfer_promise, outside_promise, one_outcome)
-
-pub each_call_holds_spec : {M : Type 1} → statement M
-each_call_holds_spec = tie.close (tie.spec returns)
