@@ -5,7 +5,7 @@ use Prim.Native.Nat.{ℕ}
 use Rattle.dispatch.specs.Kinds.{Kind, Reading, Clearing, Other, state_kind}
 use Rattle.dispatch.specs.declared.Call.TheVariants.{State}
 use Rattle.dispatch.specs.declared.StateCall.{StateCall}
-use Rattle.entry.specs.Contracts.{holding, Enters}
+use Rattle.entry.specs.EntryContracts.{holding, Enters}
 use Rattle.entry.specs.Entries.{on_state, entry}
 use Rattle.entry.specs.Entry.{Left, left}
 use Rattle.memory.specs.World.{Fixed}

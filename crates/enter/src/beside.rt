@@ -1,7 +1,7 @@
 // The entries that are no bus calls, each by its own entry of crate host, and held to what crate entry says of it: a contract that crate host
 // weakens fails here. A fresh bus, the log's use and recovery are what lists of entries begin and end with (crate boundary).
-ghost use Rattle.entry.specs.Contracts.{lending, Begins, MapperReads, MapperWrites, FillsColors, FillsOam, FillsBlock, Shows, Sets};
-ghost use Rattle.entry.specs.Contracts.{GivesUse, SetsUse, GivesCycles, Recovers, Converts, IsVersion};
+ghost use Rattle.entry.specs.EntryContracts.{lending, Begins, MapperReads, MapperWrites, FillsColors, FillsOam, FillsBlock, Shows, Sets};
+ghost use Rattle.entry.specs.EntryContracts.{GivesUse, SetsUse, GivesCycles, Recovers, Converts, IsVersion};
 ghost use Rattle.memory.specs.World.{fixed};
 ghost use Rattle.savelog.specs.declared.Form.TheVariants.{Three, Four};
 

@@ -5,7 +5,7 @@
 ghost use Rattle.std.specs.Prelude.{[], ◌≡◌};
 ghost use Rattle.dispatch.specs.declared.Call.TheVariants.{State};
 ghost use Rattle.dispatch.specs.declared.StateCall.TheVariants.{Host};
-ghost use Rattle.entry.specs.Contracts.{holding, Enters, Changes};
+ghost use Rattle.entry.specs.EntryContracts.{holding, Enters, Changes};
 ghost use Rattle.memory.specs.World.{fixed};
 ghost use Rattle.enter.specs.Entered.{entered};
 

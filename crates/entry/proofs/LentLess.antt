@@ -5,7 +5,7 @@ use Prim.Native.Nat.{ℕ}
 use Rattle.dispatch.specs.Kinds.{Kind, Reading, Clearing, Other, state_kind}
 use Rattle.dispatch.specs.declared.StateCall.{StateCall}
 use Rattle.memory.specs.World.{Fixed}
-use Rattle.entry.specs.Contracts.{holding, Changes}
+use Rattle.entry.specs.EntryContracts.{holding, Changes}
 use Rattle.entry.specs.Entries.{Held, asks, changes, on_state, entry}
 use Rattle.entry.specs.Entry.{left}
 use Rattle.entry.specs.LentLess.{AsEntry, LentLess}

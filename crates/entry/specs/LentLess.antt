@@ -1,10 +1,10 @@
--- A call that is lent less than all is still the entry that lists of entries fold: on whatever other memories the host holds (specs/Contracts.antt).
+-- A call that is lent less than all is still the entry that lists of entries fold: on whatever other memories the host holds (specs/EntryContracts.antt).
 use Rattle.std.specs.Prelude.{List, ◌≡◌, ℕ}
 use Rattle.dispatch.specs.Kinds.{Reading, state_kind}
 use Rattle.dispatch.specs.declared.Call.TheVariants.{ReadByte, ReadWord, ReadCgbLcdRam, State}
 use Rattle.dispatch.specs.declared.StateCall.{StateCall}
 use Rattle.memory.specs.World.{Fixed}
-use Rattle.entry.specs.Contracts.{holding, Enters, Changes, Asks, Reads, ReadsVram}
+use Rattle.entry.specs.EntryContracts.{holding, Enters, Changes, Asks, Reads, ReadsVram}
 
 pub record AsEntry (x : Fixed) (i v w s l : List ℕ) : Type 0 where
   pub changes : (c : StateCall) → (state_kind c ≡ Reading → ⊥) → (n : ℕ) (j : List ℕ) → Changes i c n j

@@ -1,7 +1,7 @@
 pub mod Entry
 pub mod Host
 pub mod Entries
-pub mod Contracts
+pub mod EntryContracts
 pub mod One
 pub mod Refused
 pub mod LentLess

@@ -1,5 +1,5 @@
 -- Document 01, "How much a contract must say": no second outcome fits. Two results, with what is lent as it is left, that both meet the contract of
--- an entry on the same inputs are the same: of each contract that crate host cites (specs/Contracts.antt).
+-- an entry on the same inputs are the same: of each contract that crate host cites (specs/EntryContracts.antt).
 use Rattle.std.specs.Prelude.{List, ◌≡◌, ℕ, ℤ}
 use Rattle.dispatch.specs.Lent.{Lent}
 use Rattle.dispatch.specs.declared.Call.{Call}
@@ -7,7 +7,7 @@ use Rattle.dispatch.specs.declared.StateCall.{StateCall}
 use Rattle.memory.specs.World.{Fixed}
 use Rattle.numbers.specs.One.{OnlyOne}
 use Rattle.savelog.specs.declared.Form.{Form}
-use Rattle.entry.specs.Contracts.{
+use Rattle.entry.specs.EntryContracts.{
   Enters,
   Changes,
   Asks,

@@ -1,5 +1,5 @@
 -- Demand 1 at the C boundary: "A refused read gives 0; a refused call alters no state and no lent byte". For any bytes in image and memories, of
--- each contract that crate host cites (specs/Contracts.antt): where the number is a refusal, what is lent is as it was and the value is 0. (The
+-- each contract that crate host cites (specs/EntryContracts.antt): where the number is a refusal, what is lent is as it was and the value is 0. (The
 -- version is never refused.)
 use Rattle.std.specs.Prelude.{true, List, ◌≡◌, ℕ, ℤ, pos}
 use Rattle.dispatch.specs.Kinds.{refused}
@@ -8,7 +8,7 @@ use Rattle.dispatch.specs.declared.Call.{Call}
 use Rattle.dispatch.specs.declared.StateCall.{StateCall}
 use Rattle.memory.specs.World.{Fixed}
 use Rattle.savelog.specs.declared.Form.{Form}
-use Rattle.entry.specs.Contracts.{
+use Rattle.entry.specs.EntryContracts.{
   Enters,
   Changes,
   Asks,

@@ -25,7 +25,7 @@ pub struct Given {
     pub value: u16,
 }
 
-// What holds of the contracts of these entries (specs/Contracts.antt), as a contract: its proof hands the theorems over, so that to weaken or drop
+// What holds of the contracts of these entries (specs/EntryContracts.antt), as a contract: its proof hands the theorems over, so that to weaken or drop
 // one of them, or what it speaks of, fails the crate.
 pub fn entries_hold()
     ensures { OneEntry × RefusedEntry × LentLess }

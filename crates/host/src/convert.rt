@@ -1,6 +1,6 @@
 // Entries for the converters of logs; they need no image.
 ghost use Rattle.savelog.specs.declared.Form.TheVariants.{Three, Four};
-ghost use Rattle.entry.specs.Contracts.{Converts};
+ghost use Rattle.entry.specs.EntryContracts.{Converts};
 
 // A log of old records, of three bytes, to one of the present form; `value` is how many bytes of `log` it takes.
 #[unsafe(no_mangle)]

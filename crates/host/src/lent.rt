@@ -1,7 +1,7 @@
 // Entries to which memories are lent.
 ghost use Rattle.dispatch.specs.declared.Call.TheVariants.{ReadByte, ReadWord, WriteByte, WriteWord, DoDmaTransfer, DoHdma};
 ghost use Rattle.memory.specs.World.{fixed};
-ghost use Rattle.entry.specs.Contracts.{holding, Enters, Reads, ReadsVram, FillsBlock, lending, Begins, Recovers, GivesUse, SetsUse};
+ghost use Rattle.entry.specs.EntryContracts.{holding, Enters, Reads, ReadsVram, FillsBlock, lending, Begins, Recovers, GivesUse, SetsUse};
 
 #[unsafe(no_mangle)]
 pub extern "C" fn pouch_read_byte(

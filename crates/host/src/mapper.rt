@@ -3,7 +3,7 @@ ghost use Rattle.std.specs.Prelude.{true, ◌≡◌};
 ghost use Rattle.image.specs.Load.{cartridge_of, registers_in};
 ghost use Rattle.image.specs.Patches.{fields, Mapped};
 ghost use Rattle.mbc.specs.Mbc as mbc;
-ghost use Rattle.entry.specs.Contracts.{MapperReads, MapperWrites};
+ghost use Rattle.entry.specs.EntryContracts.{MapperReads, MapperWrites};
 ghost use Rattle.entry.specs.Entry.{answer_number};
 
 use mbc::{Answer, Mapper};

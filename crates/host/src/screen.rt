@@ -1,6 +1,6 @@
 // What a host that draws takes from an image and sets in it: the screen's numbers, the colours, OAM.
 ghost use Rattle.std.specs.Prelude.{◌≡◌};
-ghost use Rattle.entry.specs.Contracts.{FillsColors, FillsOam, Shows, Sets};
+ghost use Rattle.entry.specs.EntryContracts.{FillsColors, FillsOam, Shows, Sets};
 ghost use Rattle.entry.specs.declared.HostNumber.TheVariants.{Disabled, Line, Signal, Mode, Delay, Counter, Aux, Window};
 ghost use Rattle.image.specs.Layout as layout;
 

@@ -1,7 +1,7 @@
 // Entries on the state alone.
 ghost use Rattle.dispatch.specs.declared.StateCall.TheVariants as on;
 ghost use Rattle.lcd.specs.Lcd.{numbers_of};
-ghost use Rattle.entry.specs.Contracts.{Changes, Asks, GivesCycles};
+ghost use Rattle.entry.specs.EntryContracts.{Changes, Asks, GivesCycles};
 
 use lcd::Lcd;
 use quick_state::{clock, fields, input, interrupts, page};

@@ -1,5 +1,5 @@
 // What this library is, as one number, for a host that was compiled against another.
-ghost use Rattle.entry.specs.Contracts.{IsVersion};
+ghost use Rattle.entry.specs.EntryContracts.{IsVersion};
 
 const MAJOR: u64 = 3;
 

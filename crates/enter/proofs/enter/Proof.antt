@@ -1,6 +1,6 @@
 -- Each call by its own arm: the entry itself, or what it gives with all else as it was.
 use mathlib.Core.Path.{ap}
-use Rattle.entry.specs.Contracts.{holding}
+use Rattle.entry.specs.EntryContracts.{holding}
 use Rattle.entry.specs.Entries.{asks, entry}
 use Rattle.enter.proofs.Elsewhere.{elsewhere}
 use borrow.Author.Rules.{rules}

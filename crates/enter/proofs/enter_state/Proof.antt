@@ -2,7 +2,7 @@
 use mathlib.Core.List.{[]}
 use mathlib.Core.Path.{ap}
 use Rattle.dispatch.specs.Kinds.{state_kind}
-use Rattle.entry.specs.Contracts.{holding}
+use Rattle.entry.specs.EntryContracts.{holding}
 use Rattle.entry.specs.Entries.{asks, changes, entry}
 use borrow.Author.Rules.{rules}
 use Rattle.enter.proofs.enter_state.Statement.{statement}
