@@ -2,11 +2,7 @@
 use Rattle.entry.proofs.LentLess.{lent_less}
 use Rattle.entry.proofs.One.{one_entry}
 use Rattle.entry.proofs.Refused.{refused_entry}
-use Rattle.entry.proofs.entries_hold.Statement.{statement}
-use Rattle.entry.proofs.entries_hold.Tie as tie
+use Rattle.entry.proofs.entries_hold.Goals as goal
 
-returns : tie.Need-returns
+pub returns : goal.returns
 returns c = (one_entry, refused_entry, lent_less)
-
-pub entries_hold_spec : {M : Type 1} → statement M
-entries_hold_spec = tie.close (tie.spec returns)
