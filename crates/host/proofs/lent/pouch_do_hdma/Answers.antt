@@ -1,0 +1,8 @@
+-- With every memory lent, it is the entry itself.
+use Rattle.entry.specs.Entries.{entry}
+use borrow.Author.Rules.{rules}
+use Rattle.host.proofs.lent.pouch_do_hdma.Goals as goal
+
+pub returns : goal.returns
+unfolding entry
+returns c = search rules
