@@ -1,7 +1,6 @@
 -- A loop that stores byte after byte by a rule.
-use Rattle.std.proofs.Common.{◌≡◌, ℕ, ◌+◌, ◌<◌, ◌≤◌, List, length, get_or, set, replicate, ◌∙◌, arith, length-set, get_or-set_other, get_or-set_same}
+use Rattle.std.proofs.Common.{◌≡◌, ℕ, ◌+◌, ◌<◌, ◌≤◌, List, length, get_or, set, ◌∙◌, arith, length-set, get_or-set_other, get_or-set_same}
 use native.Mathlib.Decide.{dec_lt}
-use lib.ListN.{length-replicate}
 use Rattle.lines.specs.Contents.{Filled}
 
 -- the loop's invariant: n bytes are stored, and the length is as it was
@@ -27,7 +26,3 @@ filling_next rule size bytes n v inside e p =
 pub filling_done : (rule : ℕ → ℕ) (size : ℕ) (bytes : List ℕ) (n : ℕ) → length bytes ≤ n
     → Filling rule size bytes n → Filled rule bytes (length bytes)
 filling_done rule size bytes n h p a l = p.2 a (omega arith)
-
--- a program's ROM before it is filled: by a law, with its level written, as antt counts them one by one where it has to find that
-pub rom_zeros : length {A = ℕ} (replicate 4194304 0) ≡ 4194304
-rom_zeros = length-replicate {0} {A = ℕ} 4194304 0

@@ -2,7 +2,7 @@
 ghost use Rattle.std.specs.Prelude.{◌≡◌, length};
 ghost use Rattle.lines.specs.Contents.{rom_byte, save_byte, Filled};
 
-// The ROM that a program has, of 256 banks: it stands on the stack, and 512 would take all that a system usually gives.
+// The ROM that a program has, of 256 banks.
 pub const ROM_LEN: usize = 0x400000;
 
 // The largest save.
