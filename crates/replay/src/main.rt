@@ -1,6 +1,7 @@
 // replay: reads lines of the Rust's answers from standard input (oracle/README.md, "The parts"), gives the input of each to our public calls, and
-// counts for each letter the answers and those that differ. A program has no exit status: what it prints is the verdict.
+// counts for each letter the answers and those that differ. What it prints is the verdict.
 #![tactic(auto)]
+
 ghost use Rattle.std.specs.Prelude.{length};
 ghost use Rattle.lines.specs.Reader.{Inside};
 
@@ -10,6 +11,8 @@ use lines::line::parse;
 use lines::reader::{Found, Reader};
 use lines::tally::Tally;
 use lines::{pattern, reader};
+use std::io;
+use std::io::{Read, Write};
 
 mod answer;
 mod letter;
@@ -42,13 +45,20 @@ fn count(tally: Tally, s: &[u8], rom: &[u8], save: &[u8]) -> Tally {
 }
 
 // One step of the reader.
-fn step(state: State, buf: &mut [u8], rom: &[u8], save: &[u8]) -> State
+fn step<R: Read, W: Write>(
+    input: &mut R,
+    output: &mut W,
+    state: State,
+    buf: &mut [u8],
+    rom: &[u8],
+    save: &[u8],
+) -> State
     requires { Inside (length buf.old) state.reader }
     ensures { Inside (length buf.new) result.reader }
 {
     let tally = state.tally;
     let reader = state.reader;
-    let read = reader::next(buf, reader);
+    let read = reader::next(input, output, buf, reader);
     let from = read.from;
     let to = read.to;
     let next = read.next;
@@ -77,32 +87,33 @@ fn step(state: State, buf: &mut [u8], rom: &[u8], save: &[u8]) -> State
     }
 }
 
-// Counts all of the input. A proved loop has to end: it counts its turns down from a number that no run uses up.
-fn replay(rom: &[u8], save: &[u8]) -> Tally {
-    let mut buf = io::large_buffer();
+// Counts all of the input. A proved loop has to end: its turns are more than any run uses up.
+fn replay<R: Read, W: Write>(input: &mut R, output: &mut W, rom: &[u8], save: &[u8]) -> Tally {
+    let mut buf = [0u8; 65536];
     let mut state = State {
         tally: Tally::new(),
         reader: reader::new(),
         more: true,
     };
-    let mut turns = u64::MAX;
-    while turns > 0 && state.more {
-        state = step(state, &mut buf, rom, save);
-        turns -= 1;
+    for _ in 0..u64::MAX {
+        if !state.more {
+            break;
+        }
+        state = step(input, output, state, &mut buf, rom, save);
     }
     state.tally
 }
 
 // With the largest save.
-fn run(rom: &[u8]) {
+fn run<R: Read, W: Write>(input: &mut R, output: &mut W, rom: &[u8]) -> io::Result<()> {
     let mut save = [0u8; pattern::SAVE_LEN];
     pattern::fill_save(&mut save);
-    let tally = replay(rom, &save);
-    tally.report(&letter::NAMES);
+    let tally = replay(input, output, rom, &save);
+    tally.report(output, &letter::NAMES)
 }
 
-fn main() {
-    let mut rom = [0u8; pattern::ROM_LEN];
+fn main(rt: HostRuntime) -> io::Result<()> {
+    let mut rom = vec![in rt.alloc(); 0u8; pattern::ROM_LEN]?;
     pattern::fill_rom(&mut rom);
-    run(&rom);
+    run(&mut rt.stdin(), &mut rt.stdout(), &rom)
 }
