@@ -4,10 +4,10 @@ use mathlib.Core.List.{List, ◌++◌}
 use Prim.Native.Nat.{ℕ, ◌≤◌}
 use lib.ListN.{length, take, drop}
 use lib.Seq.{take_at, drop_at, length-take-le}
-use Rattle.bus.specs.Calls.{Outcome, outcome}
+use Rattle.bus.specs.Calls.{outcome}
 use Rattle.dispatch.specs.Step.{step}
 use Rattle.dispatch.specs.declared.Call.{Call}
-use Rattle.memory.specs.World.{World, world, fixed}
+use Rattle.memory.specs.World.{world, fixed}
 use Rattle.memory.specs.declared.Memory.{Memory}
 use Rattle.bus_host.specs.Host.{lent_parts}
 use Rattle.bus_host.specs.declared.host.Lengths.{Lengths}

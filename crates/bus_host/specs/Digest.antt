@@ -3,9 +3,8 @@ use Rattle.std.specs.Prelude.{List, [], ◌∷◌, ◌++◌, ℕ, ◌+◌, ◌*�
 use Rattle.std.specs.Int.{w32}
 use Rattle.std.proofs.Common.{of_z}
 use Rattle.memory.specs.World.{World}
-use Rattle.memory.specs.declared.Memory.{Memory}
 use Rattle.palette.specs.declared.Color.{Color}
-use Rattle.bus_host.specs.Host.{smaller, lengths_in, lent_parts}
+use Rattle.bus_host.specs.Host.{smaller}
 
 -- "for each byte h = (h * 257 + byte + 1) modulo 4,294,967,291"
 abbrev pub mixed : ℕ → ℕ → ℕ

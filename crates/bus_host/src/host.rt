@@ -105,7 +105,7 @@ pub fn hear(given: [u8; 54], from: usize, sound: &mut [u8])
 {
     let n = least(48, sound.len());
     let to = from + n;
-    bytes::copy(&given[from..to], sound);
+    sound[..n].copy_from_slice(&given[from..to]);
 }
 
 // What N says of a bus: mapper, log2 N, RAM code, colour. The log's length stands between these and the sound window.
