@@ -1,7 +1,8 @@
 // replay_bus: reads lists of calls on a whole bus with the Rust's answers from standard input (oracle/README.md, "The whole bus"), makes each call
-// through our public calls, each on what the last one left, and counts for each letter the answers and those that differ. A program has no exit
-// status: what it prints is the verdict.
+// through our public calls, each on what the last one left, and counts for each letter the answers and those that differ. What it
+// prints is the verdict.
 #![tactic(auto)]
+
 ghost use Rattle.std.specs.Prelude.{◌≡◌, ◌≤◌, length};
 ghost use Rattle.lines.specs.Reader.{Inside};
 
@@ -14,6 +15,8 @@ use lines::reader::{Found, Reader};
 use lines::tally::Tally;
 use lines::{pattern, reader};
 use memory::Memory;
+use std::io;
+use std::io::{Read, Write};
 
 mod answer;
 mod call;
@@ -47,11 +50,11 @@ fn line_at(s: &[u8], found: Found) -> Line
     }
 }
 
-fn take(buf: &mut [u8], reader: Reader) -> Taken
+fn take<R: Read, W: Write>(input: &mut R, output: &mut W, buf: &mut [u8], reader: Reader) -> Taken
     requires { Inside (length buf.old) reader }
     ensures { Inside (length buf.new) result.next × (result.line.gives ≤ 12) }
 {
-    let read = reader::next(buf, reader);
+    let read = reader::next(input, output, buf, reader);
     let from = read.from;
     let to = read.to;
     let found = read.found;
@@ -161,8 +164,10 @@ fn start() -> State
     }
 }
 
-// Counts all of the input. A proved loop has to end: it counts its turns down from a number that no run uses up.
-fn replay(
+// Counts all of the input. A proved loop has to end: its turns are more than any run uses up.
+fn replay<R: Read, W: Write>(
+    input: &mut R,
+    output: &mut W,
     rom: &[u8],
     vram: &mut [u8],
     wram: &mut [u8],
@@ -170,31 +175,33 @@ fn replay(
     log: &mut [u8],
     sound: &mut [u8],
 ) -> Tally {
-    let mut buf = io::large_buffer();
+    let mut buf = [0u8; 65536];
     let mut state = start();
-    let mut turns = u64::MAX;
-    while turns > 0 && state.more {
-        let reader = state.reader;
-        let taken = take(&mut buf, reader);
+    for _ in 0..u64::MAX {
+        if !state.more {
+            break;
+        }
+        let taken = take(input, output, &mut buf, state.reader);
         state = step(state, taken, rom, vram, wram, save, log, sound);
-        turns -= 1;
     }
     state.tally
 }
 
 // With the other memories: as many bytes as the largest bus of a list has, and the longest log.
-fn run(rom: &[u8]) {
+fn run<R: Read, W: Write>(input: &mut R, output: &mut W, rom: &[u8]) -> io::Result<()> {
     let mut vram = [0u8; 16384];
     let mut wram = [0u8; 32768];
     let mut save = [0u8; savelog::SAVE_LIMIT];
     let mut log = [0u8; savelog::LOG_LIMIT];
     let mut sound = [0u8; 48];
-    let tally = replay(rom, &mut vram, &mut wram, &mut save, &mut log, &mut sound);
-    tally.report(&letter::NAMES);
+    let tally = replay(
+        input, output, rom, &mut vram, &mut wram, &mut save, &mut log, &mut sound,
+    );
+    tally.report(output, &letter::NAMES)
 }
 
-fn main() {
-    let mut rom = [0u8; pattern::ROM_LEN];
+fn main(rt: HostRuntime) -> io::Result<()> {
+    let mut rom = vec![in rt.alloc(); 0u8; pattern::ROM_LEN]?;
     pattern::fill_rom(&mut rom);
-    run(&rom);
+    run(&mut rt.stdin(), &mut rt.stdout(), &rom)
 }
