@@ -3,8 +3,7 @@ ghost use Rattle.savelog.specs.declared.Form.TheVariants.{Three, Four};
 ghost use Rattle.entry.specs.EntryContracts.{Converts};
 
 // A log of old records, of three bytes, to one of the present form; `value` is how many bytes of `log` it takes.
-#[unsafe(no_mangle)]
-pub extern "C" fn pouch_log_to_new(old: &[u8], log: &mut [u8], value: &mut u16) -> u8
+pub fn pouch_log_to_new(old: &[u8], log: &mut [u8], value: &mut u16) -> u8
     ensures { Converts Three Four old.now log.old result value.new log.new }
 {
     let done = savelog::to_new(old, log);
@@ -13,8 +12,7 @@ pub extern "C" fn pouch_log_to_new(old: &[u8], log: &mut [u8], value: &mut u16) 
 }
 
 // And back.
-#[unsafe(no_mangle)]
-pub extern "C" fn pouch_log_to_old(log: &[u8], old: &mut [u8], value: &mut u16) -> u8
+pub fn pouch_log_to_old(log: &[u8], old: &mut [u8], value: &mut u16) -> u8
     ensures { Converts Four Three log.now old.old result value.new old.new }
 {
     let done = savelog::to_old(log, old);

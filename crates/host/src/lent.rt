@@ -3,8 +3,7 @@ ghost use Rattle.dispatch.specs.declared.Call.TheVariants.{ReadByte, ReadWord, W
 ghost use Rattle.memory.specs.World.{fixed};
 ghost use Rattle.entry.specs.EntryContracts.{holding, Enters, Reads, ReadsVram, FillsBlock, lending, Begins, Recovers, GivesUse, SetsUse};
 
-#[unsafe(no_mangle)]
-pub extern "C" fn pouch_read_byte(
+pub fn pouch_read_byte(
     image: &[u8],
     rom: &[u8],
     vram: &[u8],
@@ -23,8 +22,7 @@ pub extern "C" fn pouch_read_byte(
 }
 
 // Low byte first.
-#[unsafe(no_mangle)]
-pub extern "C" fn pouch_read_word(
+pub fn pouch_read_word(
     image: &[u8],
     rom: &[u8],
     vram: &[u8],
@@ -43,8 +41,7 @@ pub extern "C" fn pouch_read_word(
 }
 
 // From `index` on, as many bytes as `out` has.
-#[unsafe(no_mangle)]
-pub extern "C" fn pouch_read_block(
+pub fn pouch_read_block(
     image: &[u8],
     rom: &[u8],
     vram: &[u8],
@@ -61,14 +58,7 @@ pub extern "C" fn pouch_read_block(
 }
 
 // Video memory by its bank.
-#[unsafe(no_mangle)]
-pub extern "C" fn pouch_read_cgb_lcd_ram(
-    image: &[u8],
-    vram: &[u8],
-    index: u16,
-    bank: u8,
-    value: &mut u8,
-) -> u8
+pub fn pouch_read_cgb_lcd_ram(image: &[u8], vram: &[u8], index: u16, bank: u8, value: &mut u8) -> u8
     ensures { ReadsVram image.now vram.now index bank result value.new }
 {
     let read = quick_reads::read_cgb_lcd_ram(image, vram, index, bank);
@@ -76,8 +66,7 @@ pub extern "C" fn pouch_read_cgb_lcd_ram(
     read.number
 }
 
-#[unsafe(no_mangle)]
-pub extern "C" fn pouch_write_byte(
+pub fn pouch_write_byte(
     image: &mut [u8],
     rom: &[u8],
     vram: &mut [u8],
@@ -97,8 +86,7 @@ pub extern "C" fn pouch_write_byte(
 }
 
 // Low byte first.
-#[unsafe(no_mangle)]
-pub extern "C" fn pouch_write_word(
+pub fn pouch_write_word(
     image: &mut [u8],
     rom: &[u8],
     vram: &mut [u8],
@@ -117,8 +105,7 @@ pub extern "C" fn pouch_write_word(
     quick_writes::write_word(image, rom, vram, wram, save, log, sound, index, word)
 }
 
-#[unsafe(no_mangle)]
-pub extern "C" fn pouch_do_dma_transfer(
+pub fn pouch_do_dma_transfer(
     image: &mut [u8],
     rom: &[u8],
     vram: &mut [u8],
@@ -137,8 +124,7 @@ pub extern "C" fn pouch_do_dma_transfer(
 }
 
 // One block of 16 bytes; the value is 36 when it is done.
-#[unsafe(no_mangle)]
-pub extern "C" fn pouch_do_hdma(
+pub fn pouch_do_hdma(
     image: &mut [u8],
     rom: &[u8],
     vram: &mut [u8],
@@ -159,8 +145,7 @@ pub extern "C" fn pouch_do_hdma(
 }
 
 // `kind` 0 RomOnly, 1 Mbc1, 2 Mbc2, 3 Mbc5; `banks` is N; `code` the RAM code.
-#[unsafe(no_mangle)]
-pub extern "C" fn pouch_fresh(
+pub fn pouch_fresh(
     image: &mut [u8],
     kind: u8,
     banks: u16,
@@ -190,16 +175,14 @@ pub extern "C" fn pouch_fresh(
 }
 
 // The log's records over a save; neither needs an image.
-#[unsafe(no_mangle)]
-pub extern "C" fn pouch_recover(save: &mut [u8], log: &[u8]) -> u8
+pub fn pouch_recover(save: &mut [u8], log: &[u8]) -> u8
     ensures { Recovers save.old log.now result save.new }
 {
     savelog::recover(save, log)
 }
 
 // Bytes of the log that are used.
-#[unsafe(no_mangle)]
-pub extern "C" fn pouch_log_used(image: &[u8], value: &mut u16) -> u8
+pub fn pouch_log_used(image: &[u8], value: &mut u16) -> u8
     ensures { GivesUse image.now result value.new }
 {
     let asked = quick_state::fields::log_used(image);
@@ -208,8 +191,7 @@ pub extern "C" fn pouch_log_used(image: &[u8], value: &mut u16) -> u8
 }
 
 // The log's use set, for a host that goes on from an older image with the log it has.
-#[unsafe(no_mangle)]
-pub extern "C" fn pouch_set_log_used(image: &mut [u8], used: u16) -> u8
+pub fn pouch_set_log_used(image: &mut [u8], used: u16) -> u8
     ensures { SetsUse image.old used result image.new }
 {
     quick_state::fields::set_log_used(image, used)

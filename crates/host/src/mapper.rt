@@ -9,14 +9,7 @@ ghost use Rattle.entry.specs.Entry.{answer_number};
 use mbc::{Answer, Mapper};
 
 // The byte at 0000..7FFF or A000..BFFF.
-#[unsafe(no_mangle)]
-pub extern "C" fn pouch_mapper_read(
-    image: &[u8],
-    rom: &[u8],
-    save: &[u8],
-    index: u16,
-    value: &mut u8,
-) -> u8
+pub fn pouch_mapper_read(image: &[u8], rom: &[u8], save: &[u8], index: u16, value: &mut u8) -> u8
     ensures { MapperReads image.now rom.now save.now index result value.new }
 {
     let number = image::number(image);
@@ -56,8 +49,7 @@ fn record_of(image: &[u8], index: u16, byte: u8) -> u32
 }
 
 // What the mapper answers, and its registers in the image.
-#[unsafe(no_mangle)]
-pub extern "C" fn pouch_mapper_write(image: &mut [u8], index: u16, byte: u8, value: &mut u32) -> u8
+pub fn pouch_mapper_write(image: &mut [u8], index: u16, byte: u8, value: &mut u32) -> u8
     ensures { MapperWrites image.old index byte result value.new image.new }
 {
     let number = image::number(image);

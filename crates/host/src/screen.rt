@@ -13,8 +13,7 @@ fn bit(flag: bool) -> u8
 }
 
 // The eight numbers that `pouch_host` sets.
-#[unsafe(no_mangle)]
-pub extern "C" fn pouch_host_numbers(
+pub fn pouch_host_numbers(
     image: &[u8],
     disabled: &mut u8,
     line: &mut u8,
@@ -49,8 +48,7 @@ pub extern "C" fn pouch_host_numbers(
 const COLORS_LEN: usize = 192;
 
 // All colours: the background's 32, then the sprites'.
-#[unsafe(no_mangle)]
-pub extern "C" fn pouch_colors(image: &[u8], colors: &mut [u8]) -> u8
+pub fn pouch_colors(image: &[u8], colors: &mut [u8]) -> u8
     ensures { FillsColors image.now colors.old result colors.new }
 {
     let loaded = image::decode(image);
@@ -71,8 +69,7 @@ pub extern "C" fn pouch_colors(image: &[u8], colors: &mut [u8]) -> u8
 }
 
 // OAM's 40 sprites.
-#[unsafe(no_mangle)]
-pub extern "C" fn pouch_oam(image: &[u8], oam: &mut [u8]) -> u8
+pub fn pouch_oam(image: &[u8], oam: &mut [u8]) -> u8
     ensures { FillsOam image.now oam.old result oam.new }
 {
     quick_screen::oam(image, oam)
@@ -80,57 +77,49 @@ pub extern "C" fn pouch_oam(image: &[u8], oam: &mut [u8]) -> u8
 
 // One of the eight numbers, the others as they stand.
 
-#[unsafe(no_mangle)]
-pub extern "C" fn pouch_set_screen_disabled(image: &mut [u8], disabled: bool) -> u8
+pub fn pouch_set_screen_disabled(image: &mut [u8], disabled: bool) -> u8
     ensures { Sets image.old (Disabled disabled) result image.new }
 {
     quick_screen::set(image, HostNumber::Disabled(disabled))
 }
 
-#[unsafe(no_mangle)]
-pub extern "C" fn pouch_set_scan_line(image: &mut [u8], line: u8) -> u8
+pub fn pouch_set_scan_line(image: &mut [u8], line: u8) -> u8
     ensures { Sets image.old (Line line) result image.new }
 {
     quick_screen::set(image, HostNumber::Line(line))
 }
 
-#[unsafe(no_mangle)]
-pub extern "C" fn pouch_set_irq48_signal(image: &mut [u8], signal: u8) -> u8
+pub fn pouch_set_irq48_signal(image: &mut [u8], signal: u8) -> u8
     ensures { Sets image.old (Signal signal) result image.new }
 {
     quick_screen::set(image, HostNumber::Signal(signal))
 }
 
-#[unsafe(no_mangle)]
-pub extern "C" fn pouch_set_lcd_status_mode(image: &mut [u8], mode: u8) -> u8
+pub fn pouch_set_lcd_status_mode(image: &mut [u8], mode: u8) -> u8
     ensures { Sets image.old (Mode mode) result image.new }
 {
     quick_screen::set(image, HostNumber::Mode(mode))
 }
 
-#[unsafe(no_mangle)]
-pub extern "C" fn pouch_set_screen_enable_delay_cycles(image: &mut [u8], delay: i32) -> u8
+pub fn pouch_set_screen_enable_delay_cycles(image: &mut [u8], delay: i32) -> u8
     ensures { Sets image.old (Delay delay) result image.new }
 {
     quick_screen::set(image, HostNumber::Delay(delay))
 }
 
-#[unsafe(no_mangle)]
-pub extern "C" fn pouch_set_cycles_counter(image: &mut [u8], counter: i32) -> u8
+pub fn pouch_set_cycles_counter(image: &mut [u8], counter: i32) -> u8
     ensures { Sets image.old (Counter counter) result image.new }
 {
     quick_screen::set(image, HostNumber::Counter(counter))
 }
 
-#[unsafe(no_mangle)]
-pub extern "C" fn pouch_set_aux_cycles_counter(image: &mut [u8], aux: i32) -> u8
+pub fn pouch_set_aux_cycles_counter(image: &mut [u8], aux: i32) -> u8
     ensures { Sets image.old (Aux aux) result image.new }
 {
     quick_screen::set(image, HostNumber::Aux(aux))
 }
 
-#[unsafe(no_mangle)]
-pub extern "C" fn pouch_set_window_line(image: &mut [u8], window: i32) -> u8
+pub fn pouch_set_window_line(image: &mut [u8], window: i32) -> u8
     ensures { Sets image.old (Window window) result image.new }
 {
     quick_screen::set(image, HostNumber::Window(window))

@@ -7,8 +7,7 @@ use lcd::Lcd;
 use quick_state::{clock, fields, input, interrupts, page};
 
 // Raw: the page, FF00..FFFF.
-#[unsafe(no_mangle)]
-pub extern "C" fn pouch_load(image: &[u8], index: u16, value: &mut u16) -> u8
+pub fn pouch_load(image: &[u8], index: u16, value: &mut u16) -> u8
     ensures { Asks image.now (on.Load index) result value.new }
 {
     let asked = page::load(image, index);
@@ -16,22 +15,19 @@ pub extern "C" fn pouch_load(image: &[u8], index: u16, value: &mut u16) -> u8
     asked.number
 }
 
-#[unsafe(no_mangle)]
-pub extern "C" fn pouch_store(image: &mut [u8], index: u16, byte: u8) -> u8
+pub fn pouch_store(image: &mut [u8], index: u16, byte: u8) -> u8
     ensures { Changes image.old (on.Store index byte) result image.new }
 {
     page::store(image, index, byte)
 }
 
-#[unsafe(no_mangle)]
-pub extern "C" fn pouch_set_joypad_state(image: &mut [u8], state: u8) -> u8
+pub fn pouch_set_joypad_state(image: &mut [u8], state: u8) -> u8
     ensures { Changes image.old (on.SetJoypadState state) result image.new }
 {
     input::set_joypad_state(image, state)
 }
 
-#[unsafe(no_mangle)]
-pub extern "C" fn pouch_are_action_keys_enabled(image: &[u8], value: &mut u16) -> u8
+pub fn pouch_are_action_keys_enabled(image: &[u8], value: &mut u16) -> u8
     ensures { Asks image.now on.AreActionKeysEnabled result value.new }
 {
     let asked = input::are_action_keys_enabled(image);
@@ -39,8 +35,7 @@ pub extern "C" fn pouch_are_action_keys_enabled(image: &[u8], value: &mut u16) -
     asked.number
 }
 
-#[unsafe(no_mangle)]
-pub extern "C" fn pouch_are_direction_keys_enabled(image: &[u8], value: &mut u16) -> u8
+pub fn pouch_are_direction_keys_enabled(image: &[u8], value: &mut u16) -> u8
     ensures { Asks image.now on.AreDirectionKeysEnabled result value.new }
 {
     let asked = input::are_direction_keys_enabled(image);
@@ -48,65 +43,56 @@ pub extern "C" fn pouch_are_direction_keys_enabled(image: &[u8], value: &mut u16
     asked.number
 }
 
-#[unsafe(no_mangle)]
-pub extern "C" fn pouch_do_lcd_control_write(image: &mut [u8], byte: u8) -> u8
+pub fn pouch_do_lcd_control_write(image: &mut [u8], byte: u8) -> u8
     ensures { Changes image.old (on.DoLcdControlWrite byte) result image.new }
 {
     quick_screen::do_lcd_control_write(image, byte)
 }
 
-#[unsafe(no_mangle)]
-pub extern "C" fn pouch_do_lcd_status_write(image: &mut [u8], byte: u8) -> u8
+pub fn pouch_do_lcd_status_write(image: &mut [u8], byte: u8) -> u8
     ensures { Changes image.old (on.DoLcdStatusWrite byte) result image.new }
 {
     quick_screen::do_lcd_status_write(image, byte)
 }
 
-#[unsafe(no_mangle)]
-pub extern "C" fn pouch_do_scanline_write(image: &mut [u8], byte: u8) -> u8
+pub fn pouch_do_scanline_write(image: &mut [u8], byte: u8) -> u8
     ensures { Changes image.old (on.DoScanlineWrite byte) result image.new }
 {
     quick_screen::do_scanline_write(image, byte)
 }
 
-#[unsafe(no_mangle)]
-pub extern "C" fn pouch_do_lyc_write(image: &mut [u8], byte: u8) -> u8
+pub fn pouch_do_lyc_write(image: &mut [u8], byte: u8) -> u8
     ensures { Changes image.old (on.DoLycWrite byte) result image.new }
 {
     quick_screen::do_lyc_write(image, byte)
 }
 
-#[unsafe(no_mangle)]
-pub extern "C" fn pouch_compare_ly_to_lyc(image: &mut [u8]) -> u8
+pub fn pouch_compare_ly_to_lyc(image: &mut [u8]) -> u8
     ensures { Changes image.old on.CompareLyToLyc result image.new }
 {
     quick_screen::compare_ly_to_lyc(image)
 }
 
-#[unsafe(no_mangle)]
-pub extern "C" fn pouch_enable_screen(image: &mut [u8]) -> u8
+pub fn pouch_enable_screen(image: &mut [u8]) -> u8
     ensures { Changes image.old on.EnableScreen result image.new }
 {
     quick_screen::enable_screen(image)
 }
 
-#[unsafe(no_mangle)]
-pub extern "C" fn pouch_disable_screen(image: &mut [u8]) -> u8
+pub fn pouch_disable_screen(image: &mut [u8]) -> u8
     ensures { Changes image.old on.DisableScreen result image.new }
 {
     quick_screen::disable_screen(image)
 }
 
-#[unsafe(no_mangle)]
-pub extern "C" fn pouch_reset_window_line(image: &mut [u8]) -> u8
+pub fn pouch_reset_window_line(image: &mut [u8]) -> u8
     ensures { Changes image.old on.ResetWindowLine result image.new }
 {
     quick_screen::reset_window_line(image)
 }
 
 // The interrupt that is served first, by its bit; 5 for none.
-#[unsafe(no_mangle)]
-pub extern "C" fn pouch_get_interrupts(image: &[u8], value: &mut u16) -> u8
+pub fn pouch_get_interrupts(image: &[u8], value: &mut u16) -> u8
     ensures { Asks image.now on.GetInterrupts result value.new }
 {
     let asked = interrupts::get_interrupts(image);
@@ -114,22 +100,19 @@ pub extern "C" fn pouch_get_interrupts(image: &[u8], value: &mut u16) -> u8
     asked.number
 }
 
-#[unsafe(no_mangle)]
-pub extern "C" fn pouch_request_interrupt(image: &mut [u8], interrupt: u8) -> u8
+pub fn pouch_request_interrupt(image: &mut [u8], interrupt: u8) -> u8
     ensures { Changes image.old (on.RequestInterrupt interrupt) result image.new }
 {
     interrupts::request_interrupt(image, interrupt)
 }
 
-#[unsafe(no_mangle)]
-pub extern "C" fn pouch_remove_interrupt(image: &mut [u8], interrupt: u8) -> u8
+pub fn pouch_remove_interrupt(image: &mut [u8], interrupt: u8) -> u8
     ensures { Changes image.old (on.RemoveInterrupt interrupt) result image.new }
 {
     interrupts::remove_interrupt(image, interrupt)
 }
 
-#[unsafe(no_mangle)]
-pub extern "C" fn pouch_is_hdma_enabled(image: &[u8], value: &mut u16) -> u8
+pub fn pouch_is_hdma_enabled(image: &[u8], value: &mut u16) -> u8
     ensures { Asks image.now on.IsHdmaEnabled result value.new }
 {
     let asked = fields::is_hdma_enabled(image);
@@ -138,16 +121,14 @@ pub extern "C" fn pouch_is_hdma_enabled(image: &[u8], value: &mut u16) -> u8
 }
 
 // The Rust's Timer::update.
-#[unsafe(no_mangle)]
-pub extern "C" fn pouch_update_timer(image: &mut [u8], cycles: u32) -> u8
+pub fn pouch_update_timer(image: &mut [u8], cycles: u32) -> u8
     ensures { Changes image.old (on.UpdateTimer cycles) result image.new }
 {
     clock::update_timer(image, cycles)
 }
 
 // The cycles left until TIMA overflows.
-#[unsafe(no_mangle)]
-pub extern "C" fn pouch_cycles_to_overflow(image: &[u8], value: &mut u32) -> u8
+pub fn pouch_cycles_to_overflow(image: &[u8], value: &mut u32) -> u8
     ensures { GivesCycles image.now result value.new }
 {
     let left = clock::cycles_to_overflow(image);
@@ -155,39 +136,34 @@ pub extern "C" fn pouch_cycles_to_overflow(image: &[u8], value: &mut u32) -> u8
     left.number
 }
 
-#[unsafe(no_mangle)]
-pub extern "C" fn pouch_press(image: &mut [u8], button: u8) -> u8
+pub fn pouch_press(image: &mut [u8], button: u8) -> u8
     ensures { Changes image.old (on.Press button) result image.new }
 {
     input::press(image, button)
 }
 
-#[unsafe(no_mangle)]
-pub extern "C" fn pouch_release(image: &mut [u8], button: u8) -> u8
+pub fn pouch_release(image: &mut [u8], button: u8) -> u8
     ensures { Changes image.old (on.Release button) result image.new }
 {
     input::release(image, button)
 }
 
 // The Rust's Controller::update.
-#[unsafe(no_mangle)]
-pub extern "C" fn pouch_update_joypad(image: &mut [u8]) -> u8
+pub fn pouch_update_joypad(image: &mut [u8]) -> u8
     ensures { Changes image.old on.UpdateJoypad result image.new }
 {
     input::update_joypad(image)
 }
 
 // The host has copied the log's used bytes off.
-#[unsafe(no_mangle)]
-pub extern "C" fn pouch_clear_log(image: &mut [u8]) -> u8
+pub fn pouch_clear_log(image: &mut [u8]) -> u8
     ensures { Changes image.old on.ClearLog result image.new }
 {
     fields::clear_log(image)
 }
 
 // The host sets the eight numbers of the screen, to any values.
-#[unsafe(no_mangle)]
-pub extern "C" fn pouch_host(
+pub fn pouch_host(
     image: &mut [u8],
     disabled: bool,
     line: u8,

@@ -7,8 +7,7 @@ const MINOR: u64 = 0;
 
 const PATCH: u64 = 0;
 
-#[unsafe(no_mangle)]
-pub extern "C" fn pouch_version() -> u64
+pub fn pouch_version() -> u64
     ensures { IsVersion result }
 {
     let version = MAJOR * 0x1_0000 + MINOR * 0x100 + PATCH;

@@ -12,6 +12,6 @@ pub returns-then-colors-ne-COLORS_LEN : goal.returns-then-colors-ne-COLORS_LEN
 returns-then-colors-ne-COLORS_LEN c = other_length _ _ c.decode-loaded.ensures c.if-loaded-ne-DONE.false c.if-colors-ne-COLORS_LEN.true
 
 pub returns : goal.returns
-returns c =     let b : length c.channels_of-background.result ≡ 96 = search (rules, c.channels_of-background.type_inv) in
+returns c = let b : length c.channels_of-background.result ≡ 96 = search (rules, c.channels_of-background.type_inv) in
     let s : length c.channels_of-sprites.result ≡ 96 = search (rules, c.channels_of-sprites.type_inv) in
     all_colors _ _ c.decode-loaded.ensures c.if-loaded-ne-DONE.false c.if-colors-ne-COLORS_LEN.false c.channels_of-background.ensures c.channels_of-sprites.ensures b s c.put.ensures c.put-2.ensures
