@@ -1,4 +1,4 @@
--- A save's length is that of whole rows, whose addresses have five digits at most. As much of a copy as was copied is what was. What stands before a place.
+-- A save's length is that of whole rows, whose addresses have five digits at most. What stands before a place.
 -- And what of a play and of a report, part by part, the program's own proofs need.
 use mathlib.Core.Bool.{Bool, true, false, ◌||◌}
 use mathlib.Core.Path.{◌≡◌, refl, ap, sym, subst, ◌∙◌}
@@ -7,8 +7,8 @@ use Prim.Native.Nat.{ℕ, ◌+◌, ◌-◌, ◌*◌, ◌/◌, ◌%◌, ◌≤◌
 use native.Mathlib.Decide.{dec_lt}
 use native.Mathlib.Omega.{arith}
 use lib.Dec.{eqb}
-use lib.ListN.{length, take, drop, length-append, length-drop}
-use lib.Seq.{length-take-le, take_all, take_at, take-length}
+use lib.ListN.{length, take, length-append}
+use lib.Seq.{take_all}
 use borrow.Author.Tests.{eqb-true}
 use Rattle.rules.proofs.Tests.{untrue}
 use Rattle.numbers.specs.Numbers.{done}
@@ -50,9 +50,6 @@ rows_of old new e l =
     let w = save_rows (length old) e in
     record { same = sym l; short = omega (arith, w.1); whole = w.0; inside = omega arith }
 
-pub copied_is : (from to o : List ℕ) (r : ℕ) → r ≡ length from → o ≡ take (length from) from ++ drop (length from) to → take r o ≡ from
-copied_is from to o r e f = rw (f, take-length from, e) (take_at from (drop (length from) to) (length from) refl)
-
 take_some : (p : List ℕ) (m n : ℕ) → n ≡ min (length p) m → Dec (m < length p) → take n p ≡ take m p
 take_some p m n e (yes h) = let q : n ≡ m = omega arith in rw q
 take_some p m n e (no h) = rw (take_all n p (omega (arith, h)), take_all m p (omega (arith, h)))
@@ -91,16 +88,6 @@ module _ (f : ℕ → List ℕ) (from next : ℕ) (h : from ≤ next) where
 
 pub printed_all : (f : ℕ → List ℕ) (from count len : ℕ) → from ≡ count → len ≡ length (numbered f 0 from) → len ≡ length (numbered f 0 count)
 printed_all f from count len e h = rw (← e) h
-
--- a buffer whose rest was lent keeps its length
-pub after_part : (o l : List ℕ) (n : ℕ) → n ≤ length o → length l ≡ length (take (length o - n) (drop n o))
-    → (length (take n o ++ (l ++ drop (length o - n) (drop n o))) ≡ length o) × (length l ≡ length o - n)
-after_part o l n h e =
-    let d = length-drop n o in
-    let p : length (take (length o - n) (drop n o)) ≡ length o - n = length-take-le (length o - n) (drop n o) (omega arith) in
-    let q : length (take n o) ≡ n = length-take-le n o h in
-    let r = length-drop (length o - n) (drop n o) in
-    (rw (length-append (take n o) (l ++ drop (length o - n) (drop n o)), length-append l (drop (length o - n) (drop n o)), q) (omega arith), omega arith)
 
 -- a row's room, and all that is printed of one kind
 pub room_most : (heard : Bool) → room_of heard ≤ heard_room

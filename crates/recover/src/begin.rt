@@ -9,6 +9,8 @@ use recover_messages::mark;
 use recover_messages::mark::Mark;
 use recover_messages::message::Why;
 use savelog::Form;
+use std::io::Read;
+use std::rt::Runtime;
 
 // The form of its records.
 fn form_of(asked: Asked) -> Form
@@ -21,11 +23,11 @@ fn form_of(asked: Asked) -> Form
 }
 
 // A log of `len` bytes with records of this form alone.
-fn bare(fd: i32, asked: Asked, len: usize, form: Form) -> Log
+fn bare(good: bool, asked: Asked, len: usize, form: Form) -> Log
     ensures { (result.before ≤ result.len) × (result.form ≡ form) }
 {
     Log {
-        fd: fd,
+        good: good,
         name: asked.log,
         form: form,
         before: 0,
@@ -35,12 +37,12 @@ fn bare(fd: i32, asked: Asked, len: usize, form: Form) -> Log
 }
 
 // A journal of version 3, of which n bytes are the mark.
-fn marked(fd: i32, asked: Asked, len: usize, form: Form, n: u16, torn: bool) -> Log
+fn marked(asked: Asked, len: usize, form: Form, n: u16, torn: bool) -> Log
     requires { n ≤ len }
     ensures { (result.before ≤ result.len) × (result.form ≡ form) }
 {
     Log {
-        fd: fd,
+        good: true,
         name: asked.log,
         form: form,
         before: n,
@@ -49,57 +51,58 @@ fn marked(fd: i32, asked: Asked, len: usize, form: Form, n: u16, torn: bool) -> 
     }
 }
 
-// One that is refused has no descriptor.
-fn refused(why: Why, asked: Asked, len: usize, form: Form) -> Log
+// One that is refused.
+fn refused(rt: &impl Runtime, why: Why, asked: Asked, len: usize, form: Form) -> Log
     ensures { (result.before ≤ result.len) × (result.form ≡ form) }
 {
-    say::failed(why, asked.log, len);
-    bare(-1, asked, len, form)
+    say::failed(rt, why, asked.log, len);
+    bare(false, asked, len, form)
 }
 
 // By the words.
-fn by_words(fd: i32, asked: Asked, len: usize, form: Form, mark: Mark) -> Log
+fn by_words(rt: &impl Runtime, asked: Asked, len: usize, form: Form, mark: Mark) -> Log
     ensures { (result.before ≤ result.len) × (result.form ≡ form) }
 {
     match mark {
-        Mark::Whole => refused(Why::Marked, asked, len, form),
-        Mark::Torn | Mark::Missing => bare(fd, asked, len, form),
+        Mark::Whole => refused(rt, Why::Marked, asked, len, form),
+        Mark::Torn | Mark::Missing => bare(true, asked, len, form),
     }
 }
 
 // By the mark, of which n bytes were read.
-fn by_mark(fd: i32, asked: Asked, len: usize, form: Form, mark: Mark, n: u16) -> Log
+fn by_mark(rt: &impl Runtime, asked: Asked, len: usize, form: Form, mark: Mark, n: u16) -> Log
     requires { n ≤ len }
     ensures { (result.before ≤ result.len) × (result.form ≡ form) }
 {
     match mark {
-        Mark::Whole => marked(fd, asked, len, form, n, false),
-        Mark::Torn => marked(fd, asked, len, form, n, true),
-        Mark::Missing => refused(Why::Unmarked, asked, len, form),
+        Mark::Whole => marked(asked, len, form, n, false),
+        Mark::Torn => marked(asked, len, form, n, true),
+        Mark::Missing => refused(rt, Why::Unmarked, asked, len, form),
     }
 }
 
-// How the open log of `len` bytes is read; with no descriptor, where it is told why not.
-pub fn begin(fd: i32, asked: Asked, len: usize) -> Log
+// How the open log of `len` bytes is read; not `good`, where it is told why not.
+pub fn begin(rt: &impl Runtime, file: &mut impl Read, asked: Asked, len: usize) -> Log
     ensures { (result.before ≤ result.len) × (result.form ≡ form_of asked.old) }
 {
     let form = form_of(asked);
     let mut first = [0u8; mark::MARK_LEN];
-    let got = files::part(fd, &mut first);
-    if !got.good {
-        say::failed_call(Why::Unread, asked.log, len);
-        return bare(-1, asked, len, form);
-    }
-    let n = got.len;
+    let n = match files::part(file, &mut first) {
+        Ok(n) => n,
+        Err(e) => {
+            say::failed_call(rt, e, Why::Unread, asked.log, len);
+            return bare(false, asked, len, form);
+        }
+    };
     if len < n {
-        return refused(Why::Changed, asked, len, form);
+        return refused(rt, Why::Changed, asked, len, form);
     }
     let mark = mark::mark_of(&first);
     if asked.old {
-        return by_words(fd, asked, len, form, mark);
+        return by_words(rt, asked, len, form, mark);
     }
     if asked.bare {
-        return by_words(fd, asked, len, form, mark);
+        return by_words(rt, asked, len, form, mark);
     }
-    by_mark(fd, asked, len, form, mark, n as u16)
+    by_mark(rt, asked, len, form, mark, n as u16)
 }

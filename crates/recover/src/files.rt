@@ -1,83 +1,62 @@
-// Files: read in parts, and their names.
-ghost use Rattle.std.specs.Prelude.{◌≡◌, ◌≤◌, length, take};
+// Files: read in parts, and their names. The system takes a name as UTF-8.
+ghost use Rattle.std.specs.Prelude.{◌≡◌, ◌≤◌, length, take, IfOk};
 ghost use Rattle.io.specs.Counts.{IsPrefixLen};
-ghost use Rattle.libc.specs.Io.{Ended};
 
-use libc::{PATH_MAX, SEEK_SET};
+use std::fs;
+use std::fs::{File, Metadata};
+use std::io::{Error, ErrorKind, Read, Result, Seek, SeekFrom};
+use std::os::fd::{AsRawFd, IntoRawFd};
+use std::rt::{Files, Runtime};
 
-// How many bytes were read; `good`: the system did not refuse.
-#[derive(Clone, Copy)]
-pub struct Got {
-    pub good: bool,
-    pub len: usize,
-}
+// No path has as many bytes.
+pub const PATH_MAX: usize = 4096;
 
 // Where a standard descriptor was closed at the start, no file that is opened later may get its number: what is printed would go there.
-fn hold_one() {
-    let fd = os::open_read(b"/dev/null");
-    if fd > 2 {
-        libc::close(fd);
+fn hold_one(rt: &impl Files<File = File>) {
+    let Ok(file) = File::open(rt, "/dev/null") else {
+        return;
+    };
+    if file.as_raw_fd() <= 2 {
+        file.into_raw_fd();
     }
 }
 
-pub fn hold_standard() {
-    hold_one();
-    hold_one();
-    hold_one();
+pub fn hold_standard(rt: &impl Files<File = File>) {
+    hold_one(rt);
+    hold_one(rt);
+    hold_one(rt);
 }
 
-// Of what a call answered, the number; 0 where it failed.
-pub fn count(n: i64) -> usize {
-    if n < 0 {
-        return 0;
+// A name as the system takes it.
+pub fn text(name: &[u8]) -> Result<&str> {
+    match std::str::from_utf8(name) {
+        Ok(text) => Ok(text),
+        Err(_) => Err(Error::from(ErrorKind::InvalidFilename)),
     }
-    n as usize
-}
-
-fn number(fd: i32) -> u64 {
-    if fd < 0 {
-        return 0;
-    }
-    fd as u64
 }
 
 // To a place near the file's start.
-pub fn again(fd: i32, at: u16) -> bool {
-    libc::lseek(fd, at as i64, SEEK_SET) == at as i64
-}
-
-// One read: no bytes at the file's end.
-pub fn some(fd: i32, buf: &mut [u8]) -> Got
-    ensures { IsPrefixLen result.len buf.new }
-{
-    let got = libc::read(fd, buf);
-    let n = io::count(got, buf);
-    Got {
-        good: got >= 0,
-        len: n,
+pub fn again(file: &mut impl Seek, at: u16) -> Result<()> {
+    let to = u64::from(at);
+    if file.seek(SeekFrom::Start(to))? != to {
+        return Err(Error::from(ErrorKind::NotSeekable));
     }
+    Ok(())
 }
 
-// Reads on until `buf` is full or the file ends.
-pub fn part(fd: i32, buf: &mut [u8]) -> Got
-    ensures { IsPrefixLen result.len buf.new }
+// Reads on until `buf` is full or the file ends: how many bytes came.
+pub fn part(file: &mut impl Read, buf: &mut [u8]) -> Result<usize>
+    ensures { IfOk result (λ n. IsPrefixLen n buf.new) }
 {
     let mut n = 0;
     while n < buf.len() {
-        let got = some(fd, &mut buf[n..]);
-        if !got.good {
-            return Got {
-                good: false,
-                len: n,
-            };
-        }
-        let k = got.len;
+        let k = file.read(&mut buf[n..])?;
         if k == 0 {
-            return Got { good: true, len: n };
+            return Ok(n);
         }
         n += k;
     }
-    Got { good: true, len: n }
+    Ok(n)
 }
 
 // Puts `text` into `out` from `at` on, as much of it as fits, and gives the place behind it. Where `out` is full then, it may not have been all.
@@ -85,17 +64,9 @@ pub fn put(out: &mut [u8], at: usize, text: &[u8]) -> usize
     requires { at ≤ length out.old }
     ensures { IsPrefixLen result out.new }
 {
-    let mut n = at;
-    let mut i = 0;
-    while i < text.len() {
-        if n >= out.len() {
-            return n;
-        }
-        out[n] = text[i];
-        n += 1;
-        i += 1;
-    }
-    n
+    let n = text.len().min(out.len() - at);
+    out[at..at + n].copy_from_slice(&text[..n]);
+    at + n
 }
 
 // Copies all of `from` to the start of `to`, and gives its length.
@@ -103,31 +74,19 @@ pub fn copied(from: &[u8], to: &mut [u8]) -> usize
     requires { length from.now ≤ length to.old }
     ensures { IsPrefixLen result to.new × (result ≡ length from.now) × (take result to.new ≡ from.now) }
 {
-    bytes::copy(from, to)
+    let n = from.len();
+    to[..n].copy_from_slice(from);
+    n
 }
 
-// A path as C takes it. One that is too long is cut; the callers see that it is not.
-pub fn ended(path: &[u8]) -> [u8; PATH_MAX]
-    ensures { Ended result }
+// The name of an open file, whatever spelling or links it was opened by, from the system's list of the open descriptors.
+pub fn name_of(rt: &impl Runtime, file: &impl AsRawFd, out: &mut [u8]) -> Result<usize>
+    ensures { IfOk result (λ n. IsPrefixLen n out.new) }
 {
-    let mut out = io::buffer();
-    put(&mut out, 0, path);
-    out[4095] = 0;
-    out
-}
-
-// The name of an open file, whatever spelling or links it was opened by, from the system's list of the open descriptors; 0 bytes where it is not told.
-pub fn name_of(fd: i32, out: &mut [u8]) -> usize
-    ensures { IsPrefixLen result out.new }
-{
-    let mut digits = [0u8; 20];
-    let k = io::decimal(number(fd), &mut digits);
-    let mut link = [0u8; 64];
-    let a = put(&mut link, 0, b"/proc/self/fd/");
-    let b = put(&mut link, a, &digits[..k]);
-    let path = ended(&link[..b]);
-    let got = libc::readlink(&path, out);
-    io::count(got, out)
+    let fd = file.as_raw_fd();
+    let link = format!(in rt.alloc(); "/proc/self/fd/{fd}")?;
+    let name = fs::read_link(rt, link.as_str())?;
+    Ok(put(out, 0, name.as_str().as_bytes()))
 }
 
 // What stands under a name: nothing, something, or what the system does not tell.
@@ -135,25 +94,26 @@ pub fn name_of(fd: i32, out: &mut [u8]) -> usize
 pub enum There {
     Nothing,
     Something,
-    Unknown,
+    Unknown(Error),
 }
 
 // A link counts as something, wherever it leads.
-pub fn look(path: &[u8]) -> There {
-    if path.len() >= PATH_MAX {
-        return There::Unknown;
+pub fn look(rt: &impl Files, path: &[u8]) -> There {
+    match looked(rt, path) {
+        Ok(_) => There::Something,
+        Err(e) if e.kind() == ErrorKind::NotFound => There::Nothing,
+        Err(e) => There::Unknown(e),
     }
-    let mut text = [0u8; 1];
-    let path = ended(path);
-    if libc::readlink(&path, &mut text) >= 0 {
-        return There::Something;
+}
+
+fn looked(rt: &impl Files, path: &[u8]) -> Result<Metadata> {
+    fs::symlink_metadata(rt, text(path)?)
+}
+
+// Whether the name is a link's, or the system does not tell.
+pub fn is_link(rt: &impl Files, path: &[u8]) -> bool {
+    match looked(rt, path) {
+        Ok(found) => found.is_symlink(),
+        Err(_) => true,
     }
-    let error = os::errno();
-    if error == libc::EINVAL {
-        return There::Something;
-    }
-    if error == libc::ENOENT {
-        return There::Nothing;
-    }
-    There::Unknown
 }

@@ -1,21 +1,23 @@
 // The log's records, read twice from one descriptor and in parts of whole records: first how many bytes they are and where their zeros begin, then
 // themselves over the save.
-ghost use Rattle.std.specs.Prelude.{true, ◌≡◌, ◌-◌, ◌≤◌, ◌<◌, min, length, take};
+ghost use Rattle.std.specs.Prelude.{true, ◌≡◌, ◌-◌, ◌≤◌, ◌<◌, min, length, take, IfOk};
 ghost use Rattle.io.specs.Counts.{IsPrefixLen};
 ghost use Rattle.savelog.specs.Log.{save_lengths, one_of, outcome};
 ghost use Rattle.recover_messages.specs.Journal.{Bounded, journal_limit, kept_of, recovery_by, part_limit, Played, PlayedPart};
 
-use crate::files::Got;
 use crate::{files, say};
 use recover_messages::journal;
 use recover_messages::journal::{PART, Scan};
 use recover_messages::message::Why;
 use savelog::Form;
+use std::io::{Read, Result};
+use std::rt::Runtime;
 
-// A log that is open: the argument that names it, the form of its records, the bytes before them, the bytes of the file, whether its mark is torn.
+// A log that is open: whether it is to be read, the argument that names it, the form of its records, the bytes before them, the bytes of the file, whether its mark
+// is torn.
 #[derive(Clone, Copy)]
 pub struct Log {
-    pub fd: i32,
+    pub good: bool,
     pub name: usize,
     pub form: Form,
     pub before: u16,
@@ -24,35 +26,36 @@ pub struct Log {
 }
 
 // The next part scanned; the scan as it was, where it is told why not.
-fn scan_part(log: Log, s: Scan) -> Scan
+fn scan_part(rt: &impl Runtime, file: &mut impl Read, log: Log, s: Scan) -> Scan
     requires { Bounded s }
     ensures { Bounded result }
 {
     if s.len > journal::LIMIT {
-        say::failed(Why::Unread, log.name, log.len);
+        say::failed(rt, Why::Unread, log.name, log.len);
         return s;
     }
     let mut part = [0u8; PART];
-    let got = files::part(log.fd, &mut part);
-    let n = got.len;
-    if !got.good {
-        say::failed_call(Why::Unread, log.name, log.len);
-        return s;
-    }
+    let n = match files::part(file, &mut part) {
+        Ok(n) => n,
+        Err(e) => {
+            say::failed_call(rt, e, Why::Unread, log.name, log.len);
+            return s;
+        }
+    };
     if n == 0 {
-        say::failed(Why::Changed, log.name, log.len);
+        say::failed(rt, Why::Changed, log.name, log.len);
         return s;
     }
     journal::scanned(s, &part[..n])
 }
 
 // The first time: all of a log that has `len` bytes from here on, or less of it where it is told why not.
-pub fn scan(log: Log, len: usize) -> Scan
+pub fn scan(rt: &impl Runtime, file: &mut impl Read, log: Log, len: usize) -> Scan
     ensures { Bounded result }
 {
     let mut s = journal::unread();
     while s.len < len {
-        let next = scan_part(log, s);
+        let next = scan_part(rt, file, log, s);
         if next.len <= s.len {
             return s;
         }
@@ -75,38 +78,45 @@ fn before(n: usize, at: usize, kept: usize) -> usize
 }
 
 // Plays a part of the log over the save; s is the scan before it. Where it is refused, its damaged record is told.
-fn play(save: &mut [u8], part: &[u8], log: Log, s: Scan) -> u8
+fn play(rt: &impl Runtime, save: &mut [u8], part: &[u8], log: Log, s: Scan) -> u8
     requires { (s.len ≤ journal_limit) × (one_of (length save.old) save_lengths ≡ true) × (length part.now ≤ part_limit log.form) }
     ensures { outcome result save.new ≡ recovery_by log.form save.old part.now }
 {
     let form = log.form;
     let number = journal::recover(form, save, part);
     if number != numbers::DONE {
-        say::damage(log.name, form, log.len, s, part, save.len());
+        say::damage(rt, log.name, form, log.len, s, part, save.len());
     }
     number
 }
 
 // The same, as far as it stands before `kept`.
-fn play_kept(save: &mut [u8], part: &[u8], log: Log, s: Scan, kept: usize) -> u8
+fn play_kept(rt: &impl Runtime, save: &mut [u8], part: &[u8], log: Log, s: Scan, kept: usize) -> u8
     requires { (s.len ≤ journal_limit) × (one_of (length save.old) save_lengths ≡ true) × (length part.now ≤ part_limit log.form) }
     ensures { outcome result save.new ≡ recovery_by log.form save.old (take (kept - s.len) part.now) }
 {
     let n = before(part.len(), s.len, kept);
-    play(save, &part[..n], log, s)
+    play(rt, save, &part[..n], log, s)
 }
 
 // Reads the next part: as many records as one has.
-fn next_part(fd: i32, form: Form, part: &mut [u8]) -> Got
+fn next_part(file: &mut impl Read, form: Form, part: &mut [u8]) -> Result<usize>
     requires { part_limit form ≤ length part.old }
-    ensures { IsPrefixLen result.len part.new × (result.len ≤ part_limit form) }
+    ensures { IfOk result (λ n. IsPrefixLen n part.new × (n ≤ part_limit form)) }
 {
     let most = journal::bytes_of(form, journal::PART_RECORDS);
-    files::part(fd, &mut part[..most])
+    files::part(file, &mut part[..most])
 }
 
 // The next part scanned and played; the scan as it was, where it is told why not. A part begins where a record does.
-fn play_next(log: Log, save: &mut [u8], s: Scan, kept: usize) -> Scan
+fn play_next(
+    rt: &impl Runtime,
+    file: &mut impl Read,
+    log: Log,
+    save: &mut [u8],
+    s: Scan,
+    kept: usize,
+) -> Scan
     requires { Bounded s × (one_of (length save.old) save_lengths ≡ true) }
     ensures { Bounded result × (s.len < result.len → PlayedPart log.form kept s save.old save.new result) }
 {
@@ -116,28 +126,35 @@ fn play_next(log: Log, save: &mut [u8], s: Scan, kept: usize) -> Scan
         return s;
     }
     if journal::rest_of(form, at) != 0 {
-        say::failed(Why::Changed, log.name, log.len);
+        say::failed(rt, Why::Changed, log.name, log.len);
         return s;
     }
     let mut part = [0u8; PART];
-    let got = next_part(log.fd, form, &mut part);
-    let n = got.len;
-    if !got.good {
-        say::failed_call(Why::Unread, log.name, log.len);
-        return s;
-    }
+    let n = match next_part(file, form, &mut part) {
+        Ok(n) => n,
+        Err(e) => {
+            say::failed_call(rt, e, Why::Unread, log.name, log.len);
+            return s;
+        }
+    };
     if n == 0 {
-        say::failed(Why::Changed, log.name, log.len);
+        say::failed(rt, Why::Changed, log.name, log.len);
         return s;
     }
-    if play_kept(save, &part[..n], log, s, kept) != numbers::DONE {
+    if play_kept(rt, save, &part[..n], log, s, kept) != numbers::DONE {
         return s;
     }
     journal::scanned(s, &part[..n])
 }
 
 // The second time: the records of what is kept over the save. Whether all of it was as the first time, and sound; if not, it is told.
-pub fn play_all(log: Log, save: &mut [u8], first: Scan) -> bool
+pub fn play_all(
+    rt: &impl Runtime,
+    file: &mut impl Read,
+    log: Log,
+    save: &mut [u8],
+    first: Scan,
+) -> bool
     requires { (one_of (length save.old) save_lengths ≡ true) × Bounded first × (first.len ≤ journal_limit) }
     ensures { result ≡ true → Played log.form (kept_of log.form first) first save.old save.new }
 {
@@ -146,19 +163,19 @@ pub fn play_all(log: Log, save: &mut [u8], first: Scan) -> bool
     let len = first.len;
     let mut s = journal::unread();
     while s.len < len {
-        let next = play_next(log, save, s, kept);
+        let next = play_next(rt, file, log, save, s, kept);
         if next.len <= s.len {
             return false;
         }
         s = next;
     }
     if s.len != len {
-        say::failed(Why::Changed, log.name, log.len);
+        say::failed(rt, Why::Changed, log.name, log.len);
         return false;
     }
     if s.end != first.end {
-        say::failed(Why::Changed, log.name, log.len);
+        say::failed(rt, Why::Changed, log.name, log.len);
         return false;
     }
-    say::ends(log.fd, log.name, log.len)
+    say::ends(rt, file, log.name, log.len)
 }

@@ -2,9 +2,14 @@
 ghost use Rattle.std.specs.Prelude.{◌≤◌, length};
 ghost use Rattle.io.specs.Counts.{IsPrefixLen};
 
-use crate::files;
 use crate::files::There;
+use crate::{files, say};
 use recover_text::put::pair;
+use std::fs;
+use std::fs::{File, OpenFile, OpenOptions};
+use std::io::{Error, Result, Write};
+use std::random::RandomSource;
+use std::rt::{Files, Runtime};
 
 #[derive(Clone, Copy)]
 pub enum Kept {
@@ -16,79 +21,93 @@ pub enum Kept {
     Failed,
 }
 
-fn fill(fd: i32, save: &[u8]) -> bool {
-    if !io::write_all(fd, save) {
-        return false;
-    }
-    libc::fsync(fd) == 0
+fn fill<F: Write + OpenFile>(file: &mut F, save: &[u8]) -> Result<()> {
+    file.write_all(save)?;
+    file.sync_all()
 }
 
 // Where the last part of a path begins.
 fn last_part(path: &[u8]) -> usize
     ensures { result ≤ length path.now }
 {
-    let mut i = path.len();
-    while i > 0 {
-        if path[i - 1] == b'/' {
-            return i;
-        }
-        i -= 1;
+    match path.iter().rposition(|b| *b == b'/') {
+        Some(i) => i + 1,
+        None => 0,
     }
-    i
 }
 
-fn open_folder(path: &[u8]) -> i32 {
+fn open_folder<R: Files>(rt: &R, path: &[u8]) -> Result<R::File> {
     let n = last_part(path);
     if n == 0 {
-        return os::open_read(b".");
+        return File::open(rt, ".");
     }
-    os::open_read(&path[..n])
+    File::open(rt, files::text(&path[..n])?)
+}
+
+fn flush(rt: &impl Files, path: &[u8]) -> Result<()> {
+    let folder = open_folder(rt, path)?;
+    folder.sync_all()
 }
 
 // The folder's own entry of the name, on the disk.
-fn flush_folder(path: &[u8]) -> Kept {
-    let fd = open_folder(path);
-    if fd < 0 {
-        return Kept::Unflushed;
+fn flush_folder(rt: &impl Files, path: &[u8]) -> Kept {
+    match flush(rt, path) {
+        Ok(()) => Kept::Done,
+        Err(_) => Kept::Unflushed,
     }
-    let done = libc::fsync(fd);
-    libc::close(fd);
-    if done != 0 {
-        return Kept::Unflushed;
-    }
-    Kept::Done
 }
 
-fn rename(beside: &[u8], path: &[u8]) -> Kept {
-    if os::rename(beside, path) != 0 {
-        os::fail(path);
-        os::unlink(beside);
-        return Kept::Failed;
+// The name is gone, if it can be.
+pub fn unlink(rt: &impl Files, name: &[u8]) {
+    if let Ok(text) = files::text(name) {
+        let _ = fs::remove_file(rt, text);
     }
-    flush_folder(path)
 }
 
-fn left_out(beside: &[u8], why: Kept) -> Kept {
-    os::unlink(beside);
+// What a name is called where the system's error is told.
+fn shown(name: &[u8]) -> &str {
+    match files::text(name) {
+        Ok(text) => text,
+        Err(_) => "recover",
+    }
+}
+
+fn renamed(rt: &impl Files, beside: &[u8], path: &[u8]) -> Result<()> {
+    fs::rename(rt, files::text(beside)?, files::text(path)?)
+}
+
+fn rename(rt: &impl Runtime, beside: &[u8], path: &[u8]) -> Kept {
+    match renamed(rt, beside, path) {
+        Ok(()) => flush_folder(rt, path),
+        Err(e) => {
+            say::fail(rt, shown(path), e);
+            unlink(rt, beside);
+            Kept::Failed
+        }
+    }
+}
+
+fn left_out(rt: &impl Files, beside: &[u8], why: Kept) -> Kept {
+    unlink(rt, beside);
     why
 }
 
 // The file beside takes the name; where that was free, only if it still is.
-pub fn settle(beside: &[u8], path: &[u8], free: bool) -> Kept {
+pub fn settle(rt: &impl Runtime, beside: &[u8], path: &[u8], free: bool) -> Kept {
     if !free {
-        return rename(beside, path);
+        return rename(rt, beside, path);
     }
-    match files::look(path) {
-        There::Nothing => rename(beside, path),
-        There::Something => left_out(beside, Kept::Taken),
-        There::Unknown => left_out(beside, Kept::Failed),
+    match files::look(rt, path) {
+        There::Nothing => rename(rt, beside, path),
+        There::Something => left_out(rt, beside, Kept::Taken),
+        There::Unknown(_) => left_out(rt, beside, Kept::Failed),
     }
 }
 
 // What the name beside has behind the path: a full stop and eight digits that no other run has.
-fn suffix() -> [u8; 9] {
+fn suffix(rt: &impl RandomSource) -> [u8; 9] {
     let mut r = [0u8; 4];
-    libc::getentropy(&mut r);
+    let _ = rt.fill_bytes(&mut r);
     let a = pair(r[0]);
     let b = pair(r[1]);
     let c = pair(r[2]);
@@ -96,37 +115,34 @@ fn suffix() -> [u8; 9] {
     [b'.', a[0], a[1], b[0], b[1], c[0], c[1], d[0], d[1]]
 }
 
-fn fill_and_close(fd: i32, save: &[u8]) -> bool {
-    let filled = fill(fd, save);
-    if !filled {
-        os::fail(b"recover");
-        libc::close(fd);
-        return false;
-    }
-    if libc::close(fd) != 0 {
-        os::fail(b"recover");
-        return false;
-    }
-    true
+// A new file of this name, where nothing stands under it.
+fn create<R: Files>(rt: &R, name: &[u8]) -> Result<R::File> {
+    OpenOptions::new()
+        .write(true)
+        .create_new(true)
+        .open(rt, files::text(name)?)
 }
 
 // Puts the name beside into `name`, and makes the file there, all of it on the disk: the name's length, or 0 where it could not be.
-pub fn beside(path: &[u8], save: &[u8], name: &mut [u8]) -> usize
+pub fn beside<R: Runtime + RandomSource>(rt: &R, path: &[u8], save: &[u8], name: &mut [u8]) -> usize
     ensures { IsPrefixLen result name.new }
 {
-    let end = suffix();
+    let end = suffix(rt);
     let a = files::put(name, 0, path);
     let n = files::put(name, a, &end);
     if n >= name.len() {
         return 0;
     }
-    let fd = os::create(&name[..n]);
-    if fd < 0 {
-        os::fail(&name[..n]);
-        return 0;
-    }
-    if !fill_and_close(fd, save) {
-        os::unlink(&name[..n]);
+    let mut file = match create(rt, &name[..n]) {
+        Ok(file) => file,
+        Err(e) => {
+            say::fail(rt, shown(&name[..n]), e);
+            return 0;
+        }
+    };
+    if let Err(e) = fill(&mut file, save) {
+        say::fail(rt, "recover", e);
+        unlink(rt, &name[..n]);
         return 0;
     }
     n

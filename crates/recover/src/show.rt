@@ -12,6 +12,8 @@ use crate::{files, journal, say};
 use recover_messages::journal::Scan;
 use recover_text::rows::Part;
 use recover_text::{rows, speak};
+use std::io::Read;
+use std::rt::Runtime;
 
 // The bytes of a part of the report.
 const ROOM: usize = 65536;
@@ -24,13 +26,20 @@ pub struct Printed {
 }
 
 // Plays the log over the save, of which a copy is made in `old`: whether it could be played. If not, it is told.
-pub fn changes(log: Log, scan: Scan, save: &mut [u8], old: &mut [u8]) -> bool
+pub fn changes(
+    rt: &impl Runtime,
+    file: &mut impl Read,
+    log: Log,
+    scan: Scan,
+    save: &mut [u8],
+    old: &mut [u8],
+) -> bool
     requires { (one_of (length save.old) save_lengths ≡ true) × (Bounded scan × (scan.len ≤ journal_limit)) × (save_limit ≤ length old.old) }
     ensures { result ≡ true → Played log.form (kept_of log.form scan) scan save.old save.new
         × (take (length save.old) old.new ≡ save.old) }
 {
     files::copied(save, old);
-    journal::play_all(log, save, scan)
+    journal::play_all(rt, file, log, save, scan)
 }
 
 // The next part: of what is heard, or of the rows in hex.
@@ -45,7 +54,7 @@ fn next_part(heard: bool, old: &[u8], new: &[u8], from: usize, out: &mut [u8]) -
 }
 
 // All of what is heard, or all rows in hex, part by part.
-fn print_parts(heard: bool, old: &[u8], new: &[u8]) -> Printed
+fn print_parts(rt: &impl Runtime, heard: bool, old: &[u8], new: &[u8]) -> Printed
     requires { Rows old.now new.now 0 }
     ensures { result.good ≡ true → result.len ≡ length (numbered (lines_of heard old.now new.now) 0 (row_count old.now)) }
 {
@@ -55,7 +64,7 @@ fn print_parts(heard: bool, old: &[u8], new: &[u8]) -> Printed
     let mut len = 0;
     while from < count {
         let part = next_part(heard, old, new, from, &mut out);
-        if !say::print(&out, part.len) {
+        if !say::print(rt, &out, part.len) {
             return Printed {
                 good: false,
                 len: len,
@@ -71,18 +80,18 @@ fn print_parts(heard: bool, old: &[u8], new: &[u8]) -> Printed
 }
 
 // Prints the report on what changed: as many bytes as it has.
-pub fn report(old: &[u8], new: &[u8], speak: bool) -> Printed
+pub fn report(rt: &impl Runtime, old: &[u8], new: &[u8], speak: bool) -> Printed
     requires { Rows old.now new.now 0 }
     ensures { result.good ≡ true → result.len ≡ length (report speak old.now new.now) }
 {
     if speak {
-        return print_parts(true, old, new);
+        return print_parts(rt, true, old, new);
     }
-    let front = print_parts(false, old, new);
+    let front = print_parts(rt, false, old, new);
     if !front.good {
         return front;
     }
-    let back = print_parts(true, old, new);
+    let back = print_parts(rt, true, old, new);
     if !back.good {
         return back;
     }

@@ -1,69 +1,82 @@
 // SAVE and LOG, the files that are read: opened, and looked at again before anything is renamed.
+ghost use Rattle.std.specs.Prelude.{IfOk};
+ghost use Rattle.io.specs.Counts.{IsPrefixLen};
+
 use crate::told::Told;
 use crate::{files, say, told};
 use recover_messages::message::Why;
+use std::fs::File;
+use std::io::{Read, Result, Seek};
+use std::rt::{Files, Runtime};
 
-// Its descriptor, below 0 where it was told why not, and what the system told of it.
-#[derive(Clone, Copy)]
-pub struct Source {
-    pub fd: i32,
+// The open file, and what the system told of it.
+#[derive(Drop)]
+pub struct Source<F> {
+    pub file: F,
     pub told: Told,
 }
 
-fn closed(told: Told) -> Source {
-    Source { fd: -1, told: told }
+fn file_at<R: Files>(rt: &R, path: &[u8]) -> Result<R::File> {
+    File::open(rt, files::text(path)?)
 }
 
-// Opens the file that argument i names. Only a regular one is: a pipe would keep the program waiting.
-pub fn open(i: usize) -> Source {
+// Opens the file that argument i names; nothing, where it was told why not. Only a regular one is: a pipe would keep the program waiting.
+pub fn open<R: Runtime>(rt: &R, i: usize) -> Option<Source<R::File>> {
     let mut path = io::buffer();
-    let n = os::arg(i, &mut path);
-    let told = told::of(&path[..n]);
-    if !told.good {
-        say::failed_call(Why::Absent, i, 0);
-        return closed(told);
-    }
+    let n = say::argument(rt, i, &mut path);
+    let told = match told::ask(rt, &path[..n]) {
+        Ok(told) => told,
+        Err(e) => {
+            say::failed_call(rt, e, Why::Absent, i, 0);
+            return None;
+        }
+    };
     if !told.regular {
-        say::failed(Why::Irregular, i, 0);
-        return closed(told);
+        say::failed(rt, Why::Irregular, i, 0);
+        return None;
     }
-    let fd = os::open_read(&path[..n]);
-    if fd < 0 {
-        say::failed_call(Why::Unread, i, told.len);
-        return closed(told);
+    match file_at(rt, &path[..n]) {
+        Ok(file) => Some(Source { file, told }),
+        Err(e) => {
+            say::failed_call(rt, e, Why::Unread, i, told.len);
+            None
+        }
     }
-    Source { fd: fd, told: told }
 }
 
 // Whether the name leads to that file still, as it was. If not, it is told.
-pub fn stands(source: Source, i: usize) -> bool {
+pub fn stands(rt: &impl Runtime, told: Told, i: usize) -> bool {
     let mut path = io::buffer();
-    let n = os::arg(i, &mut path);
-    let told = source.told;
-    if told::unchanged(told, told::of(&path[..n])) {
+    let n = say::argument(rt, i, &mut path);
+    if told::unchanged(told, told::of(rt, &path[..n])) {
         return true;
     }
-    say::failed(Why::Changed, i, told.len);
+    say::failed(rt, Why::Changed, i, told.len);
     false
 }
 
+// The whole file once more.
+fn whole<F: Read + Seek>(file: &mut F, buf: &mut [u8]) -> Result<usize>
+    ensures { IfOk result (λ n. IsPrefixLen n buf.new) }
+{
+    files::again(file, 0)?;
+    files::part(file, buf)
+}
+
 // Whether SAVE has these bytes still. If not, it is told.
-pub fn holds(source: Source, i: usize, bytes: &[u8]) -> bool {
-    let fd = source.fd;
+pub fn holds<F: Read + Seek>(rt: &impl Runtime, file: &mut F, i: usize, bytes: &[u8]) -> bool {
     let mut buf = [0u8; savelog::SAVE_LIMIT + 1];
-    if !files::again(fd, 0) {
-        say::failed_call(Why::Unread, i, bytes.len());
-        return false;
+    match whole(file, &mut buf) {
+        Ok(n) => {
+            if check::same(&buf[..n], bytes) {
+                return true;
+            }
+            say::failed(rt, Why::Changed, i, bytes.len());
+            false
+        }
+        Err(e) => {
+            say::failed_call(rt, e, Why::Unread, i, bytes.len());
+            false
+        }
     }
-    let got = files::part(fd, &mut buf);
-    let n = got.len;
-    if !got.good {
-        say::failed_call(Why::Unread, i, bytes.len());
-        return false;
-    }
-    if check::same(&buf[..n], bytes) {
-        return true;
-    }
-    say::failed(Why::Changed, i, bytes.len());
-    false
 }

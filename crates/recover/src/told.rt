@@ -1,29 +1,13 @@
 // What the system tells of the file that a path leads to: whether it is a regular one, its length, when it was written, and which file it is.
 ghost use Rattle.std.specs.Prelude.{true, ◌≡◌};
-ghost use Rattle.libc.specs.Io.{Ended};
 ghost use Rattle.recover.specs.Files.{one_file};
 
 use crate::files;
-use libc::PATH_MAX;
-use libc::types::{stat, timespec};
-
-// What the call answered, and what it put.
-#[derive(Clone, Copy)]
-pub struct Answer {
-    pub status: i32,
-    pub stat: stat,
-}
-
-// Nothing is made by itself of a reference to a struct, so this one is proved by hand, and does no more.
-fn ask(path: &[u8; PATH_MAX], mut s: stat) -> Answer
-    requires { Ended path.now }
-{
-    let status = libc::stat(path, &mut s);
-    Answer {
-        status: status,
-        stat: s,
-    }
-}
+use std::fs;
+use std::fs::Metadata;
+use std::io::Result;
+use std::os::unix::fs::MetadataExt;
+use std::rt::Files;
 
 // `good`: the system told it. A file is known by its device and its number there; it was last written at `seconds` and `nanoseconds`.
 #[derive(Clone, Copy)]
@@ -35,31 +19,6 @@ pub struct Told {
     pub nanoseconds: i64,
     pub device: u64,
     pub inode: u64,
-}
-
-fn blank() -> stat {
-    let none = timespec {
-        tv_sec: 0,
-        tv_nsec: 0,
-    };
-    let rest = [0i64; 3];
-    stat {
-        st_dev: 0,
-        st_ino: 0,
-        st_nlink: 0,
-        st_mode: 0,
-        st_uid: 0,
-        st_gid: 0,
-        __pad: 0,
-        st_rdev: 0,
-        st_size: 0,
-        st_blksize: 0,
-        st_blocks: 0,
-        st_atim: none,
-        st_mtim: none,
-        st_ctim: none,
-        __unused: rest,
-    }
 }
 
 pub fn untold() -> Told {
@@ -74,31 +33,30 @@ pub fn untold() -> Told {
     }
 }
 
-fn read(a: Answer) -> Told {
-    if a.status != 0 {
-        return untold();
-    }
-    let s = a.stat;
-    let written = s.st_mtim;
-    let len = files::count(s.st_size);
+fn read(found: &Metadata) -> Told {
     Told {
         good: true,
-        regular: s.st_mode & libc::S_IFMT == libc::S_IFREG,
-        len: len,
-        seconds: written.tv_sec,
-        nanoseconds: written.tv_nsec,
-        device: s.st_dev,
-        inode: s.st_ino,
+        regular: found.is_file(),
+        len: found.len() as usize,
+        seconds: found.mtime(),
+        nanoseconds: found.mtime_nsec(),
+        device: found.dev(),
+        inode: found.ino(),
     }
 }
 
 // Of a link, what it leads to. Nothing is opened, so a pipe is told as any other file.
-pub fn of(path: &[u8]) -> Told {
-    if path.len() >= PATH_MAX {
-        return untold();
+pub fn ask(rt: &impl Files, path: &[u8]) -> Result<Told> {
+    let found = fs::metadata(rt, files::text(path)?)?;
+    Ok(read(&found))
+}
+
+// The same, where it does not matter why the system does not tell.
+pub fn of(rt: &impl Files, path: &[u8]) -> Told {
+    match ask(rt, path) {
+        Ok(told) => told,
+        Err(_) => untold(),
     }
-    let path = files::ended(path);
-    read(ask(&path, blank()))
 }
 
 // Whether two are of one file.

@@ -1,5 +1,7 @@
 // What the command line asks for: which argument names which file, and the words among them.
-use libc::PATH_MAX;
+use crate::files::PATH_MAX;
+use std::env::FillError;
+use std::rt::Env;
 
 // A file is the number of the argument that names it; 0 where none does. `good`: nothing is wrong so far.
 #[derive(Clone, Copy)]
@@ -53,17 +55,14 @@ fn word_of(text: &[u8]) -> Word {
     Word::Name
 }
 
-// The word that argument i is. One that is longer than any path is wrong.
-fn word_at(i: usize) -> Word {
+// The word that argument i is; nothing, behind the last one. One that is longer than any path is wrong.
+fn word_at(rt: &impl Env, i: usize) -> Option<Word> {
     let mut text = io::buffer();
-    let n = os::arg(i, &mut text);
-    if os::errno() != 0 {
-        return Word::Wrong;
+    match rt.arg(i, &mut text) {
+        Ok(n) if n < PATH_MAX => Some(word_of(&text[..n])),
+        Ok(_) | Err(FillError::TooLong) => Some(Word::Wrong),
+        Err(FillError::NotPresent) => None,
     }
-    if n >= PATH_MAX {
-        return Word::Wrong;
-    }
-    word_of(&text[..n])
 }
 
 impl Asked {
@@ -143,15 +142,13 @@ impl Asked {
     }
 }
 
-pub fn given() -> Asked {
-    let words = os::arg_count();
+pub fn given(rt: &impl Env) -> Asked {
     let mut asked = Asked::nothing();
-    let mut i = 1;
-    while i < words {
-        let word = word_at(i);
-        let next = asked.with(i, word);
-        asked = next;
-        i += 1;
+    for i in 1..usize::MAX {
+        let Some(word) = word_at(rt, i) else {
+            break;
+        };
+        asked = asked.with(i, word);
     }
     let good = asked.whole();
     asked.good = good;
