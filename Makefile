@@ -40,7 +40,7 @@ link = libpouchrattle.so
 soname = $(link).$(MAJOR)
 shared = $(link).$(VERSION)
 headers = c/pouchrattle.h c/pouch_bus.h
-sources = crates.txt $(shell find crates -type f \( -name '*.rt' -o -name '*.antt' \) -not -path '*/must-fail/*')
+sources = crates.txt $(shell find crates -type f \( -name '*.rt' -o -name '*.antt' \) -not -path '*/must-fail/*' -not -path '*/out/*')
 
 all: $(into)/$(archive) $(into)/$(shared) $(program)
 
@@ -63,7 +63,7 @@ build/recover: target/bin/recover
 	mkdir -p build
 	cp $< $@
 
-# Proves crate host too, and leaves its archive.
+# Proves crate host_c too, and leaves its archive.
 build/aarch64/$(archive): $(sources) c/aarch64 c/plain.awk
 	$(need_rt)@c/aarch64
 
