@@ -1,4 +1,3 @@
 pub mod Digit
-pub mod Behind
 pub mod Fresh
 pub mod Walking

@@ -1,7 +1,7 @@
 -- From a place of the walk to the next.
 use mathlib.Core.Bool.{Bool, true, false, cond}
 use mathlib.Core.List.{List, [], ◌∷◌, ◌++◌, append_assoc, append-nil}
-use mathlib.Core.Logic.{◌⊎◌, inl, inr}
+use mathlib.Core.Logic.{inl, inr}
 use mathlib.Core.Path.{◌≡◌, refl, sym, ap, subst, ◌∙◌}
 use Prim.Native.Nat.{ℕ, ◌<◌}
 use native.Mathlib.Omega.{arith}
@@ -21,7 +21,7 @@ use Rattle.lines.proofs.Reading.{lines_cut, lines_before, before}
 use Rattle.memory.specs.World.{World, Fixed, world}
 use Rattle.memory.specs.declared.Memory.{Memory}
 use Rattle.walk.specs.Line.{Walked, walked, walked_by, line_walked}
-use Rattle.walk.specs.Walk.{after, walk_lines, walk_all, one_line, long_first, onward, Place, place, ahead, Coming, Goes, Over}
+use Rattle.walk.specs.Walk.{after, walk_lines, one_line, long_first, onward, Place, place, ahead, Goes, Over}
 use Rattle.walk.specs.Walk.{onto, place_by, does_go_on, ByReader, Stepped, Shown, Ran, Whole}
 
 -- Texts

@@ -1,6 +1,7 @@
 // walk: the bus walk. Reads commands from standard input to its end, a line each, makes their calls on one bus, and prints a line for each
 // (document 01, "Corners that decide", the last paragraph). It takes no argument, and ends early where its answers cannot be written.
 #![tactic(auto)]
+
 ghost use Rattle.std.specs.Prelude.{◌+◌, ◌≤◌, ◌++◌, [], ◌≡◌, length, take, replicate, true, false, cond};
 ghost use Rattle.bus.specs.Fresh.{started_by};
 ghost use Rattle.commands.specs.Walk.{strange_text};
@@ -11,10 +12,12 @@ ghost use Rattle.walk.specs.Line.{rom_byte, walked};
 ghost use Rattle.walk.specs.Walk.{after, Begins, one_line, place, Stepped, Shown, Ran, Whole};
 
 use commands::text;
-use libc::STDERR_FILENO;
 use lines::reader;
 use lines::reader::{Found, Reader};
 use memory::Memory;
+use std::env::FillError;
+use std::io::{Read, Write};
+use std::rt::Env;
 
 mod answer;
 mod out;
@@ -113,27 +116,33 @@ fn end(kept: Kept, long: bool, out: &mut [u8]) -> Kept
 }
 
 // Prints what waits.
-fn printed(used: usize, out: &[u8]) -> Waiting
+fn printed<W: Write, E: Write>(output: &mut W, errors: &mut E, used: usize, out: &[u8]) -> Waiting
     requires { used ≤ length out.now }
     ensures { result.used ≡ 0 }
 {
     Waiting {
         used: 0,
-        lost: !out::flush(out, used),
+        lost: !out::flush(output, errors, out, used),
     }
 }
 
 // The answers are printed where nothing that was read is left to be answered, so before more is waited for, and where there is no room for a line
 // more, of ten bytes. The beginning of a line that waits for its rest holds them back.
-fn shown(used: usize, reader: Reader, out: &[u8]) -> Waiting
+fn shown<W: Write, E: Write>(
+    output: &mut W,
+    errors: &mut E,
+    used: usize,
+    reader: Reader,
+    out: &[u8],
+) -> Waiting
     requires { (used ≤ length out.now) × (10 ≤ length out.now) }
     ensures { (result.used + 10 ≤ length out.now) × Shown reader used (length out.now) result.used result.lost }
 {
     if reader.end <= reader.at {
-        return printed(used, out);
+        return printed(output, errors, used, out);
     }
     if out.len() - used < 10 {
-        return printed(used, out);
+        return printed(output, errors, used, out);
     }
     Waiting {
         used: used,
@@ -142,7 +151,9 @@ fn shown(used: usize, reader: Reader, out: &[u8]) -> Waiting
 }
 
 // One step of the reader. Answers that are lost end the walk: nobody hears them, so no more is read.
-fn step(
+fn step<R: Read, W: Write>(
+    input: &mut R,
+    output: &mut W,
     state: State,
     waiting: Waiting,
     buf: &mut [u8],
@@ -180,7 +191,7 @@ fn step(
             lost: true,
         };
     }
-    let read = reader::next(buf, reader);
+    let read = reader::next(input, output, buf, reader);
     let from = read.from;
     let to = read.to;
     let next = read.next;
@@ -244,8 +255,11 @@ fn start(memory: Memory) -> State
     }
 }
 
-// Step after step. A proved loop has to end: it counts its turns down from a number that no run uses up.
-fn run(
+// Step after step. A proved loop has to end: its turns are more than any run uses up.
+fn run<R: Read, W: Write, E: Write>(
+    input: &mut R,
+    output: &mut W,
+    errors: &mut E,
     from: State,
     buf: &mut [u8],
     out: &mut [u8],
@@ -266,19 +280,25 @@ fn run(
         (take result.kept.used out.new) result.long (pending buf.new result.reader) result.reader.more) }
 {
     let mut state = from;
-    let mut turns = u64::MAX;
-    while turns > 0 && state.more {
+    for _ in 0..u64::MAX {
+        if !state.more {
+            break;
+        }
         let kept = state.kept;
         let reader = state.reader;
-        let waiting = shown(kept.used, reader, out);
-        state = step(state, waiting, buf, out, rom, vram, wram, save, log, sound);
-        turns -= 1;
+        let waiting = shown(output, errors, kept.used, reader, out);
+        state = step(
+            input, output, state, waiting, buf, out, rom, vram, wram, save, log, sound,
+        );
     }
     state
 }
 
 // All of the input.
-fn walk(
+fn walk<R: Read, W: Write, E: Write>(
+    input: &mut R,
+    output: &mut W,
+    errors: &mut E,
     memory: Memory,
     rom: &[u8],
     vram: &mut [u8],
@@ -292,9 +312,12 @@ fn walk(
         (world memory vram.old wram.old save.old log.old)
         (world result.memory vram.new wram.new save.new log.new) }
 {
-    let mut buf = io::large_buffer();
-    let mut out = io::large_buffer();
+    let mut buf = [0u8; 65536];
+    let mut out = [0u8; 65536];
     let state = run(
+        input,
+        output,
+        errors,
         start(memory),
         &mut buf,
         &mut out,
@@ -306,7 +329,7 @@ fn walk(
         sound,
     );
     let kept = state.kept;
-    out::flush(&out, kept.used);
+    out::flush(output, errors, &out, kept.used);
     let next = kept.memory;
     Ended {
         memory: next,
@@ -342,16 +365,21 @@ fn begin(
     begun.memory
 }
 
-fn usage() {
-    io::write_all(
-        STDERR_FILENO,
+fn usage<E: Write>(errors: &mut E) {
+    let _ = errors.write_all(
         b"usage: walk <LINES, where a line is R index, W index value or T cycles\n",
     );
 }
 
-fn main() {
-    if os::arg_count() > 1 {
-        usage();
+// Whether there is an argument, be it empty or no text.
+fn is_argued<A: Env>(rt: &A) -> bool {
+    let mut first = [0u8; 1];
+    !matches!(rt.arg(1, &mut first), Err(FillError::NotPresent))
+}
+
+fn main(rt: HostRuntime) {
+    if is_argued(&rt) {
+        usage(&mut rt.stderr());
         return;
     }
     let mut rom = [0u8; 32768];
@@ -363,6 +391,15 @@ fn main() {
     let sound = [0u8; 48];
     let memory = begin(&rom, &mut vram, &mut wram, &save, &log, &sound);
     walk(
-        memory, &rom, &mut vram, &mut wram, &mut save, &mut log, &sound,
+        &mut rt.stdin(),
+        &mut rt.stdout(),
+        &mut rt.stderr(),
+        memory,
+        &rom,
+        &mut vram,
+        &mut wram,
+        &mut save,
+        &mut log,
+        &sound,
     );
 }

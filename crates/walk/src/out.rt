@@ -3,16 +3,16 @@ ghost use Rattle.std.specs.Prelude.{◌+◌, ◌≤◌, ◌≡◌, ◌++◌, len
 ghost use Rattle.commands.specs.Walk.{text_of};
 
 use commands::text::Text;
-use libc::{STDERR_FILENO, STDOUT_FILENO};
+use std::io::Write;
 
-// Writes the first `used` bytes: whether they are written. A program has no exit status: a failed write is told on standard error.
-pub fn flush(out: &[u8], used: usize) -> bool
+// Writes the first `used` bytes: whether they are written. A failed write is told on standard error.
+pub fn flush<W: Write, E: Write>(output: &mut W, errors: &mut E, out: &[u8], used: usize) -> bool
     requires { used ≤ length out.now }
 {
-    if io::write_all(STDOUT_FILENO, &out[..used]) {
+    if output.write_all(&out[..used]).is_ok() {
         return true;
     }
-    io::write_all(STDERR_FILENO, b"the answers could not be written\n");
+    let _ = errors.write_all(b"the answers could not be written\n");
     false
 }
 
@@ -21,8 +21,9 @@ fn append(out: &mut [u8], used: usize, all: [u8; 10], size: usize) -> usize
     requires { (used + 10 ≤ length out.old) × (size ≤ 10) }
     ensures { (take result out.new ≡ take used out.old ++ take size all) × (result ≤ length out.new) }
 {
-    bytes::copy(&all[..size], &mut out[used..]);
-    used + size
+    let end = used + size;
+    out[used..end].copy_from_slice(&all[..size]);
+    end
 }
 
 pub fn put(out: &mut [u8], used: usize, text: Text) -> usize
