@@ -17,15 +17,9 @@ returns-in_default c =
     let l = c.loop-i in
     let d = bytes_in a.n (drop a.from a.s.now) in
     let e = decoding_stops a.s.now a.from a.n a.out.now l.out l.i c.requires.1.1 l.invariant (omega arith) (sym c.in_default.is ∙ c.byte.ensures) in
-    let k = put_length d a.out.now l.out l.i e (omega (
-      arith,
-      c.requires.1.1,
-    )) l.invariant.1.1.1 in (
+    let k = put_length d a.out.now l.out l.i e (omega (arith, c.requires.1.1)) l.invariant.1.1.1 in (
       sym (ne_eqb (length d) a.n (λ (h : length d ≡ a.n). omega (arith, k))),
-      put_whole d a.out.now l.out l.i e (omega (
-        arith,
-        c.requires.1.1,
-      )) l.invariant.1.1.1,
+      put_whole d a.out.now l.out l.i e (omega (arith, c.requires.1.1)) l.invariant.1.1.1,
     )
 
 pub loop-i-preserved : goal.loop-i-preserved
@@ -42,8 +36,5 @@ returns c =
     let e = decoding_ends a.s.now a.from a.n a.out.now l.out l.i l.invariant (omega arith) in
     let k = put_length d a.out.now l.out l.i e (omega (arith, c.requires.1.1)) l.invariant.1.1.1 in (
       sym (eq-eqb (length d) a.n (omega (arith, k))),
-      put_whole d a.out.now l.out l.i e (omega (
-        arith,
-        c.requires.1.1,
-      )) l.invariant.1.1.1,
+      put_whole d a.out.now l.out l.i e (omega (arith, c.requires.1.1)) l.invariant.1.1.1,
     )
