@@ -15,6 +15,7 @@ pub slice_bounds-of_bytes-end-3 : goal.slice_bounds-of_bytes-end-3
 slice_bounds-of_bytes-end-3 c = sym (length-take-le _ _ (omega arith))
 
 pub returns : goal.returns
-returns c = let a = c.args in
+returns c =
+    let a = c.args in
     rw (c.of_log.ensures, c.of_bytes-h.ensures, c.of_bytes-2.ensures, c.of_bytes.ensures)
     (digest_lent _ _ c.lengths_in-n.ensures.0 a.memory a.vram.now a.wram.now a.save.now a.log.now)
