@@ -5,6 +5,3 @@ use Rattle.recover.proofs.show.changes.Goals as goal
 
 pub copied-requires : goal.copied-requires
 copied-requires g c = omega (arith, (save_rows _ c.requires.0).1, c.requires.2)
-
-pub returns : goal.returns
-returns g c = let e = c.copied.ensures in λ h. (c.play_all.ensures h, rw (← e.1) e.2)

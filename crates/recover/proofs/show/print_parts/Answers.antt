@@ -2,30 +2,17 @@
 use mathlib.Core.Path.{refl, ap, sym}
 use native.Mathlib.Omega.{arith}
 use lib.ListN.{length}
-use Rattle.rules.proofs.Tests.{untrue}
 use Rattle.recover_text.specs.Rows.{row_count}
 use Rattle.recover_text.proofs.Pieces.{kept_length, numbered_zero}
-use Rattle.recover.proofs.Saves.{room_most, shown_length, printed_more, part_short, printed_all}
+use Rattle.recover.proofs.Saves.{shown_length, printed_more, part_short}
 use Rattle.recover.specs.Show.{lines_of}
 use Rattle.recover.proofs.show.print_parts.Goals as goal
 
 pub loop-from-init : goal.loop-from-init
 loop-from-init g c = (refl, omega arith, refl, sym (ap length (numbered_zero _ 0)))
 
-pub next_part-part-requires : goal.next_part-part-requires
-next_part-part-requires g c = record { same = c.requires.same; short = c.requires.short; whole = c.requires.whole; inside = c.loop-from.invariant.1 }
-
-pub returns-then-not-print : goal.returns-then-not-print
-returns-then-not-print g c = λ h. untrue h
-
 pub overflow_add-len : goal.overflow_add-len
 overflow_add-len g c = let a = c.args in let e = c.next_part-part.ensures in record { fits = omega (arith, c.requires.short, printed_more (lines_of a.heard a.old.now a.new.now) _ _ e.onward _ _ c.loop-from.invariant.3 e.text.ends, part_short (lines_of a.heard a.old.now a.new.now) _ (row_count a.old.now) e.within, shown_length a.heard a.old.now a.new.now c.requires) }
 
-pub loop-from-smaller : goal.loop-from-smaller
-loop-from-smaller g c = let e = c.next_part-part.ensures in omega (arith, e.within, e.moves (omega (arith, room_most c.args.heard, c.loop-from.invariant.2)) (omega (arith, c.loop-from.invariant.0)))
-
 pub loop-from-preserved : goal.loop-from-preserved
 loop-from-preserved g c = let a = c.args in let e = c.next_part-part.ensures in (c.loop-from.invariant.0, e.within, omega (arith, kept_length e.text, c.loop-from.invariant.2), printed_more (lines_of a.heard a.old.now a.new.now) _ _ e.onward _ _ c.loop-from.invariant.3 e.text.ends)
-
-pub returns : goal.returns
-returns g c = let a = c.args in λ h. printed_all (lines_of a.heard a.old.now a.new.now) _ _ _ (omega (arith, c.loop-from.invariant.0, c.loop-from.invariant.1)) c.loop-from.invariant.3
