@@ -1,5 +1,6 @@
 // Test, set and clear one bit of a byte, as the Rust's bit_utils.rs. A bit over 7, for which the Rust takes another bit, is refused by 7.
 #![tactic(auto)]
+
 ghost use Rattle.std.specs.Prelude.{◌≡◌};
 ghost use Rattle.bit_utils.specs.Bits.{tested, changed, set_bit, unset_bit};
 

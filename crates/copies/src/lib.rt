@@ -1,5 +1,6 @@
 // The bytes that a transfer copies, by value: OAM DMA's, and where a general transfer's end. The bus and the image call it alike.
 #![tactic(auto)]
+
 ghost use Rattle.std.specs.Prelude.{◌≡◌, ◌≤◌, ◌+◌};
 ghost use Rattle.copies.specs.PanDocs.{vram_end};
 ghost use Rattle.copies.specs.Copies.{nothing, oam_copy, landed, Bounded};

@@ -1,5 +1,6 @@
 // Document 01's starred corners, as one table with one theorem about the public calls' definitions, and what is promised beside them.
 #![tactic(auto)]
+
 ghost use Rattle.mbc.specs.Mbc.{OneField};
 ghost use Rattle.corners.specs.Table.{Corners};
 ghost use Rattle.corners.specs.Laws.{ZeroRefused, FreshAccepted, CodeFour, Buttons};

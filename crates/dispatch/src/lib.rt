@@ -1,5 +1,6 @@
 // One enum of the bus calls, and one dispatch over it: whatever is shown of `step` over a list of calls is shown of this code.
 #![tactic(auto)]
+
 ghost use Rattle.std.specs.Prelude.{◌≡◌};
 ghost use Rattle.memory.specs.World.{world, fixed};
 ghost use Rattle.bus.specs.Calls.{buffers};

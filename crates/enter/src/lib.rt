@@ -2,6 +2,7 @@
 // entry), which lists of C entries fold (crate boundary), and its proof uses nothing of an entry but its contract: so what is shown of such lists is
 // shown of the entries that a C host links. Nothing of it is exported.
 #![tactic(auto)]
+
 ghost use Rattle.std.specs.Prelude.{[], ◌≡◌};
 ghost use Rattle.dispatch.specs.declared.Call.TheVariants.{State};
 ghost use Rattle.dispatch.specs.declared.StateCall.TheVariants.{Host};

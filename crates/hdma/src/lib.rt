@@ -1,6 +1,7 @@
 // The registers FF51..FF55 and the addresses of the colour transfers, as the Rust's mmu/mod.rs: the writes of FF51..FF54, `do_cgb_dma`, and what
 // `do_hdma` and `do_gdma` do beside the copying, which the bus does. Leans on bit_utils and on std's wrapping sums.
 #![tactic(auto)]
+
 ghost use Rattle.std.specs.Prelude.{◌≡◌, ◌*◌, ◌/◌, ◌%◌, ◌<◌, ◌≤◌};
 ghost use Rattle.hdma.specs.PanDocs.{length_of};
 ghost use Rattle.hdma.specs.Hdma.{switched, kept_below, first_block, shown_in, fallen, still_on, source_high, source_low, destination_high, destination_low};

@@ -1,6 +1,7 @@
 // The state image: a state as bytes, and back. specs/Layout.antt has the bytes, specs/Load.antt the two calls, specs/Laws.antt that they
 // go round. Each part has its own function, so that a caller who needs one part takes that alone.
 #![tactic(auto)]
+
 ghost use Rattle.std.specs.Prelude.{◌≡◌, true, ◌+◌, ◌≤◌, length, take};
 ghost use Rattle.numbers.specs.Numbers.{done};
 ghost use Rattle.image.specs.Layout.{image_len, image_of};

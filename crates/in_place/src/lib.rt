@@ -2,6 +2,7 @@
 // changed. What is left is the image of what the function there gives. Each asks for an image that is taken (specs/Held.antt).
 // FF00 + at is the byte 0x100 + at of an image.
 #![tactic(auto)]
+
 ghost use Rattle.std.specs.Prelude.{◌≡◌};
 ghost use Rattle.image.specs.Layout.{image_of};
 ghost use Rattle.image.specs.Load.{load_call};

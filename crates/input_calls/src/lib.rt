@@ -1,5 +1,6 @@
 // Calls of the timer and the joypad on the bus: the Rust's `Timer::update`, `Controller::press`, `release` and `update`, and what FF00 selects.
 #![tactic(auto)]
+
 ghost use Rattle.std.specs.Prelude.{◌≡◌};
 ghost use Rattle.input_calls.specs.Input.{set_joypad_state_call, action_keys_call, direction_keys_call, update_joypad_call, update_timer_call, press_call, release_call};
 

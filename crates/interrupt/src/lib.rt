@@ -1,6 +1,7 @@
 // The five interrupts, as the Rust's interrupt.rs with `request_interrupt`, `remove_interrupt` and `get_interrupts` of mmu/mod.rs, on the bytes
 // FF0F (flags) and FFFF (enable). Leans on bit_utils.
 #![tactic(auto)]
+
 ghost use Rattle.std.specs.Prelude.{◌≡◌, ◌<◌};
 ghost use Rattle.interrupt.specs.PanDocs.{bit_of, first_of, flags_read};
 ghost use Rattle.interrupt.specs.Flags.{requested, removed, named};

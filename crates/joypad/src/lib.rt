@@ -1,6 +1,7 @@
 // The eight buttons and FF00, as the Rust's joypad/mod.rs with `get_joypad_state`, `set_joypad_state` and the two tests of FF00 of mmu/mod.rs.
 // FF00 (control) and FF0F (flags) are bytes of the high page: the caller passes them as stored. Leans on bit_utils and interrupt.
 #![tactic(auto)]
+
 ghost use Rattle.std.specs.Prelude.{◌≡◌, not, ◌%◌};
 ghost use Rattle.bit_utils.specs.Bits.{is_set};
 ghost use Rattle.joypad.specs.PanDocs.{low_four};

@@ -1,6 +1,7 @@
 // The LCD functions of the Rust's bus (mmu/mod.rs): the screen with the registers that they touch goes in by value and comes back.
 // Leans on bit_utils for single bits and on interrupt for requests.
 #![tactic(auto)]
+
 ghost use Rattle.std.specs.Prelude.{◌≡◌};
 ghost use Rattle.lcd.specs.PanDocs.{mode_selected};
 ghost use Rattle.lcd.specs.Lcd.{numbers_of, lcd_requested, screen_enabled, screen_disabled, window_line_reset, lyc_signalled, ly_equal, ly_differs, ly_compared, scanline_written, lyc_written, control_put, control_written, status_put, mode_signalled, status_written};

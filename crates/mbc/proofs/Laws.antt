@@ -1,7 +1,7 @@
 -- What the bus leans on: a write keeps a mapper in range, what it stores lies in the save, ROM writes store nothing and RAM writes
 -- change no register; a read gives a byte. At the end, document 01's corners 10 and 11.
 use mathlib.Core.Path.{◌≡◌, refl}
-use mathlib.Core.Bool.{true, false, cond}
+use mathlib.Core.Bool.{true, false}
 use Prim.Native.Nat.{ℕ, ◌%◌, ◌<◌, ◌≤◌}
 use native.Mathlib.Omega.{arith}
 use lib.Dec.{ltb, lit≤}
@@ -10,7 +10,7 @@ use mathlib.Core.List.{List}
 use mathlib.Core.Logic.{⊎_elim}
 use borrow.Author.Tests.{ltb-true, lt-ltb}
 use Rattle.rules.proofs.Tests.{by_cond}
-use Rattle.mbc.specs.PanDocs.{zero_as_one, rom_address, half_byte}
+use Rattle.mbc.specs.PanDocs.{zero_as_one, half_byte}
 use Rattle.mbc.specs.Mbc.{ram_len, has_banks, described, in_range, behaviour, registers_of, start, rom_bank, ram_source, source, byte_of, read_at, stored_at, answer, low1, high1, after1, enable2, after2, after, cartridge_of}
 use Rattle.mbc.specs.declared.cartridge.Cartridge.{Cartridge}
 use Rattle.mbc.specs.declared.mbc.Mapper.{Mapper}

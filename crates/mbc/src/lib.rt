@@ -1,6 +1,7 @@
 // The cartridge mappers: where a read finds its byte, what a write does to a mapper's registers, and what it asks of the save.
 // A mapper touches neither save nor log. The files follow the Rust's; specs/ has what is promised.
 #![tactic(auto)]
+
 mod cartridge;
 mod held;
 mod mbc;

@@ -1,6 +1,7 @@
 // The state of the bus, as the Rust's `Memory` without what is lent: its groups, its ranges, and how it starts; and the memory map.
 // The groups are the records of the crates below; the lent memories are slices, which the calls take beside the state.
 #![tactic(auto)]
+
 ghost use Rattle.std.specs.Prelude.{not, ◌||◌, ◌≡◌, ◌<◌};
 ghost use Rattle.memory.specs.Ranges.{banks_in_range, hdma_in_range, groups_in_range, palettes_in_range, in_range, core_in_range, vram_len, wram_len};
 ghost use Rattle.memory.specs.Start.{zeroed, start_hdma, started};

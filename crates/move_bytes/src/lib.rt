@@ -1,6 +1,7 @@
 // The transfers of the bus on an image and what is lent, block by block: the bytes of a block are read before one is written, and the registers are put into
 // the image. crates/mmu copies byte by byte; proofs/Copies.antt has that both are the same.
 #![tactic(auto)]
+
 mod blocks;
 mod moves;
 mod rows;

@@ -1,6 +1,7 @@
 // The colour palettes of a colour machine, as `update_color_palette` and `set_color_palette` of the Rust's mmu/mod.rs, on one palette memory:
 // the background's (FF68, FF69) and the sprites' (FF6A, FF6B) work alike. Leans on bit_utils.
 #![tactic(auto)]
+
 ghost use Rattle.std.specs.Prelude.{◌≡◌, ◌<◌};
 ghost use Rattle.palette.specs.PanDocs.{address_of, color_of, number_of, low_byte, high_byte, with_low, with_high, channels, byte_in, put_in, moves};
 ghost use Rattle.palette.specs.Palette.{

@@ -6,10 +6,10 @@ use native.Mathlib.Nat.{mod-lt, add_comm, add_assoc, mul_comm, add-zero, one-mul
 use native.Mathlib.Numerals.{add-one}
 use native.Mathlib.Omega.{arith}
 use lib.Arith.{digits_lt}
-use lib.ListN.{length, take, drop, get_or, set, replicate, length-append, length-drop, length-replicate, take-append-drop, replicate-append-replicate}
-use lib.Seq.{sets, sets-eq, length-sets, length-take-le, get_or-drop, get_or-take, drop-drop}
+use lib.ListN.{length, take, drop, get_or, set, length-append, length-drop, length-replicate, take-append-drop, replicate-append-replicate}
+use lib.Seq.{sets, sets-eq, length-sets, length-take-le, drop-drop}
 use lib.Pow.{split, shr_lt, shl_exact, pow_mono, pow_pos, pow-add, high, low, shr-shr, mod-pow-add, mod-mod-pow, field}
-use Rattle.packing.specs.Packing.{Below, Fit, bits, packed, unpacked, eights}
+use Rattle.packing.specs.Packing.{Below, bits, packed, unpacked, eights}
 use Rattle.packing.proofs.Laws.{packed_lt, bits_replicate, pack_append, below_fit, below_take, below_drop, unpack_mod, unpack_low, unpack_pack, unpack_length, pack_unpack}
 use Rattle.packing.proofs.Runs.{part_listed}
 use Rattle.places.specs.Places.{number, behind, field_at, fields_from, replaced, put_at}

@@ -1,5 +1,5 @@
 -- A field of a row of bytes by its place: how many bits stand before it, and its width; most significant bit first.
-use Rattle.std.specs.Prelude.{◌≡◌, List, [], ◌∷◌, ℕ, ◌+◌, ◌-◌, ◌*◌, ◌/◌, ◌%◌, ◌^◌, ◌<◌, ◌≤◌, length, take, get_or, set}
+use Rattle.std.specs.Prelude.{List, [], ◌∷◌, ℕ, ◌+◌, ◌-◌, ◌*◌, ◌/◌, ◌%◌, ◌^◌, ◌<◌, ◌≤◌, length, take, get_or, set}
 use Rattle.packing.specs.Packing.{bits, packed, unpacked, eights}
 
 -- the number that bytes make

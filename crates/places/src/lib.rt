@@ -2,6 +2,7 @@
 // It is taken from the bytes that end where it ends, so the last field of all needs no room behind it. With constants for place and width the compiler
 // makes a load, a shift and a mask of a read, and a store touches the bytes of the field alone.
 #![tactic(auto)]
+
 ghost use Rattle.std.specs.Prelude.{cond, [], ◌∷◌, ◌≡◌, ◌+◌, ◌*◌, ◌/◌, ◌^◌, ◌<◌, ◌≤◌, eqb, length, take, drop};
 ghost use Rattle.std.proofs.lemmas.List.Edits.{sets};
 ghost use Rattle.packing.specs.Packing.{packed, unpacked, eights};

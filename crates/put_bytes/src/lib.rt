@@ -1,6 +1,7 @@
 // A byte put into an image or what is lent beside it, by its region: a write that nothing refuses, without the copying that it may start. It takes of the
 // image what it needs, and changes it in place.
 #![tactic(auto)]
+
 ghost use Rattle.std.specs.Prelude.{◌≡◌, ◌-◌, ◌/◌, ◌%◌, ◌<◌, ◌≤◌, length};
 ghost use Rattle.numbers.specs.Numbers.{done};
 ghost use Rattle.image.specs.Layout.{image_len, image_of};

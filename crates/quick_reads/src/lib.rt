@@ -1,5 +1,6 @@
 // Byte and word reads of an image and what is lent (crate take_bytes), with every refusal.
 #![tactic(auto)]
+
 ghost use Rattle.std.specs.Prelude.{◌≡◌, ◌+◌, ◌*◌, []};
 ghost use Rattle.dispatch.specs.declared.Call.TheVariants.{ReadByte, ReadWord, ReadCgbLcdRam};
 ghost use Rattle.memory.specs.World.{fixed};

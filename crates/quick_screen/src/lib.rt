@@ -1,6 +1,7 @@
 // The screen's calls on the image itself, as crate quick_state has the others; and what a host that draws takes of an image and sets there: the screen's numbers,
 // OAM. A call that sets one number asks for the image's number in two (`image::mapper_number`, `image::rest_number`), each put in place.
 #![tactic(auto)]
+
 ghost use Rattle.std.specs.Prelude.{◌≡◌};
 ghost use Rattle.std.specs.Int.{w32};
 ghost use Rattle.std.proofs.Common.{of_z};

@@ -3,6 +3,7 @@
 // The timer's, the joypad's and the interrupts' calls ask for that number in two (`image::mapper_number`, `image::rest_number`), each put in place.
 // The screen's calls are in crate quick_screen.
 #![tactic(auto)]
+
 ghost use Rattle.std.specs.Prelude.{◌≡◌};
 ghost use Rattle.dispatch.specs.Step.{flag_number};
 ghost use Rattle.entry.specs.Entry.{given};

@@ -1,6 +1,7 @@
 // Byte and word writes of an image and what is lent, with every refusal. Where the tests that are enough pass and no transfer starts, a byte is put at once
 // (crate put_bytes); elsewhere the plain function does the whole call.
 #![tactic(auto)]
+
 ghost use Rattle.std.specs.Prelude.{true, ◌≡◌, ◌/◌, ◌%◌, length};
 ghost use Rattle.numbers.specs.Numbers.{done};
 ghost use Rattle.dispatch.specs.declared.Call.TheVariants.{WriteByte, WriteWord};

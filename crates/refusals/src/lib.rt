@@ -1,5 +1,6 @@
 // What a call answers; when it is refused, and by which number. Lengths come as numbers, so that a call asks before it touches what is lent.
 #![tactic(auto)]
+
 ghost use Rattle.std.specs.Prelude.{◌≡◌};
 ghost use Rattle.refusals.specs.Refusal.{or_else, state_refused, refused_state, use_refused, lengths_are, lengths_fit, lengths_refused, log_refused, lent_refused, read_refused, write_refused, in_save, in_sound, next_index, either_in_save, byte_room, word_room, byte_owed, word_owed, raw_refused, cycles_refused, vram_length_refused, has_bank, vram_refused};
 

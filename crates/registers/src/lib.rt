@@ -1,6 +1,7 @@
 // The bus by value: what its registers FF00..FFFF read and store, and the Rust's functions on `Memory` that touch the state alone.
 // Each takes the state apart, calls the crate that knows the rule, and puts the state together again.
 #![tactic(auto)]
+
 ghost use Rattle.std.specs.Prelude.{◌≡◌};
 ghost use Rattle.registers.specs.State.{loaded, stored};
 

@@ -1,9 +1,9 @@
 -- Laws of single bits of a number: `x & 2 ^ n`, `x | 2 ^ n` and `x & !m`, in sums and quotients. Every one holds for all widths.
 use mathlib.Core.Path.{◌≡◌, refl, sym, ap, ◌∙◌}
-use Prim.Native.Nat.{ℕ, zero, suc, ◌+◌, ◌-◌, ◌*◌, ◌/◌, ◌%◌, ◌^◌, ◌<◌, ◌≤◌, min}
-use native.Mathlib.Nat.{one-mul, pow-suc, pow-zero, min-eq_left, min-eq_right}
+use Prim.Native.Nat.{ℕ, zero, suc, ◌+◌, ◌-◌, ◌*◌, ◌/◌, ◌%◌, ◌^◌, ◌<◌, min}
+use native.Mathlib.Nat.{one-mul, pow-suc, pow-zero}
 use native.Mathlib.Omega.{arith}
-use lib.Pow.{pow-add, pow_pos, shl_exact}
+use lib.Pow.{pow-add, shl_exact}
 use lib.Bits.{bit_and, bit_or, and_high, and_step, and_zero_l, or_add_and}
 
 -- `1 << n` at a width of w bits

@@ -1,23 +1,23 @@
 -- The laws of specs/ConvertLaws.antt. A record that was read is the record of a store within its form; so what is written of it reads the same.
-use mathlib.Core.Bool.{Bool, true, false, cond, ◌&&◌}
+use mathlib.Core.Bool.{Bool, true, false, cond}
 use mathlib.Core.Path.{◌≡◌, refl, ap, sym, ◌∙◌}
 use mathlib.Core.List.{List, [], ◌∷◌, ◌++◌, append_assoc, append-nil}
-use Prim.Native.Nat.{ℕ, zero, suc, ◌+◌, ◌-◌, ◌*◌, ◌/◌, ◌%◌, ◌≤◌, ◌<◌}
+use Prim.Native.Nat.{ℕ, zero, suc, ◌+◌, ◌*◌, ◌/◌, ◌%◌, ◌≤◌, ◌<◌}
 use native.Mathlib.Omega.{arith}
-use lib.Dec.{eqb, ltb, leb}
+use lib.Dec.{eqb, leb}
 use lib.ListN.{length, take, drop, length-append, length-drop, take-append-drop}
 use lib.Seq.{take_at, take_all, take-add, drop_at, length-take-le}
 use borrow.Author.Tests.{ltb-true, lt-ltb, eqb-true, ne_eqb, le-leb}
 use Rattle.numbers.specs.Numbers.{done, wrong_length, damaged}
 use Rattle.rules.proofs.Tests.{both_true}
-use Rattle.savelog.specs.Log.{Form, Three, Four, Rec, width_of, end_of, spare_of, log_limit, save_limit, save_lengths, bytes_of, number_from, record_number, record_bytes, fields_of, record_of, stored, first_records, records_by, sound_record, all_sound, apply_all, one_of, lengths_fit, outcome, recovery}
+use Rattle.savelog.specs.Log.{Form, Three, Four, Rec, width_of, end_of, log_limit, save_limit, save_lengths, bytes_of, number_from, record_number, record_bytes, fields_of, record_of, stored, first_records, records_by, sound_record, all_sound, one_of, lengths_fit, recovery}
 use Rattle.savelog.specs.Convert.{Conversion, undamaged, below, bytes_by, length_by, room, converted, conversion, old_save_lengths, old_recovery}
 use Rattle.savelog.specs.ConvertLaws.{Bytes, none, more, new_log, OldCorner, SameRecords, ThereAndBack, BackExactly, LastDropped, InParts, PastStays, RecoversAsBefore}
-use Rattle.savelog.proofs.Laws.{some_width, record_length, records_none, records_cons}
+use Rattle.savelog.proofs.Laws.{some_width, record_length, records_none}
 use Rattle.savelog.proofs.Use.{record_first}
 use Rattle.savelog.specs.Laws.{LastIgnored}
 use Rattle.savelog.proofs.Prefix.{length_records, records_take, records_append}
-use Rattle.savelog.proofs.Converts.{length_bound, Roomy, roomy, sound_parts, result, by_sound}
+use Rattle.savelog.proofs.Converts.{Roomy, roomy, result, by_sound}
 
 -- records of stores, with addresses below an end and bytes as values
 data Stores (end : ℕ) : List Rec → Type 0 where

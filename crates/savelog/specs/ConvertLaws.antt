@@ -2,7 +2,7 @@
 use Rattle.std.specs.Prelude.{true, ◌≡◌, List, [], ◌∷◌, ◌++◌, ℕ, ◌*◌, ◌/◌, ◌≤◌, ◌<◌, length, take, drop}
 use Rattle.numbers.specs.Numbers.{done}
 use Rattle.numbers.specs.One.{OnlyOne}
-use Rattle.savelog.specs.Log.{Form, Three, Four, width_of, end_of, log_limit, save_limit, records_by, recovery}
+use Rattle.savelog.specs.Log.{Form, Three, Four, width_of, log_limit, save_limit, records_by, recovery}
 use Rattle.savelog.specs.Convert.{undamaged, below, length_by, converted, conversion, Converts, old_recovery}
 
 -- a log's bytes are bytes

@@ -1,6 +1,7 @@
 // The save log: a record for each stored save byte, appended one by one and, after a loss, played back over the save.
 // specs/Log.antt says what the bytes mean, specs/Laws.antt what survives a cut; recovery's numbers are those of crate `numbers`.
 #![tactic(auto)]
+
 ghost use Rattle.std.specs.Prelude.{true, ◌++◌, ◌≡◌, ◌+◌, ◌<◌, ◌≤◌, length, take, drop};
 ghost use Rattle.savelog.specs.Log.{Three, Four, width, address_end, width_of, end_of, log_limit, bytes_of, number_from, record_number, fields_of, record_of, records_by, records, sound_record, all_sound, apply_all, lengths_fit, Recovers, Appends, cleared_use, use_in_range, full};
 ghost use Rattle.savelog.specs.Laws.{Corner, AppendLaw, PrefixLaw, LastIgnored, CopiesLaw, OneRecovery, OneAppend};

@@ -1,5 +1,6 @@
 // Calls on the screen's part of the state, the Rust's `do_lcd_control_write` and its like, and the call by which the host sets the screen's numbers.
 #![tactic(auto)]
+
 ghost use Rattle.std.specs.Prelude.{◌≡◌};
 ghost use Rattle.screen_calls.specs.Screen.{control_call, status_call, scanline_call, lyc_call, compare_call, enable_call, disable_call, window_call, host_call};
 

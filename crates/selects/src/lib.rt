@@ -1,5 +1,6 @@
 // What FF4D, FF4F and FF70 of a colour machine keep and select, by value: the bus and the image call it alike.
 #![tactic(auto)]
+
 ghost use Rattle.std.specs.Prelude.{◌≡◌};
 ghost use Rattle.selects.specs.PanDocs.{speed_of, vram_bank_of, wram_bank_of};
 

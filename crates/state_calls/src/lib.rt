@@ -1,6 +1,7 @@
 // Calls on the state alone: raw load and store, interrupts, HDMA's flag, the log's clearing. No memory is lent, so only the state's ranges and the call's own
 // number can refuse.
 #![tactic(auto)]
+
 ghost use Rattle.std.specs.Prelude.{◌≡◌};
 ghost use Rattle.numbers.specs.Numbers.{outside};
 ghost use Rattle.refusals.specs.Answers.{changed};

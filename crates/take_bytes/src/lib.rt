@@ -1,6 +1,7 @@
 // A byte of an image and what is lent beside it. Of the state only what says where the byte is, is decoded; a byte of OAM or of the page is taken from the
 // image itself.
 #![tactic(auto)]
+
 ghost use Rattle.std.specs.Prelude.{List, [], ◌≡◌, ℕ, ◌≤◌, length};
 ghost use Rattle.numbers.specs.Numbers.{done};
 ghost use Rattle.image.specs.Load.{load_call};

@@ -1,6 +1,7 @@
 // The timer: DIV and TIMA after a number of cycles, as the Rust's timer.rs, on a record by value. FF0F is crate interrupt's.
 // One step of DIV in 256 cycles, one of TIMA in a period of TAC: how many there are is a quotient, and no loop makes them.
 #![tactic(auto)]
+
 ghost use Rattle.std.specs.Prelude.{◌≡◌, ◌+◌, ◌*◌, ◌%◌, ◌<◌, ◌≤◌};
 ghost use Rattle.timer.specs.PanDocs.{period};
 ghost use Rattle.timer.specs.AtOnce.{periods_in, stepped};

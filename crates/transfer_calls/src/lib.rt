@@ -1,5 +1,6 @@
 // The transfers that a host starts: OAM DMA, and one block of HDMA. What refuses them is asked of the state and the lengths before anything is touched.
 #![tactic(auto)]
+
 ghost use Rattle.memory.specs.World.{world, fixed};
 ghost use Rattle.bus.specs.Calls.{buffers};
 ghost use Rattle.transfer_calls.specs.Transfers.{Transfers, Moves, OneMoved};

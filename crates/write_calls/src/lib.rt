@@ -1,5 +1,6 @@
 // The calls that write a byte or a word to what is lent. What refuses them is asked of the state and the lengths before anything is touched.
 #![tactic(auto)]
+
 ghost use Rattle.memory.specs.World.{world, fixed};
 ghost use Rattle.bus.specs.Calls.{buffers};
 ghost use Rattle.write_calls.specs.Writes.{WritesByte, WritesWord, OneWritten};

@@ -6,14 +6,14 @@ use Rattle.hdma.proofs.start_of.Goals as goal
 
 pub returns : goal.returns
 unfolding start_of
-returns c =     rw (
-      c.wide-4.ensures.0,
-      c.upper-2.ensures,
-      c.wide-3.ensures.0,
-      c.wide-2.ensures.0,
-      c.upper.ensures,
-      c.wide.ensures.0,
-      c.kept_below-high.ensures,
-      upper_bits c.args.r52 (search rules),
-      upper_bits c.args.r54 (search rules),
-    )
+returns c = rw (
+  c.wide-4.ensures.0,
+  c.upper-2.ensures,
+  c.wide-3.ensures.0,
+  c.wide-2.ensures.0,
+  c.upper.ensures,
+  c.wide.ensures.0,
+  c.kept_below-high.ensures,
+  upper_bits c.args.r52 (search rules),
+  upper_bits c.args.r54 (search rules),
+)

@@ -6,8 +6,8 @@ use Rattle.hdma.proofs.write_source_low.Goals as goal
 
 pub returns : goal.returns
 unfolding source_low
-returns c =     rw (
-      c.wide.ensures.0,
-      c.upper-byte.ensures,
-      upper_bits c.args.value (search rules),
-    )
+returns c = rw (
+  c.wide.ensures.0,
+  c.upper-byte.ensures,
+  upper_bits c.args.value (search rules),
+)

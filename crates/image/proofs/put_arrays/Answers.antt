@@ -17,7 +17,7 @@ bytes_of-sprites-requires c = range_sprites c.args.memory (storable_state c.args
 
 pub returns : goal.returns
 unfolding arrays_of
-returns c =     let m = c.args.memory in
+returns c = let m = c.args.memory in
     let t = c.typed.ensures in
     let b : length c.bytes_of-background.result ≡ 60 = ap length c.bytes_of-background.ensures ∙ repacked_length (fives 96) (eights 60) (channels m.background) in
     let s : length c.bytes_of-sprites.result ≡ 60 = ap length c.bytes_of-sprites.ensures ∙ repacked_length (fives 96) (eights 60) (channels m.sprites) in

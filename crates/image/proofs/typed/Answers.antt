@@ -8,7 +8,7 @@ use borrow.Author.Rules.{rules}
 use Rattle.image.proofs.typed.Goals as goal
 
 pub returns : goal.returns
-returns c =     let o : (i : ℕ) → Fits w8 (get_or c.args.memory.oam i 0) = λ i. search rules in
+returns c = let o : (i : ℕ) → Fits w8 (get_or c.args.memory.oam i 0) = λ i. search rules in
     let p : (i : ℕ) → Fits w8 (get_or c.args.memory.page i 0) = λ i. search rules in
     -- what the types say of the core, and in it of the screen
     let k = c.well_formed.0.1.1.1.1.1.1.0 in

@@ -6,13 +6,13 @@ use Rattle.interrupt.proofs.get_interrupts.Goals as goal
 
 pub returns-then-is_set : goal.returns-then-is_set
 unfolding first_of
-returns-then-is_set c =     let e = c.args.enable in
+returns-then-is_set c = let e = c.args.enable in
     let f = c.args.flags in
     rw (decides e f Vblank c.is_set.ensures c.if-is_set.true)
 
 pub returns-then-is_set-2 : goal.returns-then-is_set-2
 unfolding first_of
-returns-then-is_set-2 c =     let e = c.args.enable in
+returns-then-is_set-2 c = let e = c.args.enable in
     let f = c.args.flags in
     rw (
       decides e f Vblank c.is_set.ensures c.if-is_set.false,
@@ -21,7 +21,7 @@ returns-then-is_set-2 c =     let e = c.args.enable in
 
 pub returns-then-is_set-3 : goal.returns-then-is_set-3
 unfolding first_of
-returns-then-is_set-3 c =     let e = c.args.enable in
+returns-then-is_set-3 c = let e = c.args.enable in
     let f = c.args.flags in
     rw (
       decides e f Vblank c.is_set.ensures c.if-is_set.false,
@@ -31,7 +31,7 @@ returns-then-is_set-3 c =     let e = c.args.enable in
 
 pub returns-then-is_set-4 : goal.returns-then-is_set-4
 unfolding first_of
-returns-then-is_set-4 c =     let e = c.args.enable in
+returns-then-is_set-4 c = let e = c.args.enable in
     let f = c.args.flags in
     rw (
       decides e f Vblank c.is_set.ensures c.if-is_set.false,
@@ -42,7 +42,7 @@ returns-then-is_set-4 c =     let e = c.args.enable in
 
 pub returns-then-is_set-5 : goal.returns-then-is_set-5
 unfolding first_of
-returns-then-is_set-5 c =     let e = c.args.enable in
+returns-then-is_set-5 c = let e = c.args.enable in
     let f = c.args.flags in
     rw (
       decides e f Vblank c.is_set.ensures c.if-is_set.false,
@@ -54,7 +54,7 @@ returns-then-is_set-5 c =     let e = c.args.enable in
 
 pub returns : goal.returns
 unfolding first_of
-returns c =     let e = c.args.enable in
+returns c = let e = c.args.enable in
     let f = c.args.flags in
     rw (
       decides e f Vblank c.is_set.ensures c.if-is_set.false,

@@ -6,12 +6,12 @@ use Rattle.lcd.proofs.equal.Goals as goal
 
 pub returns-then-is_set : goal.returns-then-is_set
 unfolding ly_equal
-returns-then-is_set c =     let s = c.set_bit-status.ensures in
+returns-then-is_set c = let s = c.set_bit-status.ensures in
     let b = c.is_set.ensures in
     rw (c.signal_lyc.ensures, s, sym (lyc_stays _) ∙ sym (rw s at b) ∙ c.if-is_set.true)
 
 pub returns : goal.returns
 unfolding ly_equal
-returns c =     let s = c.set_bit-status.ensures in
+returns c = let s = c.set_bit-status.ensures in
     let b = c.is_set.ensures in
     rw (s, sym (lyc_stays _) ∙ sym (rw s at b) ∙ c.if-is_set.false)

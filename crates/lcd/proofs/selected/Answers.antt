@@ -19,5 +19,5 @@ returns-then-mode-eq2 c = rw (c.is_set-then-mode-eq2.ensures, c.if-mode-eq2.true
 
 pub returns : goal.returns
 unfolding mode_selected
-returns c =     let h : 3 ≤ c.args.mode = omega arith in
+returns c = let h : 3 ≤ c.args.mode = omega arith in
     rw (le-ltb _ _ h)

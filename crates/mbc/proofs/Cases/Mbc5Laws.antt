@@ -1,6 +1,6 @@
 -- Mbc5's laws: what its ranges say, as a record of facts, and that each of its writes keeps them.
 use mathlib.Core.Path.{◌≡◌, refl}
-use mathlib.Core.Bool.{Bool, true, false, cond, ◌&&◌, or-true}
+use mathlib.Core.Bool.{true, false, cond, ◌&&◌, or-true}
 use mathlib.Core.List.{[], ◌∷◌}
 use mathlib.Core.Logic.{inl}
 use Prim.Native.Nat.{ℕ, zero, suc, ◌<◌, ◌≤◌, ◌*◌, ◌/◌}
@@ -10,7 +10,7 @@ use lib.Dec.{eqb, ltb}
 use borrow.Author.Tests.{ltb-true, eqb-true, lt-ltb, le-ltb, ne_eqb}
 use Rattle.rules.proofs.Tests.{by_cond, both_true}
 use Rattle.mbc.specs.PanDocs.{enables, mbc5_bank, four_bits, masked}
-use Rattle.mbc.specs.Mbc.{one_of, implies, has_banks, has_code, ram_banks, ram_len, described, held, held5, in_range, ram_fits, chosen_ram, ram_source, starting, from5, kind_mbc5, with_rom5, with_ram5, with_enabled5, enable5, low5, ninth5, ram5, after5}
+use Rattle.mbc.specs.Mbc.{one_of, implies, has_banks, has_code, ram_banks, ram_len, described, held, held5, in_range, ram_fits, chosen_ram, ram_source, starting, from5, with_rom5, with_ram5, with_enabled5, enable5, low5, ninth5, ram5, after5}
 use Rattle.mbc.specs.declared.cartridge.Cartridge.{Cartridge}
 use Rattle.mbc.specs.declared.mbc5.Mbc5.{Mbc5 as Registers5}
 use Rattle.mbc.specs.declared.mbc.Mapper.TheVariants.{Mbc5}

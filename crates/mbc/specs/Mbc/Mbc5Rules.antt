@@ -9,7 +9,6 @@ use Rattle.mbc.specs.declared.cartridge.Cartridge.{Cartridge}
 use Rattle.mbc.specs.declared.held.Registers.{Registers}
 use Rattle.mbc.specs.declared.mbc5.Mbc5.{Mbc5 as Registers5}
 use Rattle.mbc.specs.declared.mbc.Mapper.TheVariants.{Mbc5}
-use Rattle.mbc.specs.declared.mbc.Source.{Source}
 
 abbrev pub kind_mbc5 : ℕ
 kind_mbc5 = 3

@@ -13,7 +13,7 @@ abbrev turn : List ℕ → List ℕ
 turn l = get_or l 7 0 ∷ get_or l 6 0 ∷ get_or l 5 0 ∷ get_or l 4 0 ∷ get_or l 3 0 ∷ get_or l 2 0 ∷ get_or l 1 0 ∷ get_or l 0 0 ∷ []
 
 pub returns : goal.returns
-returns c =     let l = c.args.bytes.now in
+returns c = let l = c.args.bytes.now in
     let i = c.args.at in
     let below : (k : ℕ) → get_or l k 0 < 256 = λ k. (c.shared_slice_known-1.given k).fits in
     let vs = get_or l (i + 7) 0 ∷ get_or l (i + 6) 0 ∷ get_or l (i + 5) 0 ∷ get_or l (i + 4) 0 ∷ get_or l (i + 3) 0 ∷ get_or l (i + 2) 0 ∷ get_or l (i + 1) 0 ∷ get_or l i 0 ∷ [] in

@@ -1,6 +1,6 @@
 -- The invariant: what is packed, followed by what the groups that are left pack to, is the whole. The measure is what is left of 12.
 use mathlib.Core.Path.{refl, sym, ap, ◌∙◌}
-use Prim.Native.Nat.{◌*◌, ◌-◌}
+use Prim.Native.Nat.{◌*◌}
 use native.Mathlib.Omega.{arith}
 use lib.ListN.{length-set}
 use borrow.Author.Rules.{rules}
@@ -96,7 +96,7 @@ pub loop-group-smaller : goal.loop-group-smaller
 loop-group-smaller c = omega arith
 
 pub loop-group-preserved : goal.loop-group-preserved
-loop-group-preserved c =     let s = c.args.channels in
+loop-group-preserved c = let s = c.args.channels in
     let g = c.loop-group.group in
     let out = c.loop-group.out in
     let n = c.number_of_channels-n.ensures ∙ sym (ap (packed (fives 8)) (eight_at s (g * 8) (omega arith))) in (
@@ -114,5 +114,5 @@ loop-group-preserved c =     let s = c.args.channels in
     )
 
 pub returns : goal.returns
-returns c =     let s = c.args.channels in
+returns c = let s = c.args.channels in
     sym (c.loop-group.invariant.1.1.1 ∙ run_end 8 5 5 8 12 s refl c.loop-group.invariant.1.1.0 c.requires c.loop-group.out c.loop-group.group (omega arith) c.loop-group.invariant.1.0)

@@ -1,6 +1,6 @@
 -- The invariant: the bytes stored so far are those of the part. The measure is what is left of 256.
 use mathlib.Core.Path.{◌≡◌, sym, ◌∙◌}
-use Prim.Native.Nat.{◌+◌, ◌-◌, ◌<◌}
+use Prim.Native.Nat.{◌+◌, ◌<◌}
 use native.Mathlib.Numerals.{add-one}
 use native.Mathlib.Omega.{arith}
 use lib.ListN.{length, drop, get_or, length-set, length-drop}
@@ -8,7 +8,7 @@ use lib.Seq.{take-suc-set, take-suc, take_all, get_or-drop}
 use Rattle.packing.proofs.part.Goals as goal
 
 pub loop-i-preserved : goal.loop-i-preserved
-loop-i-preserved c =     let s = c.args.bytes.now in
+loop-i-preserved c = let s = c.args.bytes.now in
     let at = c.args.at in
     let d = c.loop-i.out in
     let i = c.loop-i.i in
@@ -25,7 +25,7 @@ loop-i-preserved c =     let s = c.args.bytes.now in
     )
 
 pub returns : goal.returns
-returns c =     let d = c.loop-i.out in
+returns c = let d = c.loop-i.out in
     let i = c.loop-i.i in
     let e : i ≡ 256 = omega arith in
     sym (take_all i d (omega arith)) ∙ c.loop-i.invariant.1.1.1 ∙ rw e

@@ -1,6 +1,6 @@
 -- The invariant: what is unpacked, followed by what the groups that are left unpack to, is the whole. The measure is what is left of 12.
 use mathlib.Core.Path.{refl, sym, ap, ◌∙◌}
-use Prim.Native.Nat.{◌*◌, ◌-◌}
+use Prim.Native.Nat.{◌*◌}
 use native.Mathlib.Omega.{arith}
 use lib.ListN.{length-set}
 use borrow.Author.Rules.{rules}
@@ -96,7 +96,7 @@ pub loop-group-smaller : goal.loop-group-smaller
 loop-group-smaller c = omega arith
 
 pub loop-group-preserved : goal.loop-group-preserved
-loop-group-preserved c =     let s = c.args.bytes.now in
+loop-group-preserved c = let s = c.args.bytes.now in
     let g = c.loop-group.group in
     let out = c.loop-group.channels in
     let n = c.number_of_five-n.ensures ∙ sym (ap (packed (eights 5)) (five_at s (g * 5) (omega arith))) in (
@@ -114,5 +114,5 @@ loop-group-preserved c =     let s = c.args.bytes.now in
     )
 
 pub returns : goal.returns
-returns c =     let s = c.args.bytes.now in
+returns c = let s = c.args.bytes.now in
     sym (c.loop-group.invariant.1.1.1 ∙ run_end 5 8 8 5 12 s refl c.loop-group.invariant.1.1.0 (λ i. (c.shared_slice_known-1.given i).fits) c.loop-group.channels c.loop-group.group (omega arith) c.loop-group.invariant.1.0)

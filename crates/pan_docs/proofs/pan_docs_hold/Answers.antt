@@ -18,22 +18,22 @@ use Rattle.pan_docs.proofs.Transfers.{transfer_registers}
 use Rattle.pan_docs.proofs.pan_docs_hold.Goals as goal
 
 pub returns : goal.returns
-returns c =     record {
-      map = memory_map;
-      addresses = addresses;
-      ones = bits_that_read_one;
-      control = control_bits;
-      ly_is_lyc = ly_is_lyc;
-      colour = colour_registers;
-      transfers = transfer_registers;
-      palettes = palette_bits;
-      timer = timer_bits;
-      interrupts = interrupt_bits;
-      joypad = joypad_bits;
-      rom_only_law = rom_only_rules;
-      mbc1 = mbc1_rules;
-      mbc1_writes = mbc1_writes;
-      mbc2 = mbc2_rules;
-      mbc5 = mbc5_rules;
-      mbc5_writes = mbc5_writes;
-    }
+returns c = record {
+  map = memory_map;
+  addresses = addresses;
+  ones = bits_that_read_one;
+  control = control_bits;
+  ly_is_lyc = ly_is_lyc;
+  colour = colour_registers;
+  transfers = transfer_registers;
+  palettes = palette_bits;
+  timer = timer_bits;
+  interrupts = interrupt_bits;
+  joypad = joypad_bits;
+  rom_only_law = rom_only_rules;
+  mbc1 = mbc1_rules;
+  mbc1_writes = mbc1_writes;
+  mbc2 = mbc2_rules;
+  mbc5 = mbc5_rules;
+  mbc5_writes = mbc5_writes;
+}

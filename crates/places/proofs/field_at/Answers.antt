@@ -11,7 +11,7 @@ pub nonzero_rem-result : goal.nonzero_rem-result
 nonzero_rem-result c = rw (power c.args.width (omega arith)) (pow_pos c.args.width)
 
 pub returns : goal.returns
-returns c =     let l = c.args.bytes.now in
+returns c = let l = c.args.bytes.now in
     let w = c.args.width in
     let bit = c.args.bit in
     let end = (bit + w + 7) / 8 in

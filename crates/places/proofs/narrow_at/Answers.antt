@@ -11,14 +11,14 @@ pub nonzero_rem-result : goal.nonzero_rem-result
 nonzero_rem-result c = rw (power c.args.width (omega arith)) (pow_pos c.args.width)
 
 pub overflow_cast-result : goal.overflow_cast-result
-overflow_cast-result c =     let w = c.args.width in
+overflow_cast-result c = let w = c.args.width in
     let x = c.two_at-n.result / 2 ^ ((c.args.bit + w + 7) / 8 * 8 - (c.args.bit + w)) in
     let a = power_le w 16 (omega arith) in
     let b = mod-lt x (pow_pos w) in
     rw (power w (omega arith)) (record { fits = omega (arith, a, b) })
 
 pub returns : goal.returns
-returns c =     let l = c.args.bytes.now in
+returns c = let l = c.args.bytes.now in
     let w = c.args.width in
     let bit = c.args.bit in
     let end = (bit + w + 7) / 8 in

@@ -7,7 +7,7 @@ use Rattle.places.proofs.Laws.{put_window}
 use Rattle.places.proofs.put_narrow.Goals as goal
 
 pub returns : goal.returns
-returns c =     let l = c.args.bytes.now in
+returns c = let l = c.args.bytes.now in
     let w = c.args.width in
     let bit = c.args.bit in
     let v = c.args.value in

@@ -6,7 +6,7 @@ use Rattle.places.proofs.Puts.{put_joined}
 use Rattle.places.proofs.put_u64.Goals as goal
 
 pub returns : goal.returns
-returns c =     let l = c.args.bytes.now in
+returns c = let l = c.args.bytes.now in
     let bit = c.args.bit in
     let n = c.args.value in
     cc (put_joined l (λ i. (c.slice_known-1.given i).fits) bit 32 32 (n / 2 ^ 32) (n % 2 ^ 32) (omega arith) (omega arith), split n 32)

@@ -10,7 +10,7 @@ use Rattle.put_bytes.specs.Puts.{core_in}
 use Rattle.put_bytes.proofs.put_save.Goals as goal
 
 pub returns-then-full : goal.returns-then-full
-returns-then-full c =     let P = c.requires in
+returns-then-full c = let P = c.requires in
     record {
       mapper = _;
       used = _;
@@ -22,16 +22,16 @@ pub answer-answer-requires : goal.answer-answer-requires
 answer-answer-requires c = let P = c.requires in (rw (c.registers_at-registers.ensures, c.cartridge_at-cartridge.ensures) (mapped_range _ P.0.0), P.1.0)
 
 pub store_answer-more-requires : goal.store_answer-more-requires
-store_answer-more-requires c =     let P = c.requires in (
-      answer_lands _ _ _ _ c.ranges.value.fits (rw (c.registers_at-registers.ensures, ← c.mapper_at-mapper.ensures) at c.answer-answer.ensures) (rw (c.mapper_at-mapper.ensures, c.cartridge_at-cartridge.ensures) P.1.1.0),
-      (has_room _ _ 1 (sym c.full.ensures ∙ c.if-full.false), P.1.1.1),
-    )
+store_answer-more-requires c = let P = c.requires in (
+  answer_lands _ _ _ _ c.ranges.value.fits (rw (c.registers_at-registers.ensures, ← c.mapper_at-mapper.ensures) at c.answer-answer.ensures) (rw (c.mapper_at-mapper.ensures, c.cartridge_at-cartridge.ensures) P.1.1.0),
+  (has_room _ _ 1 (sym c.full.ensures ∙ c.if-full.false), P.1.1.1),
+)
 
 pub put_used-requires : goal.put_used-requires
 put_used-requires c = c.requires.0.0.size
 
 pub returns-then-keeps : goal.returns-then-keeps
-returns-then-keeps c =     let P = c.requires in
+returns-then-keeps c = let P = c.requires in
     record {
       mapper = _;
       used = _;
@@ -47,7 +47,7 @@ pub put_used-requires-2 : goal.put_used-requires-2
 put_used-requires-2 c = let size = c.requires.0.0.size in omega arith
 
 pub returns : goal.returns
-returns c =     let P = c.requires in
+returns c = let P = c.requires in
     let a = c.args in
     record {
       mapper = after (core_in a.image.now).cartridge (core_in a.image.now).mapper a.at a.value;

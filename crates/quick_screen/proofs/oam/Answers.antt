@@ -12,7 +12,7 @@ pub returns-then-out-ne-OAM_LEN : goal.returns-then-out-ne-OAM_LEN
 returns-then-out-ne-OAM_LEN c = oam_length _ (taken _ c.number-number.ensures c.if-number-ne-DONE.false (λ i. (c.shared_slice_known-1.given i).fits)) _ c.if-out-ne-OAM_LEN.true
 
 pub slice_bounds-put-end : goal.slice_bounds-put-end
-slice_bounds-put-end c =     let s = size _ (taken _ c.number-number.ensures c.if-number-ne-DONE.false (λ i. (c.shared_slice_known-1.given i).fits)) in
+slice_bounds-put-end c = let s = size _ (taken _ c.number-number.ensures c.if-number-ne-DONE.false (λ i. (c.shared_slice_known-1.given i).fits)) in
     omega (arith, s)
 
 pub returns : goal.returns

@@ -46,17 +46,17 @@ pub returns-in-Mode : goal.returns-in-Mode
 returns-in-Mode c = number_image _ c.requires (one.Mode _) c.in-Mode.is (omega arith) c.put_u8-in-Mode.ensures
 
 pub returns-in-Delay : goal.returns-in-Delay
-returns-in-Delay c =     let s : SFits w32 c.in-Delay.x = search rules in
+returns-in-Delay c = let s : SFits w32 c.in-Delay.x = search rules in
     number_image _ c.requires (one.Delay _) c.in-Delay.is s (rw (to_z-of_z s) at c.put_signed.ensures)
 
 pub returns-in-Counter : goal.returns-in-Counter
-returns-in-Counter c =     let s : SFits w32 c.in-Counter.x = search rules in
+returns-in-Counter c = let s : SFits w32 c.in-Counter.x = search rules in
     number_image _ c.requires (one.Counter _) c.in-Counter.is s (rw (to_z-of_z s) at c.put_signed-in-Counter.ensures)
 
 pub returns-in-Aux : goal.returns-in-Aux
-returns-in-Aux c =     let s : SFits w32 c.in-Aux.x = search rules in
+returns-in-Aux c = let s : SFits w32 c.in-Aux.x = search rules in
     number_image _ c.requires (one.Aux _) c.in-Aux.is s (rw (to_z-of_z s) at c.put_signed-in-Aux.ensures)
 
 pub returns-in-Window : goal.returns-in-Window
-returns-in-Window c =     let s : SFits w32 c.in-Window.x = search rules in
+returns-in-Window c = let s : SFits w32 c.in-Window.x = search rules in
     number_image _ c.requires (one.Window _) c.in-Window.is s (rw (to_z-of_z s) at c.put_signed-in-Window.ensures)

@@ -6,7 +6,7 @@ use Rattle.quick_writes.proofs.is_quick.Goals as goal
 
 pub returns-then-index-lt65350 : goal.returns-then-index-lt65350
 unfolding quick
-returns-then-index-lt65350 c =     let i = c.args.index in
+returns-then-index-lt65350 c = let i = c.args.index in
     let below = c.if-index-lt65350.true in
     rw (ne_eqb i 0xFF46 (λ e. omega arith), ne_eqb i 0xFF55 (λ e. omega arith))
 

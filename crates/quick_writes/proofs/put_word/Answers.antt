@@ -6,15 +6,15 @@ use Rattle.quick_writes.proofs.WriteLaws.{taken_write}
 use Rattle.quick_writes.proofs.put_word.Goals as goal
 
 pub put_all-requires-2 : goal.put_all-requires-2
-put_all-requires-2 c =     (taken_write (fixed c.args.rom.now c.args.sound.now) (λ k. (c.shared_slice_known-1.given k).fits) (λ k. (c.shared_slice_known-2-1.given k).fits) c.requires.0 c.requires.1
+put_all-requires-2 c = (taken_write (fixed c.args.rom.now c.args.sound.now) (λ k. (c.shared_slice_known-1.given k).fits) (λ k. (c.shared_slice_known-2-1.given k).fits) c.requires.0 c.requires.1
     (λ k. (c.slice_known-2-1.given k).fits) (λ k. (c.slice_known-3-1.given k).fits) (λ k. (c.slice_known-4-1.given k).fits) _ _ (omega arith)
     c.put_all.ensures).0
 
 pub returns : goal.returns
 unfolding word_at
-returns c =     rw (
-      (taken_write (fixed c.args.rom.now c.args.sound.now) (λ k. (c.shared_slice_known-1.given k).fits) (λ k. (c.shared_slice_known-2-1.given k).fits) c.requires.0 c.requires.1
-          (λ k. (c.slice_known-2-1.given k).fits) (λ k. (c.slice_known-3-1.given k).fits) (λ k. (c.slice_known-4-1.given k).fits) _ _ (omega arith)
-          c.put_all.ensures).1,
-      c.next_index-above.ensures,
-    ) at c.put_all-2.ensures
+returns c = rw (
+  (taken_write (fixed c.args.rom.now c.args.sound.now) (λ k. (c.shared_slice_known-1.given k).fits) (λ k. (c.shared_slice_known-2-1.given k).fits) c.requires.0 c.requires.1
+      (λ k. (c.slice_known-2-1.given k).fits) (λ k. (c.slice_known-3-1.given k).fits) (λ k. (c.slice_known-4-1.given k).fits) _ _ (omega arith)
+      c.put_all.ensures).1,
+  c.next_index-above.ensures,
+) at c.put_all-2.ensures

@@ -6,5 +6,5 @@ use Rattle.savelog.proofs.append.Goals as goal
 
 pub returns : goal.returns
 unfolding appended record_bytes
-returns c =     let a = c.args in
+returns c = let a = c.args in
     (c.put_number.ensures ∙ ap (placed a.log.now a.used width) c.record_number.ensures, refl)

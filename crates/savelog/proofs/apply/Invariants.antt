@@ -7,7 +7,7 @@ use Rattle.savelog.specs.Log.{records, all_sound, apply_all}
 use Rattle.savelog.proofs.apply.Given as goal
 
 abbrev pub invariant-loop-i : goal.invariant-loop-i
-invariant-loop-i l =     (l.i ≤ length l.log)
+invariant-loop-i l = (l.i ≤ length l.log)
     × (length l.save ≡ length l.initial.save)
     × (all_sound (length l.initial.save) (records (drop l.i l.log)) ≡ true)
     × (apply_all l.initial.save (records l.log) ≡ apply_all l.save (records (drop l.i l.log)))

@@ -6,7 +6,7 @@ use Rattle.savelog.proofs.Laws.{end_grows, end_fits, number_step, number_end}
 use Rattle.savelog.proofs.number_at.Goals as goal
 
 pub loop-j-init : goal.loop-j-init
-loop-j-init c =     let e : c.args.k - 0 ≡ c.args.k = omega arith in
+loop-j-init c = let e : c.args.k - 0 ≡ c.args.k = omega arith in
     let f : c.args.i + 0 ≡ c.args.i = omega arith in
     (omega arith, omega arith, rw (e, f))
 
@@ -17,7 +17,7 @@ pub overflow_add-n : goal.overflow_add-n
 overflow_add-n c = omega (arith, end_fits c.loop-j.n c.loop-j.j c.loop-j.invariant.1 (omega arith))
 
 pub loop-j-preserved : goal.loop-j-preserved
-loop-j-preserved c =     let a = c.args in
+loop-j-preserved c = let a = c.args in
     let v = c.loop-j in (
       omega arith,
       end_grows v.n v.j c.wide.result v.invariant.1 c.wide.ensures.1,
@@ -25,6 +25,6 @@ loop-j-preserved c =     let a = c.args in
     )
 
 pub returns : goal.returns
-returns c =     let a = c.args in
+returns c = let a = c.args in
     let v = c.loop-j in
     sym (v.invariant.2 ∙ number_end a.log.now a.i v.j a.k v.n (omega arith))

@@ -7,7 +7,7 @@ use Rattle.savelog.proofs.old_fields_of.Goals as goal
 
 pub returns : goal.returns
 unfolding fields_of
-returns c =     let n = c.args.number in
+returns c = let n = c.args.number in
     let q : n / 1 ≡ n = omega arith in
     let z : n % 1 ≡ 0 = omega arith in
     rw (q, z)

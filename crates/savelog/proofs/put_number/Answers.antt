@@ -7,7 +7,7 @@ use Rattle.savelog.proofs.Laws.{placed_step, placed_end}
 use Rattle.savelog.proofs.put_number.Goals as goal
 
 pub loop-j-preserved : goal.loop-j-preserved
-loop-j-preserved c =     let v = c.loop-j.invariant in
+loop-j-preserved c = let v = c.loop-j.invariant in
     let m : c.args.i + c.loop-j.j ≤ length c.loop-j.log = rw v.1 (omega arith) in (
       omega arith,
       length-set c.loop-j.log _ _ ∙ v.1,

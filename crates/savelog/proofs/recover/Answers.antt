@@ -10,18 +10,18 @@ returns-then-not-lengths_fit c = rw (sym c.lengths_fit.ensures ∙ not-true _ c.
 
 pub returns-then-not-sound : goal.returns-then-not-sound
 unfolding recovery
-returns-then-not-sound c =     rw (
-      sym c.lengths_fit.ensures ∙ not-false _ c.if-not-lengths_fit.false-raw,
-      sym c.sound.ensures ∙ not-true _ c.if-not-sound.true-raw,
-    )
+returns-then-not-sound c = rw (
+  sym c.lengths_fit.ensures ∙ not-false _ c.if-not-lengths_fit.false-raw,
+  sym c.sound.ensures ∙ not-true _ c.if-not-sound.true-raw,
+)
 
 pub apply-requires : goal.apply-requires
 apply-requires c = sym c.sound.ensures ∙ not-false _ c.if-not-sound.false-raw
 
 pub returns : goal.returns
 unfolding recovery
-returns c =     rw (
-      sym c.lengths_fit.ensures ∙ not-false _ c.if-not-lengths_fit.false-raw,
-      sym c.sound.ensures ∙ not-false _ c.if-not-sound.false-raw,
-      c.apply.ensures,
-    )
+returns c = rw (
+  sym c.lengths_fit.ensures ∙ not-false _ c.if-not-lengths_fit.false-raw,
+  sym c.sound.ensures ∙ not-false _ c.if-not-sound.false-raw,
+  c.apply.ensures,
+)

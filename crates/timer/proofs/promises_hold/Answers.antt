@@ -6,16 +6,16 @@ use Rattle.timer.proofs.One.{one_update}
 use Rattle.timer.proofs.promises_hold.Goals as goal
 
 pub returns : goal.returns
-returns c =     record {
-      clock_rises = clock_rises;
-      tma_tac_stay = tma_tac_stay;
-      steps_compose = steps_compose;
-      at_once_law = at_once_law;
-      stays_in_range = stays_in_range;
-      calm_before = calm_before;
-      asked_from = asked_from;
-      corner_2 = corner_2;
-      corner_3 = corner_3;
-      steps_at_no_cycles = steps_at_no_cycles;
-      one_update = one_update;
-    }
+returns c = record {
+  clock_rises = clock_rises;
+  tma_tac_stay = tma_tac_stay;
+  steps_compose = steps_compose;
+  at_once_law = at_once_law;
+  stays_in_range = stays_in_range;
+  calm_before = calm_before;
+  asked_from = asked_from;
+  corner_2 = corner_2;
+  corner_3 = corner_3;
+  steps_at_no_cycles = steps_at_no_cycles;
+  one_update = one_update;
+}

@@ -4,7 +4,7 @@ use Rattle.timer.proofs.AtOnce.{before, from, rem_byte}
 use Rattle.timer.proofs.step_tima_by.Goals as goal
 
 pub returns-then-count-first : goal.returns-then-count-first
-returns-then-count-first c =     let a = c.args in
+returns-then-count-first c = let a = c.args in
     let h : a.count < 256 - a.tima = omega arith in
     let e : c.wrapping_add_u8.result ≡ a.tima + a.count = omega arith in
     rw (before a.tima a.tma a.flags a.count h, e)
@@ -13,7 +13,7 @@ pub overflow_cast-since-2 : goal.overflow_cast-since-2
 overflow_cast-since-2 c = record { fits = rem_byte _ _ (omega arith) (omega arith) }
 
 pub returns : goal.returns
-returns c =     let a = c.args in
+returns c = let a = c.args in
     let h : 256 - a.tima ≤ a.count = omega arith in
     let l = mod-lt (a.count - (256 - a.tima)) {m = 256 - a.tma} (omega arith) in
     let e : c.wrapping_add_u8-2.result ≡ a.tma + (a.count - (256 - a.tima)) % (256 - a.tma) = omega arith in

@@ -10,5 +10,5 @@ pub returns-then-cycles-gt65536 : goal.returns-then-cycles-gt65536
 returns-then-cycles-gt65536 c = sym (call_too_long _ _ (omega arith) c.if-cycles-gt65536.true)
 
 pub returns : goal.returns
-returns c =     let a = c.args in
+returns c = let a = c.args in
     rw (call_done a.timer a.cycles (omega arith) (omega arith), c.update_tima-next.ensures, c.update_div-divided.ensures)

@@ -22,18 +22,18 @@ pub loop-i-smaller : goal.loop-i-smaller
 loop-i-smaller c = omega arith
 
 pub loop-i-preserved : goal.loop-i-preserved
-loop-i-preserved c =     let l = c.loop-i in (
-      ap (λ (b : List ℕ). set b l.i 0) l.invariant.0 ∙ fill_more l.i 0 c.args.bytes.now (omega arith),
-      (
-        omega arith,
-        length-set l.bytes l.i 0 ∙ l.invariant.1.1,
-      ),
-    )
+loop-i-preserved c = let l = c.loop-i in (
+  ap (λ (b : List ℕ). set b l.i 0) l.invariant.0 ∙ fill_more l.i 0 c.args.bytes.now (omega arith),
+  (
+    omega arith,
+    length-set l.bytes l.i 0 ∙ l.invariant.1.1,
+  ),
+)
 
 pub shape_of-bytes : goal.shape_of-bytes
 shape_of-bytes c = c.loop-i.invariant.1.1
 
 pub returns : goal.returns
-returns c =     let l = c.loop-i in
+returns c = let l = c.loop-i in
     let e : l.i ≡ length c.args.bytes.now = omega arith in
     rw e at l.invariant.0 ∙ whole c.args.bytes.now

@@ -28,7 +28,7 @@ returns-then-n-ne0-2 c = λ f. absurd (f refl)
 
 pub returns-then-n-ne0 : goal.returns-then-n-ne0
 unfolding ram_banks
-returns-then-n-ne0 c =     let n = c.args.n in
+returns-then-n-ne0 c = let n = c.args.n in
     let most = c.if-n-gt7.false in
     let least : 1 ≤ n / 1048576 % 16 = omega (arith, c.if-log-eq0.false) in
     let log : n / 1048576 % 8 ≡ n / 1048576 % 16 = omega (arith, most) in
@@ -45,7 +45,7 @@ returns-then-n-ne0-5 c = λ f. absurd (f refl)
 
 pub returns-then-n-ne0-3 : goal.returns-then-n-ne0-3
 unfolding ram_banks
-returns-then-n-ne0-3 c =     let n = c.args.n in
+returns-then-n-ne0-3 c = let n = c.args.n in
     let most = c.if-n-gt7.false in
     let least : 1 ≤ n / 1048576 % 16 = omega (arith, c.if-log-eq0.false) in
     let log : n / 1048576 % 8 ≡ n / 1048576 % 16 = omega (arith, most) in
@@ -59,7 +59,7 @@ returns-then-n-ne3 c = λ f. absurd (f refl)
 
 pub returns-then-n-ne0-6 : goal.returns-then-n-ne0-6
 unfolding ram_banks
-returns-then-n-ne0-6 c =     let n = c.args.n in
+returns-then-n-ne0-6 c = let n = c.args.n in
     let most = c.if-n-gt7.false in
     let least : 1 ≤ n / 1048576 % 16 = omega (arith, c.if-log-eq0.false) in
     let log : n / 1048576 % 8 ≡ n / 1048576 % 16 = omega (arith, most) in
@@ -75,7 +75,7 @@ returns-then-n-ne0-7 c = λ f. absurd (f refl)
 
 pub returns : goal.returns
 unfolding ram_banks
-returns c =     let n = c.args.n in
+returns c = let n = c.args.n in
     let most = c.if-n-gt7.false in
     let least : 1 ≤ n / 1048576 % 16 = omega (arith, c.if-log-eq0.false) in
     let log : n / 1048576 % 8 ≡ n / 1048576 % 16 = omega (arith, most) in

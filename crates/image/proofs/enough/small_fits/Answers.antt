@@ -18,7 +18,7 @@ pub returns-then-n-gt3 : goal.returns-then-n-gt3
 returns-then-n-gt3 c = λ z. untrue z
 
 pub returns-then-n-eq0 : goal.returns-then-n-eq0
-returns-then-n-eq0 c =     let n = c.args.n in
+returns-then-n-eq0 c = let n = c.args.n in
     let low : n % 131072 ≡ 256 = c.if-n-ne-ROM_UNIT.false in
     λ z. rom_only_fits n (omega (arith, c.if-n-eq0.true)) (omega (arith, c.if-n-ne1.false)) (omega (arith, low)) (omega (arith, low)) (omega (arith, low)) (omega (arith, low)) (omega (arith, low))
     (other_code _ (n / 131072 % 8) c.if-n-gt3.false (eqb-false (n / 131072 % 8) 1 (not-true (eqb (n / 131072 % 8) 1) z)))
@@ -42,7 +42,7 @@ pub returns-then-log-eq0 : goal.returns-then-log-eq0
 returns-then-log-eq0 c = λ z. untrue z
 
 pub returns : goal.returns
-returns c =     let n = c.args.n in
+returns c = let n = c.args.n in
     let log : n / 1048576 % 8 ≡ n / 1048576 % 16 = omega (arith, c.if-n-gt4.false) in
     let two : n / 16777216 ≡ 2 = c.if-n-ne2.false in
     let kind : n / 16777216 % 4 ≡ 2 = rw two in

@@ -14,6 +14,6 @@ pub returns-then-not-banks_in_range : goal.returns-then-not-banks_in_range
 returns-then-not-banks_in_range c = rw (denied (c.banks_in_range.ensures ∙ ap banks_in_range c.banks_at-banks.ensures) c.if-not-banks_in_range.true-raw)
 
 pub returns : goal.returns
-returns c =     let b = c.banks_at-banks.ensures in
+returns c = let b = c.banks_at-banks.ensures in
     rw (granted (c.banks_in_range.ensures ∙ ap banks_in_range b) c.if-not-banks_in_range.false-raw)
     (c.hdma_in_range.ensures ∙ hdma_same c.hdma_at-hdma.ensures (ap (λ (k : Banks). k.colour) b))

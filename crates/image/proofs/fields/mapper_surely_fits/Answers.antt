@@ -17,7 +17,7 @@ pub returns-then-its-eq-NO_SAVE : goal.returns-then-its-eq-NO_SAVE
 returns-then-its-eq-NO_SAVE c = λ z. untrue z
 
 pub overflow_mul-banks : goal.overflow_mul-banks
-overflow_mul-banks c =     let k = c.mapping_at-n.result / 1048576 % 8 in
+overflow_mul-banks c = let k = c.mapping_at-n.result / 1048576 % 8 in
     rw (shifted_one 64 k (omega arith)) (search (rules, power_le k 7 (omega arith)))
 
 pub returns-then-rom-banks : goal.returns-then-rom-banks

@@ -16,7 +16,7 @@ put_mapping-requires c = (search rules, registers_fit c.args.core c.requires.1)
 
 pub returns : goal.returns
 unfolding mapping_put clock_put
-returns c =     let k = c.args.core in
+returns c = let k = c.args.core in
     c.put_mapping.ensures
     ∙ ap (put (mapping_fields k.mapper k.used))
     (c.put_cartridge.ensures

@@ -10,7 +10,7 @@ use borrow.Author.Rules.{rules}
 use Rattle.image.proofs.fields.put_lcd.Goals as goal
 
 pub returns : goal.returns
-returns c =     let v = c.args.lcd in
+returns c = let v = c.args.lcd in
     let d1 : to_z w32 (of_z w32 v.delay) ≡ v.delay = search (rules, c.struct_told-1.given) in
     let d2 : to_z w32 (of_z w32 v.counter) ≡ v.counter = search (rules, c.struct_told-2-1.given) in
     let d3 : to_z w32 (of_z w32 v.aux) ≡ v.aux = search (rules, c.struct_told-3-1.given) in

@@ -4,5 +4,5 @@ use Rattle.image.proofs.PatchLaws.{registers_put}
 use Rattle.image.proofs.fields.put_registers.Goals as goal
 
 pub returns : goal.returns
-returns c =     let law = registers_put c.args.image.now (λ i. (c.slice_known-1.given i).fits) c.requires.0 c.args.r c.requires.1.0 c.requires.1.1 in
+returns c = let law = registers_put c.args.image.now (λ i. (c.slice_known-1.given i).fits) c.requires.0 c.args.r c.requires.1.0 c.requires.1.1 in
     λ p e. c.put_numbers.ensures ∙ law p e

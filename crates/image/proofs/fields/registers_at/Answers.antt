@@ -10,7 +10,7 @@ pub overflow_cast-result : goal.overflow_cast-result
 overflow_cast-result c = let h = c.mapping_at-n.ensures.1 in omega (arith, h)
 
 pub returns : goal.returns
-returns c =     let n = c.mapping_at-n.result in
+returns c = let n = c.mapping_at-n.result in
     let kind : n / 16777216 ≡ n / 16777216 % 4 = omega (arith, c.mapping_at-n.ensures.1) in
     let high : n % 4 ≡ n / 1 % 4 = omega arith in
     rw (c.bit.ensures, ← bit_forth (n / 4 % 2) (omega arith), kind, high, c.mapping_at-n.ensures.0) (registers_by_law _ c.requires)

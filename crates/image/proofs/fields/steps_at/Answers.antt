@@ -30,7 +30,7 @@ pub overflow_cast-result : goal.overflow_cast-result
 overflow_cast-result c = let h = c.field_at-n.ensures.1 in omega arith
 
 pub returns : goal.returns
-returns c =     let l = c.args.image.now in
+returns c = let l = c.args.image.now in
     let size = c.requires in
     same_range _ _ c.flag_at.ensures
     (rw c.field_at-n.ensures.0 (low_four l _ 52 _ (omega arith) (search arith) (omega arith) refl))

@@ -10,5 +10,5 @@ unfolding stepped_in
 returns-then-count-gt0 c = rw c.step_tima_by-next.ensures
 
 pub returns-else-count-gt0 : goal.returns-else-count-gt0
-returns-else-count-gt0 c =     let e : c.args.count ≡ 0 = omega arith in
+returns-else-count-gt0 c = let e : c.args.count ≡ 0 = omega arith in
     rw e (no_step _ (c.slice_known-1.given 0x105).fits)

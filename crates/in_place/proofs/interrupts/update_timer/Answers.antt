@@ -23,7 +23,7 @@ pub step_tima_by-requires : goal.step_tima_by-requires
 step_tima_by-requires c = simp length-set (size _ c.requires.0)
 
 pub put_clock-requires : goal.put_clock-requires
-put_clock-requires c =     let h = c.requires.0 in
+put_clock-requires c = let h = c.requires.0 in
     let k = rest_below _ h _ c.clock_at-clock.ensures c.count_div-divided.ensures c.periods_in-periods.ensures in
     (c.step_tima_by.auto.image ∙ simp length-set (size _ h), search rules)
 
@@ -31,5 +31,5 @@ pub shape_of-image : goal.shape_of-image
 shape_of-image c = c.put_clock.auto.image ∙ c.step_tima_by.auto.image ∙ simp length-set
 
 pub returns : goal.returns
-returns c =     timer_updated _ c.requires.0 _ c.clock_at-clock.ensures c.count_div-divided.ensures c.periods_in-periods.ensures
+returns c = timer_updated _ c.requires.0 _ c.clock_at-clock.ensures c.count_div-divided.ensures c.periods_in-periods.ensures
     c.step_tima_by.ensures c.put_clock.ensures

@@ -8,24 +8,24 @@ returns-in_default c = rw (← c.from_number-named.ensures, c.in_default.is)
 
 pub returns-then-is_set : goal.returns-then-is_set
 unfolding after_press
-returns-then-is_set c =     rw (
-      ← c.from_number-named.ensures,
-      c.in-Some.is,
-      ← c.bit-bit.ensures.0,
-      ← c.is_set.ensures,
-      c.if-is_set.true,
-      c.unset_bit-down.ensures,
-      c.bit-bit.ensures.0,
-      high_half,
-      low_half,
-    )
+returns-then-is_set c = rw (
+  ← c.from_number-named.ensures,
+  c.in-Some.is,
+  ← c.bit-bit.ensures.0,
+  ← c.is_set.ensures,
+  c.if-is_set.true,
+  c.unset_bit-down.ensures,
+  c.bit-bit.ensures.0,
+  high_half,
+  low_half,
+)
 
 pub returns : goal.returns
 unfolding after_press
-returns c =     rw (
-      ← c.from_number-named.ensures,
-      c.in-Some.is,
-      ← c.bit-bit.ensures.0,
-      ← c.is_set.ensures,
-      c.if-is_set.false,
-    )
+returns c = rw (
+  ← c.from_number-named.ensures,
+  c.in-Some.is,
+  ← c.bit-bit.ensures.0,
+  ← c.is_set.ensures,
+  c.if-is_set.false,
+)

@@ -7,9 +7,9 @@ returns-in_default c = rw (← c.from_number-named.ensures, c.in_default.is)
 
 pub returns : goal.returns
 unfolding after_release
-returns c =     rw (
-      ← c.from_number-named.ensures,
-      c.in-Some.is,
-      c.set_bit-up.ensures,
-      c.bit-bit.ensures.0,
-    )
+returns c = rw (
+  ← c.from_number-named.ensures,
+  c.in-Some.is,
+  c.set_bit-up.ensures,
+  c.bit-bit.ensures.0,
+)

@@ -7,14 +7,14 @@ pub loop-i-init : goal.loop-i-init
 loop-i-init c = (omega arith, (refl, (refl, copied_none c.requires.0 _ _)))
 
 pub copy-requires : goal.copy-requires
-copy-requires c =     let L = c.loop-i.invariant in
+copy-requires c = let L = c.loop-i.invariant in
     let P = c.requires in
     let W = c.wrapping_add_u16-from.ensures.value in
     let T = step_lands _ _ _ _ P.1 L.0 L.1.0 c.loop-i-test.true in
     (lent_vram P.0 L.1.1.0, (rw W T.0, T.1))
 
 pub loop-i-preserved : goal.loop-i-preserved
-loop-i-preserved c =     let C = c.copy in
+loop-i-preserved c = let C = c.copy in
     let W = c.wrapping_add_u16-from.ensures.value in
     let L = c.loop-i.invariant in
     let P = c.requires in
@@ -24,6 +24,6 @@ pub shape_of-vram : goal.shape_of-vram
 shape_of-vram c = c.loop-i.invariant.1.1.0
 
 pub returns : goal.returns
-returns c =     let L = c.loop-i in
+returns c = let L = c.loop-i in
     let e : L.i ≡ c.args.count = omega arith in
     rw (← e) L.invariant.1.1.1

@@ -7,12 +7,12 @@ use Rattle.quick_reads.proofs.BlockLaws.{listed_none, listed_more, listed_all}
 use Rattle.quick_reads.proofs.block.fill.Goals as goal
 
 pub loop-i-init : goal.loop-i-init
-loop-i-init c =     let A = c.args in
+loop-i-init c = let A = c.args in
     let g : ℕ → ℕ = (λ (k : ℕ). read_byte (fixed A.rom.now A.sound.now) (load_call A.image.now).state A.vram.now A.wram.now A.save.now ((A.index + k) % 65536)) in
     (omega arith, (refl, (search rules, listed_none A.out.now g)))
 
 pub loop-i-preserved : goal.loop-i-preserved
-loop-i-preserved c =     let A = c.args in
+loop-i-preserved c = let A = c.args in
     let L = c.loop-i in
     let g : ℕ → ℕ = (λ (k : ℕ). read_byte (fixed A.rom.now A.sound.now) (load_call A.image.now).state A.vram.now A.wram.now A.save.now ((A.index + k) % 65536)) in
     let h : L.i < length L.out = omega arith in
@@ -21,7 +21,7 @@ loop-i-preserved c =     let A = c.args in
     (omega arith, (length-set L.out L.i _ ∙ L.invariant.1.0, (omega arith, listed_more L.out g L.i _ h L.invariant.1.1.1 (rw a at e))))
 
 pub returns : goal.returns
-returns c =     let A = c.args in
+returns c = let A = c.args in
     let L = c.loop-i in
     let g : ℕ → ℕ = (λ (k : ℕ). read_byte (fixed A.rom.now A.sound.now) (load_call A.image.now).state A.vram.now A.wram.now A.save.now ((A.index + k) % 65536)) in
     listed_all L.out g L.i (length A.out.now) L.invariant.1.0 (omega arith) L.invariant.0 L.invariant.1.1.1

@@ -7,7 +7,7 @@ use Rattle.mmu.specs.Access.{read_byte}
 use Rattle.quick_reads.proofs.block.fill.Given as goal
 
 abbrev pub invariant-loop-i : goal.invariant-loop-i
-invariant-loop-i l =     (l.i ≤ length l.initial.out) × ((length l.out ≡ length l.initial.out) × ((l.at ≡ (l.index + l.i) % 65536) × (take l.i l.out ≡ list_of (λ (k : ℕ). read_byte (fixed l.rom l.sound) (load_call l.image).state l.vram l.wram l.save ((l.index + k) % 65536)) l.i)))
+invariant-loop-i l = (l.i ≤ length l.initial.out) × ((length l.out ≡ length l.initial.out) × ((l.at ≡ (l.index + l.i) % 65536) × (take l.i l.out ≡ list_of (λ (k : ℕ). read_byte (fixed l.rom l.sound) (load_call l.image).state l.vram l.wram l.save ((l.index + k) % 65536)) l.i)))
 
 abbrev pub decreases-loop-i : goal.decreases-loop-i
 decreases-loop-i l = length l.initial.out - l.i

@@ -25,7 +25,7 @@ returns-in-255 c = rw c.in-255.is
 
 pub returns-in_default : goal.returns-in_default
 unfolding byte_as
-returns-in_default c =     let r = c.in_default.in_default-own.rest in
+returns-in_default c = let r = c.in_default.in_default-own.rest in
     rw (
       ne_eqb _ 0x04 r.0.0.0.0.1,
       ne_eqb _ 0x0F r.0.0.0.1,

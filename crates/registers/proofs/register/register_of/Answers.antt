@@ -77,7 +77,7 @@ returns-in-112 c = rw c.in-112.is
 
 pub returns-in_default : goal.returns-in_default
 unfolding register_of
-returns-in_default c =     let r = c.in_default.in_default-own.rest in
+returns-in_default c = let r = c.in_default.in_default-own.rest in
     rw (
       le-ltb _ 0x10 c.if-at-lt16.false,
       le-ltb _ 0x40 c.if-at-lt64.false,

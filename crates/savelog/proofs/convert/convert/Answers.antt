@@ -7,11 +7,11 @@ use Rattle.savelog.proofs.Converts.{by_sound}
 use Rattle.savelog.proofs.convert.convert.Goals as goal
 
 pub returns-then-not-has_room : goal.returns-then-not-has_room
-returns-then-not-has_room c =     let a = c.args in
+returns-then-not-has_room c = let a = c.args in
     rw (by_sound a.from a.to a.source.now a.target.now, sym c.has_room.ensures ∙ not-true _ c.if-not-has_room.true-raw)
 
 pub returns-then-not-sound : goal.returns-then-not-sound
-returns-then-not-sound c =     let a = c.args in
+returns-then-not-sound c = let a = c.args in
     rw (
       by_sound a.from a.to a.source.now a.target.now,
       sym c.has_room.ensures ∙ not-false _ c.if-not-has_room.false-raw,
@@ -19,15 +19,15 @@ returns-then-not-sound c =     let a = c.args in
     )
 
 pub write_all-len-requires : goal.write_all-len-requires
-write_all-len-requires c =     let a = c.args in (
-      sym c.has_room.ensures ∙ not-false _ c.if-not-has_room.false-raw,
-      ap (λ (e : ℕ). all_sound e (records_by a.from a.source.now)) (sym c.end.ensures)
-          ∙ sym c.sound.ensures
-          ∙ not-false _ c.if-not-sound.false-raw,
-    )
+write_all-len-requires c = let a = c.args in (
+  sym c.has_room.ensures ∙ not-false _ c.if-not-has_room.false-raw,
+  ap (λ (e : ℕ). all_sound e (records_by a.from a.source.now)) (sym c.end.ensures)
+      ∙ sym c.sound.ensures
+      ∙ not-false _ c.if-not-sound.false-raw,
+)
 
 pub returns : goal.returns
-returns c =     let a = c.args in
+returns c = let a = c.args in
     rw (
       by_sound a.from a.to a.source.now a.target.now,
       sym c.has_room.ensures ∙ not-false _ c.if-not-has_room.false-raw,

@@ -16,20 +16,20 @@ pub nonzero_div-len : goal.nonzero_div-len
 nonzero_div-len c = omega (arith, c.len.ensures, some_width c.args.from)
 
 pub overflow_mul-len : goal.overflow_mul-len
-overflow_mul-len c =     let a = c.args in
+overflow_mul-len c = let a = c.args in
     let h : a.source ≤ log_limit = omega arith in
     rw (c.len.ensures, c.len-2.ensures) (omega (arith, length_bound a.from a.to a.source h))
 
 pub returns-then-len-gt-LOG_LIMIT : goal.returns-then-len-gt-LOG_LIMIT
 unfolding room
-returns-then-len-gt-LOG_LIMIT c =     let a = c.args in
+returns-then-len-gt-LOG_LIMIT c = let a = c.args in
     let h : a.source ≤ log_limit = omega arith in
     let t = c.if-len-gt-LOG_LIMIT.true in
     rw (le-leb a.source log_limit h, lt-leb (length_by a.from a.to a.source) log_limit (rw (c.len.ensures, c.len-2.ensures) at t))
 
 pub returns : goal.returns
 unfolding room
-returns c =     let a = c.args in
+returns c = let a = c.args in
     let h : a.source ≤ log_limit = omega arith in
     let t = c.if-len-gt-LOG_LIMIT.false in
     rw (

@@ -9,7 +9,7 @@ use Rattle.savelog.proofs.Converts.{room_step, room_end, roomy, so_far_step, so_
 use Rattle.savelog.proofs.convert.write_all.Goals as goal
 
 pub loop-i-init : goal.loop-i-init
-loop-i-init c =     let a = c.args in
+loop-i-init c = let a = c.args in
     let z : length a.source.now - 0 ≡ length a.source.now = omega arith in
     (c.len-len.ensures, c.len-more.ensures, omega arith, refl, rw z (omega arith), c.requires.1, refl)
 
@@ -17,13 +17,13 @@ pub record_at-rec-requires : goal.record_at-rec-requires
 record_at-rec-requires c = omega (arith, c.loop-i.invariant.0, c.loop-i.invariant.2)
 
 pub number_of-requires : goal.number_of-requires
-number_of-requires c =     let a = c.args in
+number_of-requires c = let a = c.args in
     let v = c.loop-i in
     let h : v.i + width_of a.from ≤ length a.source.now = omega (arith, v.invariant.0) in
     (sound_next a.from a.source.now v.i h c.record_at-rec.ensures (end_of a.to) v.invariant.5).0
 
 pub put_number-requires : goal.put_number-requires
-put_number-requires c =     let v = c.loop-i in
+put_number-requires c = let v = c.loop-i in
     let s = length c.args.source.now in
     let h : v.i + width_of c.args.from ≤ s = omega (arith, v.invariant.0) in
     let r = roomy c.args.from c.args.to s (length c.args.target.now) c.requires.0 in
@@ -31,7 +31,7 @@ put_number-requires c =     let v = c.loop-i in
     omega (arith, v.invariant.1, v.invariant.3, g.0, r.target)
 
 pub overflow_add-o : goal.overflow_add-o
-overflow_add-o c =     let v = c.loop-i in
+overflow_add-o c = let v = c.loop-i in
     let s = length c.args.source.now in
     let h : v.i + width_of c.args.from ≤ s = omega (arith, v.invariant.0) in
     let r = roomy c.args.from c.args.to s (length c.args.target.now) c.requires.0 in
@@ -39,12 +39,12 @@ overflow_add-o c =     let v = c.loop-i in
     omega (arith, v.invariant.1, g.0, r.log)
 
 pub loop-i-smaller : goal.loop-i-smaller
-loop-i-smaller c =     let a = c.args in
+loop-i-smaller c = let a = c.args in
     let v = c.loop-i in
     omega (arith, v.invariant.0, v.invariant.2, some_width a.from)
 
 pub loop-i-preserved : goal.loop-i-preserved
-loop-i-preserved c =     let a = c.args in
+loop-i-preserved c = let a = c.args in
     let v = c.loop-i in
     let s = a.source.now in
     let h : v.i + width_of a.from ≤ length s = omega (arith, v.invariant.0) in
@@ -67,13 +67,13 @@ loop-i-preserved c =     let a = c.args in
     )
 
 pub overflow_cast-result : goal.overflow_cast-result
-overflow_cast-result c =     let v = c.loop-i in
+overflow_cast-result c = let v = c.loop-i in
     let s = length c.args.source.now in
     let r = roomy c.args.from c.args.to s (length c.args.target.now) c.requires.0 in
     omega (arith, r.log, room_end c.args.from c.args.to s v.i v.o _ (omega (arith, v.invariant.0)) v.invariant.4)
 
 pub returns : goal.returns
-returns c =     let a = c.args in
+returns c = let a = c.args in
     let v = c.loop-i in
     let h : length a.source.now - v.i < width_of a.from = omega (arith, v.invariant.0) in
     let e = room_end a.from a.to (length a.source.now) v.i v.o _ h v.invariant.4 in

@@ -10,7 +10,7 @@ use Rattle.savelog.proofs.Converts.{so_far}
 use Rattle.savelog.proofs.convert.write_all.Given as goal
 
 abbrev pub invariant-loop-i : goal.invariant-loop-i
-invariant-loop-i l =     (l.len ≡ width_of l.from)
+invariant-loop-i l = (l.len ≡ width_of l.from)
     × (l.more ≡ width_of l.to)
     × (l.i ≤ length l.source)
     × (length l.target ≡ length l.initial.target)

@@ -17,7 +17,7 @@ returns-then-r-gt1 c = unlike _ _ (λ e. omega (arith, c.if-r-gt1.true, ap (λ (
 
 pub returns : goal.returns
 unfolding same
-returns c =     let r = c.args.r in
+returns c = let r = c.args.r in
     rw (
       eq-eqb r.kind 1 c.if-r-ne-KIND.false,
       eq-eqb r.rom r.rom refl,
