@@ -1,4 +1,4 @@
-//! Links the library's static archive: from POUCHRATTLE_LIB_DIR, or from where `rt staticlib host` leaves it.
+//! Links the library's static archive: from POUCHRATTLE_LIB_DIR, or from where `tests/prove staticlib host` leaves it.
 
 use std::env;
 use std::path::PathBuf;

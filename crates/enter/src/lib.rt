@@ -1,6 +1,6 @@
 // The C boundary's dispatch: one function over the bus calls, which makes each by its own entry of crate host. Its contract is `entry` (crate
 // entry), which lists of C entries fold (crate boundary), and its proof uses nothing of an entry but its contract: so what is shown of such lists is
-// shown of the entries that a C host links. Nothing of it is exported.
+// shown of the entries, which crate host_c exports to C hosts by a line each (tests/exports).
 #![tactic(auto)]
 
 ghost use Rattle.std.specs.Prelude.{[], ◌≡◌};

@@ -1,5 +1,5 @@
 // What an entry of the C boundary does: decode the image, make the call, encode the state (specs/Entry.antt, specs/Host.antt). It is a definition:
-// the crates quick_reads, quick_writes, quick_state and quick_screen do the same on the image itself, and crate host exports the entries.
+// the crates quick_reads, quick_writes, quick_state and quick_screen do the same on the image itself, crate host has the entries, host_c exports them.
 #![tactic(auto)]
 
 ghost use Rattle.entry.specs.LentLess.{LentLess};
