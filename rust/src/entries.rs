@@ -1,8 +1,8 @@
 //! The C entries, and the only `unsafe` of this crate.
 //!
-//! Why it is sound: an entry (crates/host) takes each slice as a pointer and a length, has no precondition, is proved to read and write
+//! Why it is sound: an entry (crates/host_c, which calls crates/host) takes each slice as a pointer and a length, has no precondition, is proved to read and write
 //! nothing outside what it is lent, and keeps no pointer. Rust's references are valid, and none overlaps one lent as `&mut`. That the
-//! signatures below are those of crates/host/src is tested (tests/signatures.rs).
+//! signatures below are those of crates/host_c/src is tested (tests/signatures.rs).
 
 #![allow(clippy::too_many_arguments)]
 

@@ -1,4 +1,4 @@
-//! src/entries.rs declares what crates/host/src exports, parameter by parameter.
+//! src/entries.rs declares what crates/host_c/src exports, parameter by parameter.
 
 use std::collections::BTreeSet;
 use std::fs;
@@ -18,7 +18,7 @@ fn signatures(text: &str) -> BTreeSet<String> {
 
 #[test]
 fn the_librarys() {
-    let folder = fs::read_dir(format!("{HERE}/../crates/host/src")).unwrap();
+    let folder = fs::read_dir(format!("{HERE}/../crates/host_c/src")).unwrap();
     let exported: String = folder.map(|file| fs::read_to_string(file.unwrap().path()).unwrap()).collect();
     let exported = signatures(&exported);
     let declared = signatures(&fs::read_to_string(format!("{HERE}/src/entries.rs")).unwrap());

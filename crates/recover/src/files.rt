@@ -1,5 +1,5 @@
 // Files: read in parts, and their names. The system takes a name as UTF-8.
-ghost use Rattle.std.specs.Prelude.{◌≡◌, ◌≤◌, length, take, IfOk};
+ghost use Rattle.std.specs.Prelude.{◌≡◌, ◌≤◌, length, take, IfOk, OnErr};
 ghost use Rattle.io.specs.Counts.{IsPrefixLen};
 
 use std::fs;
@@ -46,7 +46,8 @@ pub fn again(file: &mut impl Seek, at: u16) -> Result<()> {
 
 // Reads on until `buf` is full or the file ends: how many bytes came.
 pub fn part(file: &mut impl Read, buf: &mut [u8]) -> Result<usize>
-    ensures { IfOk result (λ n. IsPrefixLen n buf.new) }
+    ensures ok { IfOk result (λ n. IsPrefixLen n buf.new) }
+    ensures err { OnErr result (length buf.new ≡ length buf.old) }
 {
     let mut n = 0;
     while n < buf.len() {
@@ -81,7 +82,8 @@ pub fn copied(from: &[u8], to: &mut [u8]) -> usize
 
 // The name of an open file, whatever spelling or links it was opened by, from the system's list of the open descriptors.
 pub fn name_of(rt: &impl Runtime, file: &impl AsRawFd, out: &mut [u8]) -> Result<usize>
-    ensures { IfOk result (λ n. IsPrefixLen n out.new) }
+    ensures ok { IfOk result (λ n. IsPrefixLen n out.new) }
+    ensures err { OnErr result (length out.new ≡ length out.old) }
 {
     let fd = file.as_raw_fd();
     let link = format!(in rt.alloc(); "/proc/self/fd/{fd}")?;

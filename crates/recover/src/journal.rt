@@ -1,6 +1,6 @@
-// The log's records, read twice from one descriptor and in parts of whole records: first how many bytes they are and where their zeros begin, then
+// The log's records, read twice from one file and in parts of whole records: first how many bytes they are and where their zeros begin, then
 // themselves over the save.
-ghost use Rattle.std.specs.Prelude.{true, ◌≡◌, ◌-◌, ◌≤◌, ◌<◌, min, length, take, IfOk};
+ghost use Rattle.std.specs.Prelude.{true, ◌≡◌, ◌-◌, ◌≤◌, ◌<◌, min, length, take, IfOk, OnErr};
 ghost use Rattle.io.specs.Counts.{IsPrefixLen};
 ghost use Rattle.savelog.specs.Log.{save_lengths, one_of, outcome};
 ghost use Rattle.recover_messages.specs.Journal.{Bounded, journal_limit, kept_of, recovery_by, part_limit, Played, PlayedPart};
@@ -102,7 +102,8 @@ fn play_kept(rt: &impl Runtime, save: &mut [u8], part: &[u8], log: Log, s: Scan,
 // Reads the next part: as many records as one has.
 fn next_part(file: &mut impl Read, form: Form, part: &mut [u8]) -> Result<usize>
     requires { part_limit form ≤ length part.old }
-    ensures { IfOk result (λ n. IsPrefixLen n part.new × (n ≤ part_limit form)) }
+    ensures ok { IfOk result (λ n. IsPrefixLen n part.new × (n ≤ part_limit form)) }
+    ensures err { OnErr result (length part.new ≡ length part.old) }
 {
     let most = journal::bytes_of(form, journal::PART_RECORDS);
     files::part(file, &mut part[..most])

@@ -1,5 +1,5 @@
 // NEW: whether it may be written, and under which name.
-ghost use Rattle.std.specs.Prelude.{true, false, ◌≡◌, length, IfOk};
+ghost use Rattle.std.specs.Prelude.{true, false, ◌≡◌, length, IfOk, OnErr};
 ghost use Rattle.io.specs.Counts.{IsPrefixLen};
 ghost use Rattle.savelog.specs.Log.{save_lengths, one_of};
 ghost use Rattle.recover.specs.Files.{one_file};
@@ -92,7 +92,8 @@ fn opened_name<R: Runtime>(rt: &R, path: &mut [u8], n: usize) -> Result<usize>
 where
     R::File: AsRawFd,
     requires { IsPrefixLen n path.old }
-    ensures { IfOk result (λ m. IsPrefixLen m path.new) }
+    ensures ok { IfOk result (λ m. IsPrefixLen m path.new) }
+    ensures err { OnErr result (length path.new ≡ length path.old) }
 {
     let file = OpenOptions::new()
         .read(true)

@@ -1,5 +1,5 @@
 // SAVE and LOG, the files that are read: opened, and looked at again before anything is renamed.
-ghost use Rattle.std.specs.Prelude.{IfOk};
+ghost use Rattle.std.specs.Prelude.{length, ◌≡◌, IfOk, OnErr};
 ghost use Rattle.io.specs.Counts.{IsPrefixLen};
 
 use crate::told::Told;
@@ -57,7 +57,8 @@ pub fn stands(rt: &impl Runtime, told: Told, i: usize) -> bool {
 
 // The whole file once more.
 fn whole<F: Read + Seek>(file: &mut F, buf: &mut [u8]) -> Result<usize>
-    ensures { IfOk result (λ n. IsPrefixLen n buf.new) }
+    ensures ok { IfOk result (λ n. IsPrefixLen n buf.new) }
+    ensures err { OnErr result (length buf.new ≡ length buf.old) }
 {
     files::again(file, 0)?;
     files::part(file, buf)
