@@ -6,10 +6,12 @@ changes only where it is one of the names that changed. Run once at the top: pyt
 import collections
 import os
 import re
+import subprocess
 import sys
 
 DRY = '--dry' in sys.argv
-KIT = '/opt/rattle/rattle'
+# The kit's own names are left alone: `rt doc` says where it is.
+KIT = os.path.join(os.path.dirname(subprocess.run(['rt', 'doc'], capture_output=True, text=True).stdout.strip()), 'rattle')
 # A name that would fall together with another word of a file of specs/ or proofs/: a lemma gets the ending _law.
 OTHER = {'fieldsIn': 'all_fields_in', 'goesOn': 'does_go_on'}
 NAME = r"[A-Za-z_][\w'·]*(?:-[\w'·]+)*"
