@@ -1,5 +1,5 @@
 // Files: read in parts, and their names. The system takes a name as UTF-8.
-ghost use Rattle.std.specs.Prelude.{◌≡◌, ◌≤◌, length, take, IfOk, OnErr};
+ghost use Rattle.std.specs.Prelude.{◌≡◌, ◌≤◌, length, take, IfOk, OnErr, MatchResult, IsUtf8};
 ghost use Rattle.io.specs.Counts.{IsPrefixLen};
 
 use std::fs;
@@ -27,8 +27,10 @@ pub fn hold_standard(rt: &impl Files<File = File>) {
     hold_one(rt);
 }
 
-// A name as the system takes it.
-pub fn text(name: &[u8]) -> Result<&str> {
+// A name as the system takes it: that name, and refused only where it is not UTF-8.
+pub fn text(name: &[u8]) -> Result<&str>
+    ensures { MatchResult result (λ s. (s.now ≡ name.now) × IsUtf8 name.now) (λ e. IsUtf8 name.now → ⊥) }
+{
     match std::str::from_utf8(name) {
         Ok(text) => Ok(text),
         Err(_) => Err(Error::from(ErrorKind::InvalidFilename)),
