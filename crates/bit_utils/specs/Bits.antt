@@ -1,8 +1,9 @@
 -- Bits of a byte, 0 the lowest (document 01, "The part we take": test, set, clear a bit), in plain arithmetic.
-use Rattle.std.specs.Prelude.{Bool, false, cond, ℕ, ◌+◌, ◌-◌, ◌/◌, ◌%◌, ◌^◌, eqb, ltb}
+use Rattle.std.specs.Prelude.{Bool, false, cond, ℕ, Result, ◌+◌, ◌-◌, ◌/◌, ◌%◌, ◌^◌, eqb, ltb}
 use Rattle.numbers.specs.Numbers.{done, outside}
-use Rattle.bit_utils.specs.declared.Tested.{Tested}
-use Rattle.bit_utils.specs.declared.Changed.{Changed}
+use Rattle.numbers.specs.Refusal.{number_given}
+use Rattle.numbers.specs.declared.Refusal.{Refusal}
+use Rattle.std.specs.Result.{result_unwrap_or}
 
 -- bit n is 1
 unfoldable pub is_set : ℕ → ℕ → Bool
@@ -16,7 +17,22 @@ set_bit byte n = cond (is_set byte n) byte (byte + 2 ^ n)
 unfoldable pub unset_bit : ℕ → ℕ → ℕ
 unset_bit byte n = cond (is_set byte n) (byte - 2 ^ n) byte
 
--- a bit over 7 is refused by 7, and gives 0 (document 01, number 7)
+-- Document 01's number and value for each case of the answer: a bit over 7 is refused by 7, and gives 0
+
+pub record Tested : Type 0 where
+  pub number : ℕ
+  pub set : Bool
+
+pub record Changed : Type 0 where
+  pub number : ℕ
+  pub byte : ℕ
+
+abbrev pub tested_of : Result Bool Refusal → Tested
+tested_of r = record { number = number_given r; set = result_unwrap_or r false }
+
+abbrev pub changed_of : Result ℕ Refusal → Changed
+changed_of r = record { number = number_given r; byte = result_unwrap_or r 0 }
+
 unfoldable pub tested : ℕ → ℕ → Tested
 tested byte n =
     cond (ltb 7 n) (record { number = outside; set = false }) (record { number = done; set = is_set byte n })

@@ -19,7 +19,7 @@ use Rattle.image.proofs.Round.{state_back, image_back}
 use Rattle.image.proofs.StateLaws.{storable_state}
 use Rattle.image.specs.Layout.{image_len, image_of}
 use Rattle.image.specs.Load.{storable, loaded, load_call}
-use Rattle.image.specs.declared.Loaded.{Loaded}
+use Rattle.image.specs.Load.{Loaded}
 use Rattle.memory.specs.Ranges.{state_in_range, in_range}
 use Rattle.memory.specs.World.{World}
 use Rattle.numbers.specs.Numbers.{done, out_of_range}

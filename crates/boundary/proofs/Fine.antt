@@ -11,13 +11,13 @@ use Rattle.interrupt.specs.Flags.{named}
 use Rattle.interrupt.specs.PanDocs.{bit_of}
 use Rattle.interrupt.specs.declared.Interrupt.{Interrupt}
 use Rattle.interrupt.specs.declared.Interrupt.TheVariants.{Vblank, Lcd as LcdLine, Timer as TimerLine, Serial, Joypad}
-use Rattle.interrupt.specs.declared.Pending.{Pending}
-use Rattle.interrupt.specs.declared.Pending.TheVariants.{Some, None}
+use Rattle.std.specs.Prelude.{Option}
+use Rattle.std.specs.Prelude.{Some, None}
 use Rattle.joypad.proofs.Bytes.{press_bytes, release_bytes, update_bytes}
 use Rattle.lcd.proofs.Laws as lcd
 use Rattle.memory.specs.declared.Memory.{Memory}
 use Rattle.refusals.specs.Answers.{changed}
-use Rattle.refusals.specs.declared.Done.{Done}
+use Rattle.refusals.specs.Answers.{Done}
 use Rattle.registers.specs.State.{loaded, timer_of, with_timer, requested_in, removed_in, polled_in}
 use Rattle.rules.proofs.Tests.{cond_both}
 use Rattle.state_calls.specs.State.{on_interrupt}
@@ -53,7 +53,7 @@ module _ {m : Memory} (f : Fine m) where
   unfolding changed
   changed_fine n next = cond_both (λ (d : Done). Fine d.memory) (eqb n 0) next f
 
-  on_interrupt_law : (g : Memory → Interrupt → Memory) → ((i : Interrupt) → Fine (g m i)) → (p : Pending) → Fine (on_interrupt m g p).memory
+  on_interrupt_law : (g : Memory → Interrupt → Memory) → ((i : Interrupt) → Fine (g m i)) → (p : Option Interrupt) → Fine (on_interrupt m g p).memory
   on_interrupt_law g k (Some i) = changed_fine _ (k i)
   on_interrupt_law g k None = changed_fine _ f
 

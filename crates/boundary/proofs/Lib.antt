@@ -3,3 +3,4 @@ pub mod Bytes
 pub mod Entries
 pub mod Fresh
 pub mod Boundary
+pub mod Told

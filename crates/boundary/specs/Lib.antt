@@ -1,3 +1,4 @@
 pub mod Types
 pub mod Held
 pub mod Boundary
+pub mod Told

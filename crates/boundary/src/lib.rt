@@ -2,7 +2,13 @@
 #![tactic(auto)]
 
 ghost use Rattle.boundary.specs.Boundary.{EntryRuns, EntryPromise, EntryBegins, EntryResumed};
+ghost use Rattle.boundary.specs.Told.{Told};
 
 pub fn boundary_holds()
     ensures { EntryRuns × EntryPromise × EntryBegins × EntryResumed }
+{}
+
+// That the contracts of the calls that are lent nothing for writing let one answer through (specs/Told.antt).
+pub fn answers_told()
+    ensures { Told }
 {}

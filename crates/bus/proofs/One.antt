@@ -1,17 +1,14 @@
 -- No second outcome: the parts of what a call leaves.
 use mathlib.Core.Path.{refl}
-use Rattle.numbers.proofs.One.{only_one}
-use Rattle.refusals.specs.declared.Done.{Done}
+use Rattle.numbers.proofs.One.{only_one, answered, answered_back}
+use Rattle.memory.specs.Start.{zeroed}
 use Rattle.bus.specs.Calls.{Outcome, Buffers, buffers}
-use Rattle.bus.specs.Fresh.{Begun, OneStart}
+use Rattle.bus.specs.Fresh.{Begun, OneStart, begun_by}
 
--- the memories of an outcome, and the result of a call that gives no value
+-- the memories of an outcome
 abbrev pub memories : Outcome → Buffers
 memories o = buffers o.after.vram o.after.wram o.after.save o.after.log
 
-abbrev pub done_of : Outcome → Done
-done_of o = record { number = o.number; memory = o.after.state }
-
 pub one_start : OneStart
 one_start kind banks code colour rom v w save log sound =
-    only_one _ (λ (b : Begun). record { number = b.number; memory = b.state }) (λ (b : Begun). (b.vram, b.wram)) (λ r b. refl) (λ r b. refl) _
+    only_one (λ r b. begun_by r b.0 b.1) (λ (b : Begun). answered b.number b.state) (λ (b : Begun). (b.vram, b.wram)) (λ r b. answered_back r zeroed) (λ r b. refl) _

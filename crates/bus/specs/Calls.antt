@@ -5,10 +5,8 @@ use Rattle.memory.specs.declared.Memory.{Memory}
 use Rattle.mmu.specs.Access.{read_in, read_word}
 use Rattle.mmu.specs.PanDocs.{vram_at}
 use Rattle.numbers.specs.Numbers.{done}
-use Rattle.refusals.specs.Answers.{byte_given, word_given}
+use Rattle.refusals.specs.Answers.{Byte, Word, byte_given, word_given}
 use Rattle.refusals.specs.Refusal.{or_else, refused_state, refused_read, vram_length_refused, vram_refused}
-use Rattle.refusals.specs.declared.Byte.{Byte}
-use Rattle.refusals.specs.declared.Word.{Word}
 
 -- the number of a call, the value that it gives, and what it leaves
 pub record Outcome : Type 0 where

@@ -1,12 +1,14 @@
 -- A fresh bus (document 01, "Cartridge and buffers", and numbers 3 and 4).
-use Rattle.std.specs.Prelude.{Bool, cond, List, ◌≡◌, ℕ, eqb, length, replicate}
+use Rattle.std.specs.Prelude.{Bool, cond, List, ◌≡◌, ℕ, eqb, length, replicate, Result}
+use Rattle.std.specs.Result.{result_unwrap_or}
 use Rattle.mbc.specs.Mbc.{fresh}
 use Rattle.memory.specs.Start.{zeroed, started}
 use Rattle.memory.specs.declared.Memory.{Memory}
 use Rattle.numbers.specs.Numbers.{done}
 use Rattle.numbers.specs.One.{OnlyOne}
 use Rattle.refusals.specs.Refusal.{or_else, lent_refused}
-use Rattle.refusals.specs.declared.Done.{Done}
+use Rattle.numbers.specs.Refusal.{number_given}
+use Rattle.numbers.specs.declared.Refusal.{Refusal}
 
 -- the number, the state, and video and work memory as they are left; ROM, save, log and sound window are lent for reading
 pub record Begun : Type 0 where
@@ -38,10 +40,14 @@ fresh_call kind banks code colour rom v w save log sound =
     (fresh_refused (fresh kind banks code).number (started_by kind banks code colour) rom (length v) (length w) save sound log)
     (started_by kind banks code colour) v w
 
+-- the state that it gives is all-zero where it is refused
+abbrev pub begun_by : Result Memory Refusal → List ℕ → List ℕ → Begun
+begun_by r v w = begun (number_given r) (result_unwrap_or r zeroed) v w
+
 -- what is promised of `fresh`: of its result, and of video and work memory as it leaves them
-abbrev pub Starts : ℕ → ℕ → ℕ → Bool → ℕ → List ℕ → List ℕ → ℕ → ℕ → ℕ → Done → List ℕ × List ℕ → Type 0
+abbrev pub Starts : ℕ → ℕ → ℕ → Bool → ℕ → List ℕ → List ℕ → ℕ → ℕ → ℕ → Result Memory Refusal → List ℕ × List ℕ → Type 0
 Starts kind banks code colour rom v w save log sound r left =
-    begun r.number r.memory left.0 left.1 ≡ fresh_call kind banks code colour rom v w save log sound
+    begun_by r left.0 left.1 ≡ fresh_call kind banks code colour rom v w save log sound
 
 -- no second outcome fits
 abbrev pub OneStart : Type 0

@@ -11,6 +11,9 @@ use Rattle.bus_host.specs.declared.host.Lengths.{Lengths}
 unfoldable pub smaller : ℕ → ℕ → ℕ
 smaller a b = cond (ltb a b) a b
 
+abbrev pub lengths : ℕ → ℕ → ℕ → ℕ → Lengths
+lengths r v w s = record { rom = r; vram = v; wram = w; save = s }
+
 -- the lengths that a bus needs ("The whole bus": the save has the length of documents 01 and 02)
 abbrev pub lengths_of : Cartridge → Mapper → Bool → Lengths
 lengths_of c m colour = record { rom = rom_len c; vram = vram_len colour; wram = wram_len colour; save = ram_len c m }

@@ -3,29 +3,22 @@ ghost use Rattle.std.specs.Prelude.{◌≡◌, ◌≤◌, length, take, drop};
 ghost use Rattle.bus.specs.Calls.{outcome};
 ghost use Rattle.dispatch.specs.Step.{step};
 ghost use Rattle.memory.specs.World.{world, fixed};
-ghost use Rattle.bus_host.specs.Host.{smaller, lengths_of, lent_of, lengths_in, heard, lent_parts};
+ghost use Rattle.bus_host.specs.Host.{smaller, lengths, lengths_of, lent_of, lengths_in, heard, lent_parts};
 
 use dispatch::{Call, Performed};
+use lines::line::flag;
 use lines::pattern;
 use mbc::{Cartridge, Mapper};
 use memory::Memory;
-use refusals::Done;
+use numbers::Refusal;
 
+// Of the memories of which a part may be lent. The log and the sound window, of which crate refusals has the length too, are lent whole.
 #[derive(Clone, Copy)]
 pub struct Lengths {
     pub rom: usize,
     pub vram: usize,
     pub wram: usize,
     pub save: usize,
-}
-
-pub fn least(a: usize, b: usize) -> usize
-    ensures { (result ≡ smaller a b) × ((result ≤ a) × (result ≤ b)) }
-{
-    if a < b {
-        return a;
-    }
-    b
 }
 
 fn lengths_of(cartridge: Cartridge, mapper: Mapper, colour: bool) -> Lengths
@@ -39,36 +32,43 @@ fn lengths_of(cartridge: Cartridge, mapper: Mapper, colour: bool) -> Lengths
     }
 }
 
-// The lengths that a bus needs, as far as there are so many bytes. What is too short is refused by its length.
-fn lent(needs: Lengths, rom: usize, vram: usize, wram: usize, save: usize) -> Lengths
-    ensures { (result ≡ lent_of needs rom vram wram save) × ((result.rom ≤ rom) × ((result.vram ≤ vram) × ((result.wram ≤ wram) × (result.save ≤ save)))) }
-{
-    Lengths {
-        rom: least(needs.rom, rom),
-        vram: least(needs.vram, vram),
-        wram: least(needs.wram, wram),
-        save: least(needs.save, save),
+impl Lengths {
+    // The lengths of these.
+    pub fn of(rom: &[u8], vram: &[u8], wram: &[u8], save: &[u8]) -> Lengths
+        ensures { result ≡ lengths (length rom.now) (length vram.now) (length wram.now) (length save.now) }
+    {
+        Lengths {
+            rom: rom.len(),
+            vram: vram.len(),
+            wram: wram.len(),
+            save: save.len(),
+        }
+    }
+
+    // The lengths that a bus needs, as far as there are so many bytes. What is too short is refused by its length.
+    #[tactic(auto, unfolding(crate::specs::Host::smaller))]
+    fn lent(self, there: Lengths) -> Lengths
+        ensures { (result ≡ lent_of self there.rom there.vram there.wram there.save) × ((result.rom ≤ there.rom) × ((result.vram ≤ there.vram) × ((result.wram ≤ there.wram) × (result.save ≤ there.save)))) }
+    {
+        Lengths {
+            rom: self.rom.min(there.rom),
+            vram: self.vram.min(there.vram),
+            wram: self.wram.min(there.wram),
+            save: self.save.min(there.save),
+        }
     }
 }
 
 // The same for a bus at hand.
-pub fn lengths_in(memory: Memory, rom: usize, vram: usize, wram: usize, save: usize) -> Lengths
-    ensures { (result ≡ lengths_in memory rom vram wram save) × ((result.rom ≤ rom) × ((result.vram ≤ vram) × ((result.wram ≤ wram) × (result.save ≤ save)))) }
+pub fn lengths_in(memory: Memory, there: Lengths) -> Lengths
+    ensures { (result ≡ lengths_in memory there.rom there.vram there.wram there.save) × ((result.rom ≤ there.rom) × ((result.vram ≤ there.vram) × ((result.wram ≤ there.wram) × (result.save ≤ there.save)))) }
 {
     let core = memory.core;
-    let cartridge = core.cartridge;
-    let mapper = core.mapper;
-    let kind = core.banks;
-    lent(
-        lengths_of(cartridge, mapper, kind.colour),
-        rom,
-        vram,
-        wram,
-        save,
-    )
+    let needs = lengths_of(core.cartridge, core.mapper, core.banks.colour);
+    needs.lent(there)
 }
 
-// One call, on the memories of this bus.
+// One call, on the memories of this bus. What is lent stays a parameter each, as in `mmu::write_byte`.
 pub fn perform(
     memory: Memory,
     rom: &[u8],
@@ -81,31 +81,28 @@ pub fn perform(
 ) -> Performed
     ensures { let n = lengths_in memory (length rom.now) (length vram.old) (length wram.old) (length save.old) in (outcome result.number result.value (lent_parts n (world result.memory vram.new wram.new save.new log.new)) ≡ step (fixed (take n.rom rom.now) sound.now) (lent_parts n (world memory vram.old wram.old save.old log.old)) call) × ((drop n.vram vram.new ≡ drop n.vram vram.old) × ((drop n.wram wram.new ≡ drop n.wram wram.old) × (drop n.save save.new ≡ drop n.save save.old))) }
 {
-    let n = lengths_in(memory, rom.len(), vram.len(), wram.len(), save.len());
-    let r = n.rom;
-    let v = n.vram;
-    let w = n.wram;
-    let s = n.save;
+    let there = Lengths::of(rom, vram, wram, save);
+    let n = lengths_in(memory, there);
     dispatch::perform(
         memory,
-        &rom[..r],
-        &mut vram[..v],
-        &mut wram[..w],
-        &mut save[..s],
+        &rom[..n.rom],
+        &mut vram[..n.vram],
+        &mut wram[..n.wram],
+        &mut save[..n.save],
         log,
         sound,
         call,
     )
 }
 
-// Takes the 48 bytes of the sound window that stand from `from` on.
-pub fn hear(given: [u8; 54], from: usize, sound: &mut [u8])
-    requires { from ≤ 6 }
-    ensures { sound.new ≡ heard given from sound.old }
+// Takes the 48 bytes of the sound window, which `given` begins with: what stands before them in a line's input is cut off by who calls.
+#[tactic(auto, unfolding(crate::specs::Host::smaller))]
+pub fn hear(given: &[u8], sound: &mut [u8])
+    requires { 48 ≤ length given.now }
+    ensures { sound.new ≡ heard given.now 0 sound.old }
 {
-    let n = least(48, sound.len());
-    let to = from + n;
-    sound[..n].copy_from_slice(&given[from..to]);
+    let n = sound.len().min(48);
+    sound[..n].copy_from_slice(&given[..n]);
 }
 
 // What N says of a bus: mapper, log2 N, RAM code, colour. The log's length stands between these and the sound window.
@@ -117,12 +114,18 @@ struct Description {
     colour: bool,
 }
 
-fn described(given: [u8; 54]) -> Description {
-    Description {
-        kind: given[0],
-        banks: Cartridge::banks_of(given[1]),
-        code: given[2],
-        colour: given[3] == 1,
+// Colour is a flag.
+impl TryFrom<[u8; 54]> for Description {
+    type Error = Refusal;
+
+    fn try_from(given: [u8; 54]) -> Result<Self, Refusal> {
+        let [kind, log, code, colour, ..] = given;
+        Ok(Description {
+            kind,
+            banks: Cartridge::banks_of(log),
+            code,
+            colour: flag(colour)?,
+        })
     }
 }
 
@@ -134,31 +137,26 @@ fn begin(
     save: &[u8],
     log: &[u8],
     sound: &[u8],
-) -> Done {
-    let made = Mapper::fresh(d.kind, d.banks, d.code);
-    let cartridge = made.cartridge;
-    let mapper = made.mapper;
+) -> Result<Memory, Refusal> {
+    let (cartridge, mapper) = Mapper::fresh(d.kind, d.banks, d.code)?;
+    let there = Lengths::of(rom, vram, wram, save);
     let needs = lengths_of(cartridge, mapper, d.colour);
-    let n = lent(needs, rom.len(), vram.len(), wram.len(), save.len());
-    let r = n.rom;
-    let v = n.vram;
-    let w = n.wram;
-    let s = n.save;
+    let n = needs.lent(there);
     bus::fresh::fresh(
         d.kind,
         d.banks,
         d.code,
         d.colour,
-        &rom[..r],
-        &mut vram[..v],
-        &mut wram[..w],
-        &save[..s],
+        &rom[..n.rom],
+        &mut vram[..n.vram],
+        &mut wram[..n.wram],
+        &save[..n.save],
         log,
         sound,
     )
 }
 
-// A fresh bus as N describes it, with save and sound window as the list says. Colour is a flag.
+// A fresh bus as N describes it, with save and sound window as the list says.
 pub fn fresh(
     given: [u8; 54],
     rom: &[u8],
@@ -167,15 +165,9 @@ pub fn fresh(
     save: &mut [u8],
     log: &[u8],
     sound: &mut [u8],
-) -> Done {
-    if 1 < given[3] {
-        return Done {
-            number: numbers::OUTSIDE,
-            memory: memory::zero(),
-        };
-    }
-    let d = described(given);
-    hear(given, 6, sound);
+) -> Result<Memory, Refusal> {
+    let d = Description::try_from(given)?;
+    hear(&given[6..], sound);
     pattern::fill_save(save);
     begin(d, rom, vram, wram, save, log, sound)
 }

@@ -1,77 +1,51 @@
 // The line that answers, with its line feed: letter and index as they were asked (no index for T), then the byte or the call's number; else `?`.
-ghost use Rattle.std.specs.Prelude.{◌<◌};
+ghost use Rattle.std.specs.Prelude.{◌≡◌, ◌<◌, ◌≤◌, length};
 ghost use Rattle.commands.specs.Walk.{Shows, read_text, write_text, update_text, strange_text};
 
-use lines::line::hex_digit;
-use lines::number::{high, low};
+use crate::bytes::Bytes;
+use lines::line::pair;
 
-// The first `size` bytes.
-#[derive(Clone, Copy)]
-pub struct Text {
-    pub bytes: [u8; 10],
-    pub size: usize,
+// Digit by digit, and not by `write!`: this promises the text only where it answers `Ok`, and `Shows` does so always.
+pub type Text = Bytes<10>;
+
+fn text(bytes: &[u8]) -> Text
+    requires { length bytes.now ≤ 10 }
+    ensures { Shows result bytes.now }
+{
+    let mut text = Text::new();
+    text.put(bytes);
+    text
 }
 
 pub fn read(index: u16, value: u8) -> Text
     ensures { Shows result (read_text index value) }
 {
-    let h = high(index);
-    let l = low(index);
-    Text {
-        bytes: [
-            b'R',
-            b' ',
-            hex_digit(h / 16),
-            hex_digit(h % 16),
-            hex_digit(l / 16),
-            hex_digit(l % 16),
-            b' ',
-            hex_digit(value / 16),
-            hex_digit(value % 16),
-            b'\n',
-        ],
-        size: 10,
-    }
+    let [high, low] = index.to_be_bytes();
+    let [a, b] = pair(high);
+    let [c, d] = pair(low);
+    let [e, f] = pair(value);
+    text(&[b'R', b' ', a, b, c, d, b' ', e, f, b'\n'])
 }
 
 pub fn write(index: u16, number: u8) -> Text
     requires { number < 10 }
     ensures { Shows result (write_text index number) }
 {
-    let h = high(index);
-    let l = low(index);
-    Text {
-        bytes: [
-            b'W',
-            b' ',
-            hex_digit(h / 16),
-            hex_digit(h % 16),
-            hex_digit(l / 16),
-            hex_digit(l % 16),
-            b' ',
-            b'0' + number,
-            b'\n',
-            0,
-        ],
-        size: 9,
-    }
+    let [high, low] = index.to_be_bytes();
+    let [a, b] = pair(high);
+    let [c, d] = pair(low);
+    text(&[b'W', b' ', a, b, c, d, b' ', b'0' + number, b'\n'])
 }
 
 pub fn update(number: u8) -> Text
     requires { number < 10 }
     ensures { Shows result (update_text number) }
 {
-    Text {
-        bytes: [b'T', b' ', b'0' + number, b'\n', 0, 0, 0, 0, 0, 0],
-        size: 4,
-    }
+    text(&[b'T', b' ', b'0' + number, b'\n'])
 }
 
 pub fn strange() -> Text
     ensures { Shows result strange_text }
 {
-    Text {
-        bytes: [b'?', b'\n', 0, 0, 0, 0, 0, 0, 0, 0],
-        size: 2,
-    }
+    text(b"?\n")
 }

@@ -6,15 +6,16 @@ ghost use Rattle.copies.specs.PanDocs.{vram_end};
 ghost use Rattle.copies.specs.Copies.{nothing, oam_copy, landed, Bounded};
 
 // Which registers a copy sets at its end.
-#[derive(Clone, Copy)]
+#[derive(Clone, Copy, Debug, PartialEq, Eq)]
 pub enum Finish {
     Nothing,
     Block,
     General,
 }
 
-// `count` bytes from `source` on, each to the next place from `destination` on.
-#[derive(Clone, Copy)]
+// `count` bytes from `source` on, each to the next place from `destination` on. Where it may write, `Bounded`, is a clause and no ghost field: the definitions
+// here and of the registers make such records from what Pan Docs say, for any number, and each would carry a proof.
+#[derive(Clone, Copy, Debug, PartialEq, Eq)]
 pub struct Copy {
     pub source: u16,
     pub destination: u16,
@@ -22,6 +23,7 @@ pub struct Copy {
     pub finish: Finish,
 }
 
+// A copy of no bytes, and no `None`: the definitions `nothing` and `oam_copy`, which clauses of public calls cite, are copies.
 pub fn no_copy() -> Copy
     ensures { (result ≡ nothing) × Bounded result }
 {
@@ -34,6 +36,7 @@ pub fn no_copy() -> Copy
 }
 
 // OAM DMA: pages 00..DF copy 160 bytes, the others none. (The Rust's also leaves out 00..7F.)
+#[tactic(auto, unfolding(crate::specs::Copies::oam_copy))]
 pub fn oam_copy(page: u8) -> Copy
     ensures { (result ≡ oam_copy page) × Bounded result }
 {
@@ -54,8 +57,5 @@ pub fn landing(destination: u16, length: u16) -> u16
     ensures { (result ≡ landed destination length) × (destination + result ≤ vram_end) }
 {
     let room = 0xA000 - destination;
-    if length < room {
-        return length;
-    }
-    room
+    length.min(room)
 }

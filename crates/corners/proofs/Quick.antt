@@ -18,7 +18,7 @@ use Rattle.mmu.specs.Write.{write_at, transferred}
 use Rattle.numbers.specs.Numbers.{done}
 use Rattle.refusals.specs.Answers.{changed, byte_given}
 use Rattle.refusals.specs.Refusal.{or_else, byte_room, byte_owed, cycles_refused}
-use Rattle.refusals.specs.declared.Done.{Done}
+use Rattle.refusals.specs.Answers.{Done}
 use Rattle.registers.proofs.Kept.{Kept, kept_refl, timer_kept, controller_kept, polled_kept}
 use Rattle.registers.specs.State.{timer_of, with_timer, with_controller, polled_in}
 use Rattle.registers.specs.Transfers.{block_copy}

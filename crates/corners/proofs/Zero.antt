@@ -9,8 +9,8 @@ use Rattle.dispatch.specs.declared.StateCall.{StateCall}
 use Rattle.dispatch.specs.declared.StateCall.TheVariants as on
 use Rattle.interrupt.specs.Flags.{named}
 use Rattle.interrupt.specs.declared.Interrupt.{Interrupt}
-use Rattle.interrupt.specs.declared.Pending.{Pending}
-use Rattle.interrupt.specs.declared.Pending.TheVariants.{Some, None}
+use Rattle.std.specs.Prelude.{Option}
+use Rattle.std.specs.Prelude.{Some, None}
 use Rattle.mbc.specs.Mbc as mbc
 use Rattle.memory.proofs.Laws.{zero_refused}
 use Rattle.memory.specs.Start.{zeroed}
@@ -29,7 +29,7 @@ unfolding state_refused
 state_closed m e limit = rw (e, zero_refused limit)
 
 module _ (m : Memory) (h : refused_state m ≡ out_of_range) where
-  interrupt_closed : (f : Memory → Interrupt → Memory) (p : Pending) → performed_done (on_interrupt m f p) ≡ performed out_of_range 0 m
+  interrupt_closed : (f : Memory → Interrupt → Memory) (p : Option Interrupt) → performed_done (on_interrupt m f p) ≡ performed out_of_range 0 m
   unfolding changed or_else
   interrupt_closed f (Some i) = rw h
   interrupt_closed f None = rw h

@@ -10,7 +10,7 @@ use borrow.Author.Tests.{eqb-false, eqb-true, leb-true, le-leb}
 use Rattle.bus.proofs.Passes.{lengths_pass}
 use Rattle.bus.specs.Fresh.{Begun, begun, started_by, fresh_refused, beginning}
 use Rattle.mbc.specs.Mbc as mbc
-use Rattle.mbc.specs.declared.mbc.Fresh.{Fresh}
+use Rattle.mbc.specs.Mbc.{Fresh}
 use Rattle.memory.proofs.Laws.{fresh_range}
 use Rattle.memory.specs.Start.{zeroed, started as startedWith}
 use Rattle.memory.specs.World.{world}

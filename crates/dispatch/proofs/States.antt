@@ -5,18 +5,14 @@ use Prim.Native.Nat.{ℕ, ◌%◌}
 use lib.Dec.{eqb}
 use Rattle.interrupt.specs.PanDocs.{first_of}
 use Rattle.interrupt.specs.declared.Interrupt.{Interrupt}
-use Rattle.interrupt.specs.declared.Pending.{Pending}
-use Rattle.interrupt.specs.declared.Pending.TheVariants.{Some, None}
+use Rattle.std.specs.Prelude.{Option, Some, None}
 use Rattle.interrupt.specs.Flags.{named}
 use Rattle.joypad.specs.Joypad as joypad
 use Rattle.lcd.specs.Lcd.{screen_enabled, screen_disabled, window_line_reset, ly_compared, scanline_written, lyc_written, control_written, status_written}
 use Rattle.memory.specs.declared.Memory.{Memory}
 use Rattle.numbers.specs.Numbers.{outside}
-use Rattle.refusals.specs.Answers.{changed, byte_given, flag_given, waiting_given}
+use Rattle.refusals.specs.Answers.{Byte, Flag, Waiting, changed, byte_given, flag_given, waiting_given}
 use Rattle.refusals.specs.Refusal.{or_else, raw_refused, refused_state}
-use Rattle.refusals.specs.declared.Byte.{Byte}
-use Rattle.refusals.specs.declared.Flag.{Flag}
-use Rattle.refusals.specs.declared.Waiting.{Waiting}
 use Rattle.registers.proofs.Kept.{
   Kept,
   kept_refl,
@@ -50,7 +46,7 @@ unfolding flag_given
 flag_zero n v =
     by_cond (λ (b : Flag). refused b.number ≡ true → flag_number b.value ≡ 0) (eqb n 0) _ _ (λ t. untrue) (λ f e. refl)
 
-waiting_zero : (n : ℕ) (p : Pending) → refused (waiting_given n p).number ≡ true → waiting_number (waiting_given n p) ≡ 0
+waiting_zero : (n : ℕ) (p : Option Interrupt) → refused (waiting_given n p).number ≡ true → waiting_number (waiting_given n p) ≡ 0
 unfolding waiting_given
 waiting_zero n p =
     by_cond (λ (b : Waiting). refused b.number ≡ true → waiting_number b ≡ 0) (eqb n 0) _ _ (λ t. untrue) (λ f e. rw f)
@@ -61,7 +57,7 @@ pub data Answers (m : Memory) : Kind → Performed → Type 0 where
   changes : (n : ℕ) {next : Memory} → Kept m next → Answers m Other (performed_done (changed n m next))
   clears : Answers m Clearing (performed_done (clear_log_call m))
 
-on_interrupt_law : (m : Memory) (f : Memory → Interrupt → Memory) → ((i : Interrupt) → Kept m (f m i)) → (p : Pending)
+on_interrupt_law : (m : Memory) (f : Memory → Interrupt → Memory) → ((i : Interrupt) → Kept m (f m i)) → (p : Option Interrupt)
     → Answers m Other (performed_done (on_interrupt m f p))
 on_interrupt_law m f k (Some i) = changes (refused_state m) (k i)
 on_interrupt_law m f k None = changes (or_else (refused_state m) outside) (kept_refl m)

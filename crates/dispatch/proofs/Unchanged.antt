@@ -10,10 +10,8 @@ use Rattle.memory.specs.World.{World, with_used}
 use Rattle.memory.specs.declared.Memory.{Memory}
 use Rattle.mmu.specs.Access.{read_in, read_word}
 use Rattle.mmu.specs.PanDocs.{vram_at}
-use Rattle.refusals.specs.Answers.{changed, word_given}
+use Rattle.refusals.specs.Answers.{Done, Word, changed, word_given}
 use Rattle.refusals.specs.Refusal.{or_else, refused_read, vram_length_refused, vram_refused, refused_state}
-use Rattle.refusals.specs.declared.Done.{Done}
-use Rattle.refusals.specs.declared.Word.{Word}
 use Rattle.rules.proofs.Tests.{untrue, by_cond}
 use Rattle.savelog.specs.Log.{cleared_use}
 use Rattle.dispatch.specs.declared.Call.TheVariants as call

@@ -1,23 +1,24 @@
 -- The calls of the bus as one function on worlds: number, value, and what is left (document 01, "How much a contract must say"). Lists of calls fold it
 -- (crate promise).
-use Rattle.std.specs.Prelude.{Bool, cond, ◌≡◌, ℕ, eqb}
+use Rattle.std.specs.Prelude.{Bool, cond, ◌≡◌, ℕ, eqb, Option, Some, None, Result, Ok, Err}
 use Rattle.bus.specs.Calls.{Outcome, outcome, Buffers, holding, read_byte_call, read_word_call, read_cgb_lcd_ram_call}
 use Rattle.input_calls.specs.Input as input
 use Rattle.interrupt.specs.PanDocs.{bit_of}
-use Rattle.interrupt.specs.declared.Pending.{Pending}
-use Rattle.interrupt.specs.declared.Pending.TheVariants as pending
+use Rattle.interrupt.specs.declared.Interrupt.{Interrupt}
 use Rattle.memory.specs.World.{World, Fixed}
 use Rattle.memory.specs.declared.Memory.{Memory}
 use Rattle.mmu.specs.Access.{in_state}
 use Rattle.numbers.specs.Numbers.{done}
 use Rattle.numbers.specs.One.{OnlyOne}
-use Rattle.refusals.specs.declared.Done.{Done}
-use Rattle.refusals.specs.declared.Flag.{Flag}
-use Rattle.refusals.specs.declared.Waiting.{Waiting}
+use Rattle.numbers.specs.Refusal.{owed_number, refusal_number}
+use Rattle.numbers.specs.declared.Refusal.{Refusal}
+use Rattle.refusals.specs.Answers.{Done, Flag, Waiting}
 use Rattle.screen_calls.specs.Screen as screen
 use Rattle.state_calls.specs.State as state
 use Rattle.transfer_calls.specs.Transfers.{do_dma_transfer_call, do_hdma_call}
 use Rattle.write_calls.specs.Writes.{write_byte_call, write_word_call}
+use Rattle.transfer_calls.specs.declared.Moved.{Moved}
+use Rattle.write_calls.specs.declared.Wrote.{Wrote}
 use Rattle.dispatch.specs.declared.Performed.{Performed}
 use Rattle.dispatch.specs.declared.Call.{Call}
 use Rattle.dispatch.specs.declared.Call.TheVariants as call
@@ -29,9 +30,9 @@ use Rattle.dispatch.specs.declared.StateCall.TheVariants as on
 abbrev pub flag_number : Bool → ℕ
 flag_number b = cond b 1 0
 
-abbrev pub pending_number : Pending → ℕ
-pending_number (pending.Some i) = bit_of i
-pending_number pending.None = 5
+abbrev pub pending_number : Option Interrupt → ℕ
+pending_number (Some i) = bit_of i
+pending_number None = 5
 
 -- a refused question gives 0, and the number tells it from Vblank
 abbrev pub waiting_number : Waiting → ℕ
@@ -45,6 +46,16 @@ performed_done d = performed d.number 0 d.memory
 
 abbrev pub performed_flag : Memory → Flag → Performed
 performed_flag m b = performed b.number (flag_number b.value) m
+
+-- a refused call gives 0 and leaves the state as it was
+
+abbrev pub performed_wrote : Memory → Result Wrote Refusal → Performed
+performed_wrote m (Ok r) = performed (owed_number r.owed) 0 r.memory
+performed_wrote m (Err e) = performed (refusal_number e) 0 m
+
+abbrev pub performed_moved : Memory → Result Moved Refusal → Performed
+performed_moved m (Ok r) = performed done r.cycles r.memory
+performed_moved m (Err e) = performed (refusal_number e) 0 m
 
 -- a call on the state alone leaves the lent memories
 abbrev pub in_world : World → Performed → Outcome

@@ -27,39 +27,29 @@ pub struct Entered {
 fn of_number(number: u8) -> Entered
     ensures { result ≡ entered number 0 }
 {
-    Entered {
-        number: number,
-        value: 0,
-    }
+    Entered { number, value: 0 }
 }
 
 fn of_value(number: u8, value: u16) -> Entered
     ensures { result ≡ entered number value }
 {
-    Entered {
-        number: number,
-        value: value,
-    }
+    Entered { number, value }
 }
 
 // The eight numbers one by one.
 fn enter_host(image: &mut [u8], lcd: Lcd) -> u8
     ensures { Changes image.old (Host lcd) result image.new }
 {
-    let delay = lcd.delay;
-    let counter = lcd.counter;
-    let aux = lcd.aux;
-    let window = lcd.window;
     state::pouch_host(
         image,
         lcd.disabled,
         lcd.line,
         lcd.signal,
         lcd.mode,
-        delay,
-        counter,
-        aux,
-        window,
+        lcd.delay,
+        lcd.counter,
+        lcd.aux,
+        lcd.window,
     )
 }
 
@@ -135,7 +125,7 @@ pub fn enter(
         Call::ReadByte(i) => {
             let mut value = 0;
             let number = lent::pouch_read_byte(image, rom, vram, wram, save, sound, i, &mut value);
-            of_value(number, value as u16)
+            of_value(number, u16::from(value))
         }
         Call::ReadWord(i) => {
             let mut value = 0;
@@ -145,7 +135,7 @@ pub fn enter(
         Call::ReadCgbLcdRam(i, bank) => {
             let mut value = 0;
             let number = lent::pouch_read_cgb_lcd_ram(image, vram, i, bank, &mut value);
-            of_value(number, value as u16)
+            of_value(number, u16::from(value))
         }
         Call::WriteByte(i, v) => of_number(lent::pouch_write_byte(
             image, rom, vram, wram, save, log, sound, i, v,

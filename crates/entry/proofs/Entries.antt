@@ -14,14 +14,14 @@ use Rattle.dispatch.specs.declared.Performed.{Performed}
 use Rattle.dispatch.specs.declared.StateCall.{StateCall}
 use Rattle.image.specs.Layout.{image_len, image_of}
 use Rattle.image.specs.Load.{load_call}
-use Rattle.image.specs.declared.Loaded.{Loaded}
+use Rattle.image.specs.Load.{Loaded}
 use Rattle.mbc.specs.Mbc as mbc
-use Rattle.mbc.specs.declared.mbc.ReadByte.{ReadByte}
-use Rattle.mbc.specs.declared.mbc.WriteByte.{WriteByte}
+use Rattle.mbc.specs.Answers.{ReadByte}
+use Rattle.mbc.specs.Answers.{WriteByte}
 use Rattle.memory.specs.World.{world, Fixed, with_mapper}
 use Rattle.memory.specs.declared.Memory.{Memory}
-use Rattle.refusals.specs.declared.Byte.{Byte}
-use Rattle.refusals.specs.declared.Word.{Word}
+use Rattle.refusals.specs.Answers.{Byte}
+use Rattle.refusals.specs.Answers.{Word}
 use Rattle.entry.specs.Entry.{
   changed,
   encoded,

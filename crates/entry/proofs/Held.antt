@@ -15,10 +15,22 @@ use Rattle.in_place.proofs.Images.{state}
 use Rattle.in_place.specs.Held.{Held}
 use Rattle.memory.specs.declared.Memory.{Memory}
 use Rattle.packing.specs.Packing.{Below}
+use Rattle.numbers.proofs.Passed.{refuses}
+use Rattle.numbers.specs.Refusal.{refusal_number}
+use Rattle.numbers.specs.declared.Refusal.{Refusal}
 use Rattle.refusals.specs.Answers as answer
 use Rattle.refusals.specs.Refusal.{or_else, state_refused, refused_state}
 use Rattle.entry.proofs.Entries.{unloaded_state, unloaded_ask, asked, refused_state_law, done_state}
 use Rattle.entry.specs.Entry.{Given, changed, state_entry, given, ask_entry}
+
+-- a refusal's number is not 0
+pub due : (e : Refusal) → refusal_number e ≡ 0 → ⊥
+due e z = let l : 1 < refusal_number e = refuses e in omega (arith, z, l)
+
+-- the first of two refusals
+pub first_due : {n a : ℕ} (b : ℕ) → (n ≡ 0 → ⊥) → n ≡ a → n ≡ or_else a b
+unfolding or_else
+first_due {n} b h e = rw (← e, ne_eqb n 0 h)
 
 -- By the image's number
 

@@ -27,7 +27,7 @@ use Rattle.put_bytes.proofs.Storable.{parts, joins, stays_storable}
 use Rattle.refusals.proofs.Answers.{both_pass}
 use Rattle.refusals.specs.Answers.{changed}
 use Rattle.refusals.specs.Refusal.{refused_write, refused_state}
-use Rattle.refusals.specs.declared.Done.{Done}
+use Rattle.refusals.specs.Answers.{Done}
 use Rattle.registers.proofs.Kept.{Kept}
 use Rattle.copies.specs.Copies.{oam_copy}
 use Rattle.registers.specs.Transfers.{block_copy}

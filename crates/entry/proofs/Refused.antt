@@ -16,11 +16,11 @@ use Rattle.dispatch.specs.declared.StateCall.{StateCall}
 use Rattle.copies.specs.PanDocs.{oam_bytes}
 use Rattle.image.specs.Layout.{bit, image_len}
 use Rattle.image.specs.Load.{Stored, sound, all_fields_in, values_of, storable, state_of, load_call}
-use Rattle.image.specs.declared.Loaded.{Loaded}
+use Rattle.image.specs.Load.{Loaded}
 use Rattle.mbc.specs.Mbc as mbc
 use Rattle.mbc.specs.declared.cartridge.Cartridge.{Cartridge}
 use Rattle.mbc.specs.declared.mbc.Mapper.{Mapper}
-use Rattle.mbc.specs.declared.mbc.ReadByte.{ReadByte}
+use Rattle.mbc.specs.Answers.{ReadByte}
 use Rattle.memory.specs.Start.{zeroed}
 use Rattle.memory.specs.World.{world, Fixed, fixed}
 use Rattle.memory.specs.declared.Memory.{Memory}

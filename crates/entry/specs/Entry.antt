@@ -1,22 +1,25 @@
 -- What an entry of the C boundary does: decode the image, make the call, encode the state (document 01, "are exported to our C host on numbers and
 -- byte slices": the state as an image, the memories lent, a number answered). A refusal leaves image and memories as they are and gives 0.
-use Rattle.std.specs.Prelude.{cond, List, [], ℕ, ◌%◌, eqb, length}
+use Rattle.std.specs.Result.{result_unwrap_or}
+use Rattle.std.specs.Prelude.{Bool, false, Option, Some, None, Result, Ok, Err, cond, List, [], ℕ, ◌%◌, eqb, length}
 use Rattle.bus.specs.Calls.{Outcome}
 use Rattle.bus.specs.Fresh.{Begun}
 use Rattle.dispatch.specs.Kinds.{refused}
-use Rattle.dispatch.specs.Step.{step, state_step}
+use Rattle.dispatch.specs.Step.{step, state_step, flag_number, pending_number}
 use Rattle.dispatch.specs.declared.Call.{Call}
 use Rattle.dispatch.specs.declared.Performed.{Performed}
 use Rattle.dispatch.specs.declared.StateCall.{StateCall}
 use Rattle.image.specs.Layout.{image_len, image_of}
 use Rattle.image.specs.Load.{load_call}
+use Rattle.interrupt.specs.declared.Interrupt.{Interrupt}
 use Rattle.mbc.specs.Mbc.{read_byte, write_byte}
-use Rattle.mbc.specs.declared.mbc.Answer.{Answer}
-use Rattle.mbc.specs.declared.mbc.Answer.TheVariants.{Stored, NotStored}
-use Rattle.mbc.specs.declared.mbc.WriteByte.{WriteByte}
+use Rattle.mbc.specs.declared.mbc.Stored.{Stored}
+use Rattle.mbc.specs.Answers.{WriteByte}
 use Rattle.memory.specs.World.{World, world, Fixed, with_mapper}
 use Rattle.memory.specs.declared.Memory.{Memory}
 use Rattle.numbers.specs.Numbers.{done, wrong_length}
+use Rattle.numbers.specs.Refusal.{refusal_number, number_given}
+use Rattle.numbers.specs.declared.Refusal.{Refusal}
 pub use Rattle.put_bytes.specs.Left.{Left, left, left_in}
 use Rattle.savelog.specs.Log.{address_end, record_number}
 use Rattle.savelog.specs.declared.Form.TheVariants.{Four}
@@ -45,6 +48,18 @@ pub record Given : Type 0 where
 
 abbrev pub given : ℕ → ℕ → Given
 given n v = record { number = n; value = v }
+
+-- what is asked, with this paper's number and value for each case of the answer: 0 where it is refused
+
+abbrev pub given_of : Result ℕ Refusal → Given
+given_of r = given (number_given r) (result_unwrap_or r 0)
+
+abbrev pub flag_given_of : Result Bool Refusal → Given
+flag_given_of r = given (number_given r) (flag_number (result_unwrap_or r false))
+
+abbrev pub waiting_of : Result (Option Interrupt) Refusal → Given
+waiting_of (Ok p) = given done (pending_number p)
+waiting_of (Err e) = given (refusal_number e) 0
 
 unfoldable pub ask_entry : List ℕ → StateCall → Given
 ask_entry i c =
@@ -103,9 +118,9 @@ mapper_read_entry i rom save k =
     (given (load_call i).number 0)
 
 -- a mapper's answer as the record that the bus would log; 0 for "not stored"
-abbrev pub answer_number : Answer → ℕ
-answer_number (Stored at v) = record_number Four (at % address_end) v
-answer_number NotStored = 0
+abbrev pub answer_number : Option Stored → ℕ
+answer_number (Some s) = record_number Four (s.at % address_end) s.value
+answer_number None = 0
 
 pub record Mapped : Type 0 where
   pub number : ℕ

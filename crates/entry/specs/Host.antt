@@ -1,6 +1,6 @@
 -- What a host asks of an image and sets in it beside the calls of the bus: the parts of the state that its drawing and its log need (document 01,
 -- "Added by us besides: .. C boundary"). A refusal changes no lent byte and gives 0.
-use Rattle.std.specs.Prelude.{cond, List, [], ◌∷◌, ◌++◌, ℕ, zero, suc, ◌+◌, ◌*◌, ◌%◌, eqb, leb, ℤ, length, take}
+use Rattle.std.specs.Prelude.{Option, Result, Ok, Err, cond, List, [], ◌∷◌, ◌++◌, ℕ, zero, suc, ◌+◌, ◌*◌, ◌%◌, eqb, leb, ℤ, length, take}
 use Rattle.dispatch.specs.declared.Call.TheVariants.{ReadByte}
 use Rattle.dispatch.specs.declared.StateCall.TheVariants.{Host}
 use Rattle.image.specs.Layout.{bit, channels, image_len, image_of}
@@ -8,11 +8,15 @@ use Rattle.image.specs.Load.{Stored, stored, load_call}
 use Rattle.lcd.specs.Lcd.{numbers_of}
 use Rattle.lcd.specs.declared.Lcd.{Lcd}
 use Rattle.memory.specs.World.{Fixed, with_used}
+use Rattle.memory.specs.Start.{zeroed}
 use Rattle.numbers.specs.Numbers.{done, out_of_range, wrong_length}
+use Rattle.numbers.specs.Refusal.{refusal_number, number_given}
+use Rattle.numbers.specs.declared.Refusal.{Refusal}
+use Rattle.std.specs.Result.{result_unwrap_or}
 use Rattle.copies.specs.PanDocs.{oam_bytes}
 use Rattle.registers.specs.State.{timer_of}
 use Rattle.savelog.specs.Log.{width, log_limit, use_in_range}
-use Rattle.timer.specs.Overflow.{left_of}
+use Rattle.timer.specs.Overflow.{left_given, left_of}
 use Rattle.entry.specs.Entry.{Changed, changed, state_entry, Given, given, read_entry}
 use Rattle.entry.specs.declared.HostNumber.{HostNumber}
 use Rattle.entry.specs.declared.HostNumber.TheVariants as one
@@ -36,6 +40,10 @@ shown n d l s m y c a w =
 
 abbrev pub shown_of : ℕ → Lcd → Shown
 shown_of n l = shown n (bit l.disabled) l.line l.signal l.mode l.delay l.counter l.aux l.window
+
+-- the answer, with this paper's number and values for each case
+abbrev pub numbers_shown : Result Lcd Refusal → Shown
+numbers_shown r = shown_of (number_given r) (result_unwrap_or r zeroed.core.lcd)
 
 abbrev pub numbers_entry : List ℕ → Shown
 numbers_entry i = shown_of (load_call i).number (load_call i).state.core.lcd
@@ -76,6 +84,11 @@ oam_entry i l =
     (stored (load_call i).number l)
 
 -- The cycles left until TIMA overflows (crates/timer/specs/Overflow.antt); a refused image gives 0
+
+-- the answer, with this paper's number and value for each case
+abbrev pub overflow_of : Result (Option ℕ) Refusal → Given
+overflow_of (Ok n) = given done (left_given n)
+overflow_of (Err e) = given (refusal_number e) 0
 
 unfoldable pub overflow_entry : List ℕ → Given
 overflow_entry i =

@@ -19,13 +19,6 @@ pub enum HostNumber {
     Window(i32),
 }
 
-// The number, and the value as a number.
-#[derive(Clone, Copy)]
-pub struct Given {
-    pub number: u8,
-    pub value: u16,
-}
-
 // What holds of the contracts of these entries (specs/EntryContracts.antt), as a contract: its proof hands the theorems over, so that to weaken or drop
 // one of them, or what it speaks of, fails the crate.
 pub fn entries_hold()

@@ -15,9 +15,9 @@ use Rattle.mbc.proofs.Sources.{in_rom}
 use Rattle.mbc.specs.Mbc as mbc
 use Rattle.mbc.specs.Mbc.{mapper_of, in_range, answer, after, read_byte, wrote_as, write_byte}
 use Rattle.mbc.specs.declared.cartridge.Cartridge.{Cartridge}
-use Rattle.mbc.specs.declared.mbc.Answer.TheVariants.{NotStored}
+use Rattle.std.specs.Prelude.{Option, Some, None}
 use Rattle.mbc.specs.declared.mbc.Mapper.{Mapper}
-use Rattle.mbc.specs.declared.mbc.ReadByte.{ReadByte}
+use Rattle.mbc.specs.Answers.{ReadByte}
 use Rattle.mbc.specs.declared.held.Registers.{Registers}
 use Rattle.memory.specs.World.{with_mapper}
 use Rattle.memory.specs.declared.Core.{Core}
@@ -31,7 +31,7 @@ use Rattle.entry.specs.Entry.{given, mapper_read_entry, answer_number, mapped, m
 -- a write by its index
 
 module _ (c : Cartridge) (m : Mapper) (k v : ℕ) (e : in_range c m ≡ true) where
-  write_outside : mbc.mapped k ≡ false → wrote_as 7 m NotStored ≡ write_byte c m k v
+  write_outside : mbc.mapped k ≡ false → wrote_as 7 m None ≡ write_byte c m k v
   unfolding write_byte
   write_outside h = rw (e, h)
 

@@ -1,15 +1,22 @@
 -- What the colours' entry answers: the image may be refused, then the lent length, and two halves fill the lent bytes.
 use mathlib.Core.List.{List, ◌++◌}
-use mathlib.Core.Path.{◌≡◌, ap, sym, ◌∙◌}
+use mathlib.Core.Bool.{Bool, true, false}
+use mathlib.Core.Path.{◌≡◌, refl, ap, sym, ◌∙◌}
+use mir.Val.{bool_byte}
 use Prim.Native.Nat.{ℕ}
 use native.Mathlib.Omega.{arith}
 use lib.ListN.{length, take}
 use lib.Seq.{paste, take-paste, length-paste, take_all}
 use borrow.Author.Tests.{ne_eqb}
 use Rattle.entry.specs.Host.{colors_len, colors_entry}
-use Rattle.image.specs.Layout.{channels}
+use Rattle.image.specs.Layout.{bit, channels}
 use Rattle.image.specs.Load.{stored, load_call}
-use Rattle.image.specs.declared.Loaded.{Loaded}
+use Rattle.image.specs.Load.{Loaded}
+
+-- a flag as C has it
+pub flag_byte : (b : Bool) → bool_byte b ≡ bit b
+flag_byte true = refl
+flag_byte false = refl
 
 halves : (l b s : List ℕ) {m r : List ℕ} → length l ≡ 192 → length b ≡ 96 → length s ≡ 96 → m ≡ paste l 0 b (length b) → r ≡ paste m 96 s (length s)
     → r ≡ b ++ s

@@ -3,6 +3,7 @@
 // itself. None has a `requires`. A slice is a pointer and its length, in the order of the parameters.
 #![tactic(auto)]
 
+mod answers;
 pub mod convert;
 pub mod lent;
 pub mod mapper;

@@ -2,15 +2,23 @@
 ghost use Rattle.std.specs.Prelude.{◌≡◌};
 ghost use Rattle.entry.specs.EntryContracts.{FillsColors, FillsOam, Shows, Sets};
 ghost use Rattle.entry.specs.declared.HostNumber.TheVariants.{Disabled, Line, Signal, Mode, Delay, Counter, Aux, Window};
-ghost use Rattle.image.specs.Layout as layout;
+ghost use Rattle.numbers.specs.Refusal.{number_given};
 
 use entry::HostNumber;
+use lcd::Lcd;
+use numbers::{Refusal, number_given};
 
-fn bit(flag: bool) -> u8
-    ensures { result ≡ layout.bit flag }
-{
-    if flag { 1 } else { 0 }
-}
+// The numbers of a refused image: those of the all-zero state.
+const NONE: Lcd = Lcd {
+    disabled: false,
+    line: 0,
+    signal: 0,
+    mode: 0,
+    delay: 0,
+    counter: 0,
+    aux: 0,
+    window: 0,
+};
 
 // The eight numbers that `pouch_host` sets.
 pub fn pouch_host_numbers(
@@ -28,20 +36,16 @@ pub fn pouch_host_numbers(
         delay.new counter.new aux.new window.new }
 {
     let shown = quick_screen::host_numbers(image);
-    let lcd = shown.lcd;
-    *disabled = bit(lcd.disabled);
+    let lcd = shown.unwrap_or(NONE);
+    *disabled = u8::from(lcd.disabled);
     *line = lcd.line;
     *signal = lcd.signal;
     *mode = lcd.mode;
-    let d = lcd.delay;
-    *delay = d;
-    let c = lcd.counter;
-    *counter = c;
-    let a = lcd.aux;
-    *aux = a;
-    let w = lcd.window;
-    *window = w;
-    shown.number
+    *delay = lcd.delay;
+    *counter = lcd.counter;
+    *aux = lcd.aux;
+    *window = lcd.window;
+    number_given(&shown)
 }
 
 // The bytes of all colours: red, green and blue of 64.
@@ -51,28 +55,28 @@ const COLORS_LEN: usize = 192;
 pub fn pouch_colors(image: &[u8], colors: &mut [u8]) -> u8
     ensures { FillsColors image.now colors.old result colors.new }
 {
-    let loaded = image::decode(image);
-    if loaded.number != numbers::DONE {
-        return loaded.number;
-    }
+    number_given(&put_colors(image, colors))
+}
+
+fn put_colors(image: &[u8], colors: &mut [u8]) -> Result<(), Refusal>
+    ensures { FillsColors image.now colors.old (number_given result) colors.new }
+{
+    let memory = image::decode(image)?;
     if colors.len() != COLORS_LEN {
-        return numbers::WRONG_LENGTH;
+        return Err(Refusal::WrongLength);
     }
-    let memory = loaded.state;
-    let b = memory.background;
-    let background = image::channels_of(b);
-    let s = memory.sprites;
-    let sprites = image::channels_of(s);
+    let background = image::channels_of(memory.background);
+    let sprites = image::channels_of(memory.sprites);
     packing::put(colors, 0, &background);
     packing::put(colors, COLORS_LEN / 2, &sprites);
-    numbers::DONE
+    Ok(())
 }
 
 // OAM's 40 sprites.
 pub fn pouch_oam(image: &[u8], oam: &mut [u8]) -> u8
     ensures { FillsOam image.now oam.old result oam.new }
 {
-    quick_screen::oam(image, oam)
+    number_given(&quick_screen::oam(image, oam))
 }
 
 // One of the eight numbers, the others as they stand.

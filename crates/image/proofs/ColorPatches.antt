@@ -2,10 +2,8 @@
 -- the bytes to their end, so that the laws of crate places hold.
 use mathlib.Core.Bool.{true}
 use mathlib.Core.Path.{◌≡◌, refl, sym, ap, ◌∙◌}
-use mathlib.Core.List.{List, [], ◌∷◌, ◌++◌, append_assoc}
+use mathlib.Core.List.{List, [], ◌∷◌, ◌++◌}
 use Prim.Native.Nat.{ℕ, zero, suc, ◌+◌, ◌*◌, ◌/◌, ◌^◌, ◌<◌, ◌≤◌}
-use native.Mathlib.Nat.{add-suc}
-use native.Mathlib.Numerals.{add-one}
 use native.Mathlib.Omega.{arith}
 use lib.ListN.{length, take, drop, get_or, set, length-append}
 use lib.Seq.{take_at, drop_at}
@@ -14,7 +12,7 @@ use Rattle.packing.proofs.Laws.{unpack_length, unpack_append}
 use Rattle.palette.specs.Palette.{in_range}
 use Rattle.palette.specs.PanDocs as pan
 use Rattle.palette.specs.declared.Color.{Color}
-use Rattle.places.specs.Places.{number, field_at, put_at}
+use Rattle.places.specs.Places.{number, field_at}
 use Rattle.places.proofs.Laws.{field_in}
 use Rattle.places.proofs.Puts.{Put, put_fields_law}
 use Rattle.memory.specs.declared.Memory.{Memory}

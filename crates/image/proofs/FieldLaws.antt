@@ -1,22 +1,16 @@
 -- The fields of an image are those at their places; fields put in an image are set in the list of its fields, and the rest stays. No width and no place
 -- of a field is named here.
-use mathlib.Core.Bool.{Bool}
 use mathlib.Core.Path.{◌≡◌, refl, sym, ap, ◌∙◌}
-use mathlib.Core.List.{List, [], ◌∷◌, ◌++◌, append_assoc}
-use Prim.Native.Nat.{ℕ, ◌+◌, ◌*◌, ◌/◌, ◌^◌, ◌<◌}
+use mathlib.Core.List.{List, ◌++◌, append_assoc}
+use Prim.Native.Nat.{ℕ, ◌/◌, ◌^◌}
 use native.Mathlib.Omega.{arith}
-use lib.IntN.{ℤ}
-use lib.ListN.{length, take, drop}
+use lib.ListN.{length, take}
 use lib.Seq.{take_at, drop_at}
-use mir.Syntax.{w32}
-use mir.Val.{of_z, to_z}
-use mir.Facts.{of_z-to_z}
-use Rattle.packing.specs.Packing.{Below, Fit, bits, packed, unpacked, repacked, eights, fives}
+use Rattle.packing.specs.Packing.{Below, bits, packed, unpacked, repacked, eights, fives}
 use Rattle.packing.proofs.Laws.{unpack_length, unpack_append, below_fit}
-use Rattle.places.specs.Places.{number, field_at, set_all}
-use Rattle.places.proofs.Laws.{fields_from_law, field_lt}
+use Rattle.places.specs.Places.{number, set_all}
+use Rattle.places.proofs.Laws.{fields_from_law}
 use Rattle.places.proofs.Puts.{Put, put_fields_law}
-use Rattle.lcd.specs.declared.Lcd.{Lcd}
 use Rattle.image.specs.Layout.{image_len, field_widths, widths}
 use Rattle.image.specs.Load.{all_fields_in, values_of}
 use Rattle.image.specs.Patches.{front, fields, put, Fits}
@@ -76,13 +70,3 @@ values_put l size below ps f =
     ∙ joined (ap (unpacked others) p.before ∙ sym (above_in l size)) (p.fields ∙ ap (set_all ps) (sym (number_in l size)))
 
 -- For the code's reads, group by group
-
--- a signed number that a call gave is handed on by its bits
-pub signed_same : (l : List ℕ) (bit : ℕ) (z : ℤ) → z ≡ to_z w32 (field_at l bit 32) → to_z w32 (of_z w32 z) ≡ to_z w32 (field_at l bit 32)
-signed_same l bit z e =
-    ap (λ (x : ℤ). to_z w32 (of_z w32 x)) e ∙ ap (to_z w32) (of_z-to_z {w = w32} {n = field_at l bit 32} (record { fits = field_lt l bit 32 }))
-
-pub lcd_same : {d d' : Bool} {l l' s s' m m' : ℕ} {y y' c c' a a' w w' : ℤ} → d ≡ d' → l ≡ l' → s ≡ s' → m ≡ m' → y ≡ y' → c ≡ c' → a ≡ a' → w ≡ w'
-    → ◌≡◌ {A = Lcd} (record { disabled = d; line = l; signal = s; mode = m; delay = y; counter = c; aux = a; window = w })
-    (record { disabled = d'; line = l'; signal = s'; mode = m'; delay = y'; counter = c'; aux = a'; window = w' })
-lcd_same e₁ e₂ e₃ e₄ e₅ e₆ e₇ e₈ = rw (e₁, e₂, e₃, e₄, e₅, e₆, e₇, e₈)

@@ -15,13 +15,11 @@ use Rattle.lcd.specs.declared.Lcd.{Lcd}
 use Rattle.memory.proofs.Laws.{plain}
 use Rattle.memory.specs.Ranges.{groups_in_range, palettes_in_range, state_in_range, in_range}
 use Rattle.memory.specs.World.{with_lcd, with_hdma, with_joypad}
-use Rattle.memory.specs.declared.Core.{Core}
 use Rattle.memory.specs.declared.Memory.{Memory}
 use Rattle.image.specs.Laws.{Typed}
 use Rattle.image.specs.Layout.{image_of}
-use Rattle.image.specs.Load.{storable, core_from, load_call}
+use Rattle.image.specs.Load.{storable, core_from, Loaded, load_call}
 use Rattle.image.specs.Patches.{fields, put, lcd_fields, joypad_fields}
-use Rattle.image.specs.declared.Loaded.{Loaded}
 use Rattle.image.proofs.LoadLaws.{state_core}
 use Rattle.image.proofs.OpenLaws.{load_length, load_state}
 use Rattle.image.proofs.PatchLaws.{Bytes, div_byte, typed_with, image_put}

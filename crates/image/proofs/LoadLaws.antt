@@ -1,15 +1,15 @@
 -- The state of an image, part by part, as the code reads it; and the number of a load, by the tests that the code makes.
 use mathlib.Core.Bool.{Bool, true, false, cond, ◌&&◌, and-false}
 use mathlib.Core.Path.{◌≡◌, refl, sym, ap, ◌∙◌}
-use mathlib.Core.List.{List, [], ◌∷◌, ◌++◌, append_assoc}
-use Prim.Native.Nat.{ℕ, zero, suc, ◌+◌, ◌*◌, ◌^◌, ◌<◌, ◌≤◌}
+use mathlib.Core.List.{List, ◌++◌, append_assoc}
+use Prim.Native.Nat.{ℕ, ◌+◌, ◌^◌, ◌<◌, ◌≤◌}
 use native.Mathlib.Omega.{arith}
 use lib.Dec.{eqb, leb}
-use lib.ListN.{length, take, drop, get_or, length-append, length-drop, take-append-drop, replicate-append-replicate}
-use lib.Seq.{take_at, drop_at, take-take, drop-drop, length-take-le, take-add, drop-cons, get_or-take, take_all}
+use lib.ListN.{length, take, drop, length-append, length-drop, take-append-drop}
+use lib.Seq.{take_at, drop_at, take-take, drop-drop, length-take-le, take-add, take_all}
 use borrow.Author.Tests.{eq-eqb, le-leb}
 use Rattle.numbers.specs.Numbers.{done, out_of_range}
-use Rattle.packing.specs.Packing.{Fit, Below, bits, packed, unpacked, repacked, eights, fives}
+use Rattle.packing.specs.Packing.{Fit, Below, unpacked, repacked, eights, fives}
 use Rattle.packing.proofs.Laws.{below_fit, below_take, below_drop, fit_below, fit_at, unpack_fit}
 use Rattle.places.specs.Places.{number}
 use Rattle.mbc.specs.Mbc as mbc
@@ -22,8 +22,7 @@ use Rattle.memory.proofs.Laws.{core_range}
 use Rattle.palette.specs.Palette.{colors_in_range}
 use Rattle.savelog.specs.Log.{log_limit, use_in_range}
 use Rattle.image.specs.Layout.{image_len, field_widths, used_field, zeros_field, widths}
-use Rattle.image.specs.Load.{bytes_in, colors_in, all_fields_in, values_of, state_from, state_of, colors_of, at, is_on, banks_of, hdma_of, cartridge_of, registers_in, core_from, sound, storable, loaded, load_call}
-use Rattle.image.specs.declared.Loaded.{Loaded}
+use Rattle.image.specs.Load.{bytes_in, colors_in, values_of, state_of, colors_of, at, is_on, banks_of, hdma_of, cartridge_of, registers_in, core_from, sound, storable, loaded, load_call}
 use Rattle.image.specs.Patches.{fields, head_fits, tail_fits, MapperFits, RestFits}
 use Rattle.image.proofs.ColorLaws.{below_colors}
 use Rattle.image.proofs.FieldLaws.{fields_number, fields_in}

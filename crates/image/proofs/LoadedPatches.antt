@@ -1,20 +1,19 @@
 -- The laws of proofs/PatchLaws.antt for an image that loads, whose state nobody need have made: what the types say holds of it (`loaded_typed`).
 use mathlib.Core.Bool.{true}
-use mathlib.Core.Path.{◌≡◌, refl, sym, ap, ◌∙◌}
-use mathlib.Core.List.{List, [], ◌∷◌, ◌++◌}
-use Prim.Native.Nat.{ℕ, ◌+◌, ◌*◌, ◌^◌, ◌<◌, ◌≤◌}
+use mathlib.Core.Path.{◌≡◌, sym, ap, ◌∙◌}
+use mathlib.Core.List.{List, [], ◌∷◌}
+use Prim.Native.Nat.{ℕ, ◌+◌, ◌^◌, ◌<◌, ◌≤◌}
 use native.Mathlib.Omega.{arith}
 use lib.ListN.{length, take, drop, length-drop}
 use lib.Seq.{length-take-le}
 use mir.Syntax.{w32}
 use mir.Facts.{sfits_to_z}
 use Rattle.numbers.specs.Numbers.{done}
-use Rattle.packing.specs.Packing.{Below, Fit, packed, unpacked, repacked, eights, fives}
+use Rattle.packing.specs.Packing.{Below, Fit, unpacked, repacked, eights, fives}
 use Rattle.packing.proofs.Laws.{below_take, below_drop, fit_at, unpack_fit}
 use Rattle.places.specs.Places.{number}
 use Rattle.palette.specs.declared.Color.{Color}
 use Rattle.mbc.specs.declared.mbc.Mapper.{Mapper}
-use Rattle.memory.specs.declared.Memory.{Memory}
 use Rattle.memory.specs.World.{with_mapper, with_used}
 use Rattle.image.specs.Layout.{image_len, field_widths, typed_fields, picked, image_of}
 use Rattle.image.specs.Load.{at, colors_of, storable, state_of, load_call}

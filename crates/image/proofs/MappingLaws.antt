@@ -7,6 +7,8 @@ use Prim.Native.Nat.{ℕ, ◌+◌, ◌-◌, ◌*◌, ◌/◌, ◌%◌, ◌^◌, 
 use native.Mathlib.Omega.{arith}
 use lib.ListN.{length}
 use borrow.Author.Tests.{le-leb}
+use Rattle.std.proofs.Common.{Option, Some, None, IfSome, is_some}
+use Rattle.rules.proofs.Tests.{untrue}
 use Rattle.places.specs.Places.{field_at}
 use Rattle.places.proofs.Laws.{inner_field}
 use Rattle.mbc.specs.Mbc as mbc
@@ -61,6 +63,11 @@ module _ (l : List ℕ) (size : length l ≡ image_len) where
 
 pub mapped_by : (l : List ℕ) {n : ℕ} → length l ≡ image_len → n ≡ mapping_number l → mapper_by n ≡ true → Mapped l
 mapped_by l size e h = record { size = size; mapper = sym (mapper_by_law l size) ∙ ap mapper_by (sym e) ∙ h }
+
+-- by the commonest mappers' tests
+pub common_by : (n : ℕ) (o : Option ℕ) → IfSome o (Common n) → is_some o ≡ true → mapper_by n ≡ true
+common_by n (Some s) h e = h.fits
+common_by n None h e = untrue e
 
 -- and with the lengths of what is lent beside the image, where the commonest mappers' tests pass
 pub common_lent : (l : List ℕ) (n rom save s : ℕ) → length l ≡ image_len → n ≡ mapping_number l → Common n s → rom ≡ 2 ^ (n / 1048576 % 8) * 0x4000 → save ≡ s

@@ -1,16 +1,14 @@
 -- The image part by part: the bytes, the colours, the fields; and the parts of the code's own reads and writes.
-use mathlib.Core.Bool.{true}
-use mathlib.Core.Path.{◌≡◌, refl, sym, ap, ◌∙◌}
-use mathlib.Core.List.{List, [], ◌∷◌, ◌++◌, append_assoc}
+use mathlib.Core.Path.{◌≡◌, refl, ap, ◌∙◌}
+use mathlib.Core.List.{List, ◌++◌, append_assoc}
 use Prim.Native.Nat.{ℕ, ◌+◌, ◌-◌, ◌^◌, ◌<◌, ◌≤◌}
 use native.Mathlib.Nat.{le_refl}
 use native.Mathlib.Omega.{arith}
-use lib.ListN.{length, take, drop, get_or, replicate, length-append, length-drop, length-replicate, take-append-drop}
-use lib.Seq.{paste, take-paste, length-paste, take_all, take_at, drop_at, take-take, drop-drop, length-take-le, get_or-take, get_or-drop}
-use Rattle.packing.specs.Packing.{Fit, Below, bits, packed, unpacked, repacked, eights, fives}
+use lib.ListN.{length, take}
+use lib.Seq.{paste, take-paste, length-paste, take_all}
+use Rattle.packing.specs.Packing.{Fit, bits, packed, unpacked, repacked, eights, fives}
 use Rattle.packing.proofs.Laws.{packed_lt, unpack_pack, unpack_length, unpack_fit, pack_unpack, regroup, fit_length, fit_append}
 use Rattle.image.specs.Layout.{image_len, field_widths, widths}
-use Rattle.image.specs.Load.{values_of}
 
 -- the bytes of the fields
 abbrev pub field_len : ℕ

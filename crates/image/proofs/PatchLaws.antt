@@ -7,7 +7,7 @@ use Prim.Native.Nat.{ℕ, zero, suc, ◌+◌, ◌<◌}
 use native.Mathlib.Nat.{zero-add, suc-add}
 use native.Mathlib.Omega.{arith}
 use lib.ListN.{length, take, drop, set, length-append, length-set}
-use lib.Seq.{take_at, set-append_left}
+use lib.Seq.{set-append_left}
 use Rattle.packing.specs.Packing.{Below, bits, packed, repacked, eights, fives}
 use Rattle.places.specs.Places.{put_at, set_all}
 use Rattle.places.proofs.Puts.{put_below, puts_length, put_over, own, put_own, put_run}

@@ -3,10 +3,10 @@
 use mathlib.Core.Bool.{Bool, true, false, cond, ◌&&◌}
 use mathlib.Core.Path.{◌≡◌, refl, sym, ap, ◌∙◌}
 use mathlib.Core.List.{List, ◌++◌, append_assoc}
-use Prim.Native.Nat.{ℕ, zero, suc, ◌+◌, ◌*◌, ◌/◌, ◌%◌, ◌^◌, ◌<◌, ◌≤◌}
+use Prim.Native.Nat.{ℕ, zero, suc, ◌%◌, ◌^◌, ◌<◌}
 use native.Mathlib.Omega.{arith}
 use lib.Dec.{eqb}
-use lib.ListN.{length, take, drop, get_or, replicate, length-append, length-drop, take-append-drop}
+use lib.ListN.{length, take, drop, length-append, length-drop, take-append-drop}
 use lib.Seq.{take_at, drop_at, drop-drop, length-take-le}
 use mir.Syntax.{w32}
 use mir.Val.{of_z, to_z}
@@ -14,7 +14,7 @@ use mir.Facts.{to_z-of_z, of_z-to_z}
 use borrow.Author.Tests.{leb-true, eqb-true, eq-eqb}
 use Rattle.rules.proofs.Tests.{both_true, by_cond, untrue}
 use Rattle.numbers.specs.Numbers.{done, out_of_range, wrong_length}
-use Rattle.packing.specs.Packing.{Fit, Below, bits, packed, unpacked, repacked, eights, fives}
+use Rattle.packing.specs.Packing.{Fit, Below, unpacked, repacked, eights, fives}
 use Rattle.packing.proofs.Laws.{fit_append, fit_below}
 use Rattle.places.specs.Places.{number}
 use Rattle.mbc.specs.Mbc as mbc
@@ -25,9 +25,8 @@ use Rattle.memory.specs.declared.Memory.{Memory}
 use Rattle.memory.specs.Start.{zeroed}
 use Rattle.memory.proofs.Laws.{range_parts}
 use Rattle.image.specs.Layout.{image_len, field_widths, zeros_field, widths, channels, bit, field_values, values, image_of}
-use Rattle.image.specs.Load.{cartridge_of, registers_in, core_from, at, sound, storable, loaded, values_of, bytes_in, colors_in, all_fields_in, state_from, state_of, load_call}
+use Rattle.image.specs.Load.{cartridge_of, registers_in, core_from, at, sound, storable, Loaded, loaded, values_of, bytes_in, colors_in, all_fields_in, state_from, state_of, load_call}
 use Rattle.image.specs.Laws.{Typed, StateBack, ImageBack}
-use Rattle.image.specs.declared.Loaded.{Loaded}
 use Rattle.image.proofs.ColorLaws.{channels_length, colors_channels, channels_colors}
 use Rattle.image.proofs.FieldLaws.{fields_in, fields_number, image_of_values}
 use Rattle.image.proofs.Parts.{repacked_length, repacked_fit, repacked_back, joined}

@@ -1,8 +1,8 @@
 -- A state in range: each of its values is within its width, and its image is what the code stores.
-use mathlib.Core.Bool.{Bool, true, false, ◌&&◌}
+use mathlib.Core.Bool.{Bool, true, false}
 use mathlib.Core.Path.{◌≡◌, refl, sym, ap, ◌∙◌}
 use mathlib.Core.List.{List, [], ◌∷◌, ◌++◌, append_assoc}
-use Prim.Native.Nat.{ℕ, zero, suc, ◌+◌, ◌*◌, ◌%◌, ◌^◌, ◌<◌, ◌≤◌}
+use Prim.Native.Nat.{ℕ, zero, suc, ◌+◌, ◌*◌, ◌^◌, ◌<◌, ◌≤◌}
 use native.Mathlib.Nat.{two-pow-succ}
 use native.Mathlib.Omega.{arith}
 use lib.Dec.{leb}
@@ -14,7 +14,6 @@ use borrow.Author.Tests.{leb-true}
 use Rattle.rules.proofs.Tests.{both_true, by_cond, untrue}
 use Rattle.packing.specs.Packing.{Below, Fit, repacked, eights, fives}
 use Rattle.packing.proofs.Laws.{below_fit, fit_append}
-use Rattle.places.specs.Places.{number, set_all}
 use Rattle.places.proofs.Puts.{put_bytes}
 use Rattle.mbc.proofs.RegisterLaws.{registers_known}
 use Rattle.mbc.specs.Mbc as mbc
@@ -22,7 +21,6 @@ use Rattle.mbc.specs.Mbc.{registers_of}
 use Rattle.mbc.proofs.Cases.{lawful}
 use Rattle.mbc.proofs.Cartridges.{banks_of_log}
 use Rattle.mbc.proofs.Ranges.{in_described, in_held}
-use Rattle.mbc.specs.declared.cartridge.Cartridge.{Cartridge}
 use Rattle.mbc.specs.declared.mbc.Mapper.{Mapper}
 use Rattle.savelog.proofs.Use.{use_parts}
 use Rattle.savelog.specs.Log.{log_limit, use_in_range}
@@ -34,7 +32,7 @@ use Rattle.memory.proofs.Laws.{range_parts, vram_fits, wram_fits}
 use Rattle.image.specs.Layout.{image_len, field_widths, field_values, flags, bit, channels, values, image_of}
 use Rattle.image.specs.Load.{storable}
 use Rattle.image.specs.Laws.{Typed}
-use Rattle.image.specs.Patches.{arrays_of, put, Fits, banks_fields, clock_fields, cartridge_fields, registers_fields, core_fields}
+use Rattle.image.specs.Patches.{arrays_of, put, Fits, banks_fields, cartridge_fields, registers_fields, core_fields}
 use Rattle.image.proofs.ColorLaws.{channels_length, channels_below}
 use Rattle.image.proofs.FieldLaws.{put_in}
 use Rattle.image.proofs.Parts.{field_len, bytes_parts}
@@ -123,15 +121,6 @@ fields_fit m t h =
 module _ (c : Core) (f : Fit field_widths (field_values c)) where
   pub banks_fit : Fits (banks_fields c.banks)
   banks_fit = omega (arith, f)
-
-  pub clock_fit : Fits (clock_fields c.clock)
-  clock_fit = omega (arith, f)
-
-  pub cartridge_fit : Fits (cartridge_fields c.cartridge)
-  cartridge_fit = omega (arith, f)
-
-  pub registers_fit : Fits (registers_fields (registers_of c.mapper))
-  registers_fit = omega (arith, f)
 
   pub core_fit : Fits (core_fields c)
   core_fit = omega (arith, f)

@@ -1,10 +1,12 @@
 -- "Image and state go round exactly" (document 01, "Save log and state image"): `laws_hold` has these as its contract.
-use Rattle.std.specs.Prelude.{true, ◌≡◌, List, ℕ, length}
+use Rattle.std.specs.Prelude.{true, ◌≡◌, List, ℕ, Result, length}
 use Rattle.std.specs.Int.{w32}
 use Rattle.std.proofs.Common.{SFits}
 use Rattle.packing.specs.Packing.{Below, Fit}
 use Rattle.numbers.specs.Numbers.{done}
 use Rattle.numbers.specs.One.{OnlyOne}
+use Rattle.numbers.specs.Refusal.{number_given}
+use Rattle.numbers.specs.declared.Refusal.{Refusal}
 use Rattle.memory.specs.declared.Memory.{Memory}
 use Rattle.image.specs.Layout.{image_len, field_widths, field_values, typed_fields, picked, image_of}
 use Rattle.image.specs.Load.{storable, Stores, loaded, load_call}
@@ -40,3 +42,7 @@ ImageTyped = (l : List ℕ) → Below 256 l → (load_call l).number ≡ done �
 -- of a store no second outcome fits
 abbrev pub OneStore : Type 0
 OneStore = (m : Memory) (l : List ℕ) → OnlyOne (Stores m l)
+
+-- nor a second answer, as `encode` gives it
+abbrev pub OneStored : Type 0
+OneStored = (m : Memory) (l : List ℕ) → OnlyOne (λ (r : Result (Unit {0}) Refusal). Stores m l (number_given r))

@@ -1,18 +1,20 @@
 -- The two calls on images: what a store gives, and the state that an image holds (document 01, "Save log and state image" and "Numbers a call gives back":
 -- the image's length, by 4, comes before the state, by 3; a refused store changes nothing, a refused load gives the all-zero state).
-use Rattle.std.specs.Prelude.{Bool, cond, ◌&&◌, List, [], ◌∷◌, ◌≡◌, ℕ, eqb, length, take, drop}
+use Rattle.std.specs.Prelude.{Bool, cond, ◌&&◌, List, [], ◌∷◌, ◌≡◌, ℕ, Result, eqb, length, take, drop}
+use Rattle.std.specs.Result.{result_unwrap_or}
 use Rattle.numbers.specs.Numbers.{done, out_of_range, wrong_length}
+use Rattle.numbers.specs.Refusal.{number_given}
+use Rattle.numbers.specs.declared.Refusal.{Refusal}
 use Rattle.packing.specs.Packing.{repacked, eights}
 use Rattle.palette.specs.declared.Color.{Color}
 use Rattle.mbc.specs.Mbc as mbc
 use Rattle.savelog.specs.Log.{log_limit}
+use Rattle.memory.specs.declared.Core.{Core}
 use Rattle.memory.specs.declared.Memory.{Memory}
 use Rattle.memory.specs.Ranges.{in_range}
 use Rattle.memory.specs.Start.{zeroed}
 use Rattle.image.specs.Layout.{image_len, zeros_field, widths, image_of}
 pub use Rattle.image.specs.Layout.{at, is_on, banks_of, lcd_of, hdma_of, joypad_of, clock_of, cartridge_of, registers_in, core_from}
-use Rattle.image.specs.declared.Loaded.{Loaded}
-use Rattle.image.specs.declared.Opened.{Opened}
 
 -- no log is lent: use is held to 65,535
 unfoldable pub storable : Memory → Bool
@@ -58,6 +60,11 @@ state_from bytes colors fs =
 unfoldable pub sound : List ℕ → Bool
 sound fs = mbc.sound (registers_in fs) && eqb (at fs zeros_field) 0
 
+-- the number, and the state that an image gave
+pub record Loaded : Type 0 where
+  pub number : ℕ
+  pub state : Memory
+
 abbrev pub loaded : ℕ → Memory → Loaded
 loaded n m = record { number = n; state = m }
 
@@ -83,9 +90,20 @@ load_call l =
     (cond (sound (all_fields_in (values_of l)) && storable (state_of l)) (loaded done (state_of l)) (loaded out_of_range zeroed))
     (loaded wrong_length zeroed)
 
+-- document 01's number and state for each case of the answer: a refused load gives the all-zero state
+abbrev pub load_given : Result Memory Refusal → Loaded
+load_given r = loaded (number_given r) (result_unwrap_or r zeroed)
+
 -- a load without the state's arrays: its number, and the rest of the state that it gives
+pub record Opened : Type 0 where
+  pub number : ℕ
+  pub core : Core
+
 abbrev pub opened_of : Loaded → Opened
 opened_of r = record { number = r.number; core = r.state.core }
 
 unfoldable pub open_call : List ℕ → Opened
 open_call l = opened_of (load_call l)
+
+abbrev pub open_given : Result Core Refusal → Opened
+open_given r = record { number = number_given r; core = result_unwrap_or r zeroed.core }

@@ -98,10 +98,6 @@ pub record Common (n s : ℕ) : Type 0 where
   pub log : part n 1 ≤ 7
   pub save : s ≡ mbc.ram_len (cartridge_by n) (mbc.mapper_of (registers_by n))
 
--- no save is so long
-abbrev pub no_save : ℕ
-no_save = 1
-
 -- What the tests that are enough for a load say, with the lengths of what is lent beside the image
 
 pub record MapperFits (l : List ℕ) (m n : ℕ) : Type 0 where

@@ -12,15 +12,9 @@ use palette::Color;
 pub fn channels_of(colors: [Color; 32]) -> [u8; 96]
     ensures { result ≡ channels colors }
 {
-    let mut out = [0u8; 96];
-    let mut i = 0;
-    while i < 32 {
-        let c = colors[i];
-        let o = i * 3;
-        out[o] = c.red;
-        out[o + 1] = c.green;
-        out[o + 2] = c.blue;
-        i += 1;
+    let mut out = [0; 96];
+    for (i, c) in colors.iter().enumerate() {
+        packing::put(&mut out, i * 3, &[c.red, c.green, c.blue]);
     }
     out
 }
@@ -28,22 +22,17 @@ pub fn channels_of(colors: [Color; 32]) -> [u8; 96]
 fn colors_of(channels: [u8; 96]) -> [Color; 32]
     ensures { result ≡ colors_of channels }
 {
-    let black = Color {
+    let mut out = [Color {
         red: 0,
         green: 0,
         blue: 0,
-    };
-    let mut out = [black; 32];
-    let mut i = 0;
-    while i < 32 {
-        let o = i * 3;
-        let c = Color {
-            red: channels[o],
-            green: channels[o + 1],
-            blue: channels[o + 2],
+    }; 32];
+    for (i, c) in out.iter_mut().enumerate() {
+        *c = Color {
+            red: channels[i * 3],
+            green: channels[i * 3 + 1],
+            blue: channels[i * 3 + 2],
         };
-        out[i] = c;
-        i += 1;
     }
     out
 }
@@ -70,9 +59,9 @@ pub fn color_at(image: &[u8], k: usize) -> Color
 {
     let bit = layout::COLORS_AT + k * layout::COLOR;
     Color {
-        red: places::u8_at(image, bit, layout::CHANNEL),
-        green: places::u8_at(image, bit + layout::CHANNEL, layout::CHANNEL),
-        blue: places::u8_at(image, bit + 2 * layout::CHANNEL, layout::CHANNEL),
+        red: places::field_at::<2>(image, bit, layout::CHANNEL) as u8,
+        green: places::field_at::<2>(image, bit + layout::CHANNEL, layout::CHANNEL) as u8,
+        blue: places::field_at::<2>(image, bit + 2 * layout::CHANNEL, layout::CHANNEL) as u8,
     }
 }
 
@@ -81,7 +70,17 @@ pub fn put_color(image: &mut [u8], k: usize, c: Color)
     ensures { image.new ≡ color_put image.old k c }
 {
     let bit = layout::COLORS_AT + k * layout::COLOR;
-    places::put_u8(image, bit, layout::CHANNEL, c.red);
-    places::put_u8(image, bit + layout::CHANNEL, layout::CHANNEL, c.green);
-    places::put_u8(image, bit + 2 * layout::CHANNEL, layout::CHANNEL, c.blue);
+    places::put_field::<2>(image, bit, layout::CHANNEL, c.red as u64);
+    places::put_field::<2>(
+        image,
+        bit + layout::CHANNEL,
+        layout::CHANNEL,
+        c.green as u64,
+    );
+    places::put_field::<2>(
+        image,
+        bit + 2 * layout::CHANNEL,
+        layout::CHANNEL,
+        c.blue as u64,
+    );
 }

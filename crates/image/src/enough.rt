@@ -1,14 +1,19 @@
-// Tests of a mapper that are enough, on the number that has all of it (src/layout.rt has what each part counts there): each is a mask.
-ghost use Rattle.std.specs.Prelude.{true, ◌≡◌, ◌^◌, ◌<◌};
-ghost use Rattle.image.specs.Patches.{mapping_bits, mapper_by, CommonKind, Common, no_save};
+// Tests of a mapper that are enough, on the number that has all of it (src/layout.rt has what each part counts there): each is a mask. That the number has
+// those bits and no more is what the load of it says once, in `fields::mapping_at`; a type of such numbers would be taken apart at each test.
+ghost use Rattle.std.specs.Prelude.{true, ◌≡◌, ◌^◌, ◌<◌, IfSome};
+ghost use Rattle.image.specs.Patches.{mapping_bits, mapper_by, CommonKind, Common};
 
 use crate::layout;
 use mbc::Cartridge;
 
-// No save is so long.
-pub const NO_SAVE: usize = 1;
+// The kinds, as numbers of this width: each test is a mask on the number that has all of the mapper, so an enum would be made of its bits and then asked.
+const ROM_ONLY: u32 = mbc::ROM_ONLY_KIND as u32;
 
-// Mbc1, or Mbc5 without what it lacks.
+const MBC2: u32 = mbc::MBC2_KIND as u32;
+
+const MBC5: u32 = mbc::MBC5_KIND as u32;
+
+// Mbc1, or Mbc5 without what it lacks: the odd kinds, bit by bit, so that each test is a mask.
 fn common_kind(n: u32) -> bool
     requires { n < 2 ^ mapping_bits }
     ensures { result ≡ true → CommonKind n }
@@ -25,55 +30,55 @@ fn common_kind(n: u32) -> bool
     true
 }
 
-// The commonest mappers, Mbc1 and Mbc5 of at most 128 banks, in range: the length of the save beside it. Where a test fails, a length that no save has.
-pub fn common_save(n: u32) -> usize
+// The commonest mappers, Mbc1 and Mbc5 of at most 128 banks, in range: the length of the save beside it. None where a test fails.
+pub fn common_save(n: u32) -> Option<usize>
     requires { n < 2 ^ mapping_bits }
-    ensures { (result ≡ no_save → ⊥) → Common n result }
+    ensures { IfSome result (Common n) }
 {
     if n / layout::LOG_UNIT % layout::LOG_SIZE > 7 {
-        return NO_SAVE;
+        return None;
     }
     if !common_kind(n) {
-        return NO_SAVE;
+        return None;
     }
     let log = n / layout::LOG_UNIT % 8;
     if log == 0 {
-        return NO_SAVE;
+        return None;
     }
     let rom = (n / layout::ROM_UNIT % layout::ROM_SIZE) as u16;
     if Cartridge::banks_of(log as u8) <= rom {
-        return NO_SAVE;
+        return None;
     }
     // By the RAM code, bit by bit. 3: the RAM bank has two bits. 2: it and the mode, five bits side by side, are 0. 4: with Mbc5 only, any of 16 banks. 0:
     // enabled, behind those five, is 0 too. What else fails stands behind its last test, so that both are one mask.
     if n / layout::CODE_UNIT % 2 != 0 {
         if n / layout::CODE_UNIT / 2 % 4 != 1 {
-            return NO_SAVE;
+            return None;
         }
         if n / layout::RAM_UNIT / 4 % 4 != 0 {
-            return NO_SAVE;
+            return None;
         }
-        return 0x8000;
+        return Some(0x8000);
     }
     if n / layout::CODE_UNIT / 2 % 2 != 0 {
         if n / layout::CODE_UNIT / 2 / 2 % 2 != 0 {
-            return NO_SAVE;
+            return None;
         }
         if n / layout::BANKING_UNIT % 32 != 0 {
-            return NO_SAVE;
+            return None;
         }
-        return 0x2000;
+        return Some(0x2000);
     }
     if n / layout::CODE_UNIT / 2 / 2 % 2 != 0 {
-        if n / layout::KIND_UNIT != 3 {
-            return NO_SAVE;
+        if n / layout::KIND_UNIT != MBC5 {
+            return None;
         }
-        return 0x20000;
+        return Some(0x20000);
     }
     if n / layout::ENABLED_UNIT % 64 != 0 {
-        return NO_SAVE;
+        return None;
     }
-    0
+    Some(0)
 }
 
 // RomOnly and Mbc2, in range.
@@ -82,7 +87,7 @@ pub fn small_fits(n: u32) -> bool
     ensures { result ≡ true → mapper_by n ≡ true }
 {
     // RomOnly: two banks; the ROM bank is 1, and all behind it 0.
-    if n / layout::KIND_UNIT == 0 {
+    if n / layout::KIND_UNIT == ROM_ONLY {
         if n / layout::LOG_UNIT != 1 {
             return false;
         }
@@ -94,7 +99,7 @@ pub fn small_fits(n: u32) -> bool
         }
         return n / layout::CODE_UNIT % layout::CODE_SIZE != 1;
     }
-    if n / layout::KIND_UNIT != 2 {
+    if n / layout::KIND_UNIT != MBC2 {
         return false;
     }
     if n / layout::CODE_UNIT % layout::CODE_SIZE != 0 {

@@ -1,13 +1,16 @@
 // The fields behind the colours, group by group, read and put where src/layout.rt says; a caller who needs one group takes that alone.
 // specs/Layout.antt has each group's fields, as they are read and as they are put.
-ghost use Rattle.std.specs.Prelude.{true, ◌≡◌, ◌^◌, ◌<◌, length};
+// That an image has LENGTH bytes is a clause of each function and no type: C lends a slice of any length, which `taken` refuses by 4, so with an array's type
+// each of some forty calls would take the array out of the slice once more (`as_mut_array`), with an arm for a length that is refused already.
+ghost use Rattle.std.specs.Prelude.{true, ◌≡◌, ◌^◌, ◌<◌, ◌&&◌, eqb, length};
 ghost use Rattle.std.specs.Int.{w32};
 ghost use Rattle.std.proofs.Common.{of_z, to_z};
 ghost use Rattle.packing.specs.Packing.{Fit};
+ghost use Rattle.savelog.specs.Log.{log_limit, use_in_range};
 ghost use Rattle.places.specs.Places.{field_at, put_at, Within};
 ghost use Rattle.mbc.specs.Mbc.{mapper_of, registers_of};
 ghost use Rattle.mbc.specs.declared.mbc.Mapper.{Mapper};
-ghost use Rattle.image.specs.Layout.{image_len, field_widths, field_values, used_field};
+ghost use Rattle.image.specs.Layout.{image_len, field_widths, field_values, used_field, zeros_field};
 ghost use Rattle.image.specs.Load.{banks_of, lcd_of, hdma_of, joypad_of, clock_of, cartridge_of, registers_in, core_from, at};
 ghost use Rattle.image.specs.Patches.{fields, head_fits, mapper_fits, tail_fits, rest_fits, Mapped, mapping_bits, mapping_number, MapperFits, MachineFits, SameRange, RestFits, put, Fits, banks_fields, lines_fields, lcd_fields, hdma_fields, joypad_fields, clock_fields, cartridge_fields, numbers_fields, registers_fields, Slim, used_put, mapping_put, clock_put, groups_fields, core_fields};
 
@@ -24,8 +27,8 @@ pub fn banks_at(image: &[u8]) -> Banks
 {
     Banks {
         colour: places::flag_at(image, layout::COLOUR_AT),
-        vram: places::u8_at(image, layout::VRAM_AT, 1),
-        wram: places::u8_at(image, layout::WRAM_AT, 3),
+        vram: places::field_at::<2>(image, layout::VRAM_AT, 1) as u8,
+        wram: places::field_at::<2>(image, layout::WRAM_AT, 3) as u8,
     }
 }
 
@@ -34,7 +37,7 @@ fn signed_at(image: &[u8], bit: usize) -> i32
     requires { Within 64 image.now bit 32 }
     ensures { result ≡ to_z w32 (field_at image.now bit 32) }
 {
-    packing::signed_of(places::u32_at(image, bit, 32))
+    (places::field_at::<8>(image, bit, 32) as u32).cast_signed()
 }
 
 pub fn lcd_at(image: &[u8]) -> Lcd
@@ -43,9 +46,9 @@ pub fn lcd_at(image: &[u8]) -> Lcd
 {
     Lcd {
         disabled: places::flag_at(image, layout::DISABLED_AT),
-        line: places::u8_at(image, layout::LINE_AT, 8),
-        signal: places::u8_at(image, layout::SIGNAL_AT, 8),
-        mode: places::u8_at(image, layout::MODE_AT, 8),
+        line: places::field_at::<2>(image, layout::LINE_AT, 8) as u8,
+        signal: places::field_at::<2>(image, layout::SIGNAL_AT, 8) as u8,
+        mode: places::field_at::<2>(image, layout::MODE_AT, 8) as u8,
         delay: signed_at(image, layout::DELAY_AT),
         counter: signed_at(image, layout::COUNTER_AT),
         aux: signed_at(image, layout::AUX_AT),
@@ -59,8 +62,8 @@ pub fn hdma_at(image: &[u8]) -> Hdma
 {
     Hdma {
         on: places::flag_at(image, layout::ON_AT),
-        source: places::u16_at(image, layout::SOURCE_AT, 16),
-        destination: places::u16_at(image, layout::DESTINATION_AT, 16),
+        source: places::field_at::<8>(image, layout::SOURCE_AT, 16) as u16,
+        destination: places::field_at::<8>(image, layout::DESTINATION_AT, 16) as u16,
     }
 }
 
@@ -70,7 +73,7 @@ fn steps_at(image: &[u8]) -> Hdma
     requires { length image.now ≡ image_len }
     ensures { SameRange result (hdma_of (fields image.now)) }
 {
-    let n = places::field_at(image, layout::SOURCE_AT + 12, 56);
+    let n = places::field_at::<8>(image, layout::SOURCE_AT + 12, 56);
     Hdma {
         on: places::flag_at(image, layout::ON_AT),
         source: (n / 0x10_0000_0000_0000) as u16,
@@ -83,10 +86,10 @@ pub fn joypad_at(image: &[u8]) -> Controller
     ensures { result ≡ joypad_of (fields image.now) }
 {
     Controller {
-        released: places::u8_at(image, layout::RELEASED_AT, 8),
+        released: places::field_at::<2>(image, layout::RELEASED_AT, 8) as u8,
         action: places::flag_at(image, layout::ACTION_AT),
         direction: places::flag_at(image, layout::DIRECTION_AT),
-        state: places::u8_at(image, layout::STATE_AT, 8),
+        state: places::field_at::<2>(image, layout::STATE_AT, 8) as u8,
     }
 }
 
@@ -95,8 +98,8 @@ pub fn clock_at(image: &[u8]) -> Clock
     ensures { result ≡ clock_of (fields image.now) }
 {
     Clock {
-        div: places::u8_at(image, layout::DIV_AT, 8),
-        tima: places::narrow_at(image, layout::TIMA_AT, 10),
+        div: places::field_at::<2>(image, layout::DIV_AT, 8) as u8,
+        tima: places::field_at::<2>(image, layout::TIMA_AT, 10) as u16,
     }
 }
 
@@ -105,7 +108,7 @@ fn mapping_at(image: &[u8]) -> u32
     requires { length image.now ≡ image_len }
     ensures { (result ≡ mapping_number image.now) × (result < 2 ^ mapping_bits) }
 {
-    places::u32_at(image, layout::KIND_AT, layout::MAPPING)
+    places::field_at::<8>(image, layout::KIND_AT, layout::MAPPING) as u32
 }
 
 pub fn cartridge_at(image: &[u8]) -> Cartridge
@@ -129,7 +132,7 @@ pub fn registers_at(image: &[u8]) -> Registers
         rom: (n / layout::ROM_UNIT % layout::ROM_SIZE) as u16,
         ram: (n / layout::RAM_UNIT % layout::RAM_SIZE) as u8,
         mode: (n / layout::BANKING_UNIT % 2) as u8,
-        enabled: mbc::bit(n / layout::ENABLED_UNIT % 2 == 1),
+        enabled: (n / layout::ENABLED_UNIT % 2) as u8,
         high: (n % layout::HIGH_SIZE) as u8,
     }
 }
@@ -138,14 +141,14 @@ pub fn mapper_at(image: &[u8]) -> Mapper
     requires { length image.now ≡ image_len }
     ensures { result ≡ mapper_of (registers_in (fields image.now)) }
 {
-    Mapper::from_registers(registers_at(image))
+    Mapper::from(registers_at(image))
 }
 
 pub fn used_at(image: &[u8]) -> u16
     requires { length image.now ≡ image_len }
     ensures { result ≡ at (fields image.now) used_field }
 {
-    places::u16_at(image, layout::USED_AT, layout::USED)
+    places::field_at::<8>(image, layout::USED_AT, layout::USED) as u16
 }
 
 // All of the state but its arrays.
@@ -161,13 +164,13 @@ pub fn core_at(image: &[u8]) -> Core
     let cartridge = cartridge_at(image);
     let mapper = mapper_at(image);
     Core {
-        banks: banks,
-        lcd: lcd,
-        hdma: hdma,
-        joypad: joypad,
-        clock: clock,
-        cartridge: cartridge,
-        mapper: mapper,
+        banks,
+        lcd,
+        hdma,
+        joypad,
+        clock,
+        cartridge,
+        mapper,
         used: used_at(image),
     }
 }
@@ -178,11 +181,7 @@ pub fn head_fits(image: &[u8]) -> bool
     ensures { result ≡ head_fits (fields image.now) }
 {
     let banks = banks_at(image);
-    if !memory::banks_in_range(banks) {
-        return false;
-    }
-    let hdma = hdma_at(image);
-    memory::hdma_in_range(hdma, banks.colour)
+    memory::banks_in_range(banks) && memory::hdma_in_range(hdma_at(image), banks.colour)
 }
 
 // Whether a mapper has the registers, and is in range.
@@ -191,14 +190,9 @@ fn mapper_fits(image: &[u8]) -> bool
     ensures { result ≡ mapper_fits (fields image.now) }
 {
     let n = mapping_at(image);
-    if enough::common_save(n) != enough::NO_SAVE {
-        return true;
-    }
-    if enough::small_fits(n) {
-        return true;
-    }
-    let registers = registers_at(image);
-    registers.fit(cartridge_at(image))
+    enough::common_save(n).is_some()
+        || enough::small_fits(n)
+        || registers_at(image).fit(cartridge_at(image))
 }
 
 // Tests that are enough for a load, and for the lengths of what is lent beside the image: small, so that the compiler puts them in place where they are
@@ -211,15 +205,11 @@ pub fn mapper_surely_fits(image: &[u8], rom: usize, save: usize) -> bool
         return false;
     }
     let n = mapping_at(image);
-    let its = enough::common_save(n);
-    if its == enough::NO_SAVE {
+    let Some(its) = enough::common_save(n) else {
         return false;
-    }
+    };
     let banks: usize = 1 << (n / layout::LOG_UNIT % 8);
-    if rom != banks * 0x4000 {
-        return false;
-    }
-    save == its
+    rom == banks * 0x4000 && save == its
 }
 
 fn machine_surely_fits(banks: Banks, hdma: Hdma, vram: usize, wram: usize) -> bool
@@ -253,10 +243,7 @@ pub fn rest_surely_fits(image: &[u8], vram: usize, wram: usize) -> bool
     requires { length image.now ≡ image_len }
     ensures { result ≡ true → RestFits image.now vram wram }
 {
-    if places::u8_at(image, layout::ZEROS_AT, layout::ZEROS) != 0 {
-        return false;
-    }
-    if !savelog::use_in_range(used_at(image), savelog::LOG_LIMIT) {
+    if !end_fits(image) {
         return false;
     }
     let banks = banks_at(image);
@@ -269,10 +256,16 @@ pub fn rest_surely_fits(image: &[u8], vram: usize, wram: usize) -> bool
 pub fn mapper_surely(image: &[u8]) -> bool
     ensures { result ≡ true → Mapped image.now }
 {
-    if image.len() != layout::LENGTH {
-        return false;
-    }
-    enough::common_save(mapping_at(image)) != enough::NO_SAVE
+    image.len() == layout::LENGTH && enough::common_save(mapping_at(image)).is_some()
+}
+
+// Whether the log's use is whole records, and the bits behind it 0: `&`, so that the byte in which both lie is tested once.
+fn end_fits(image: &[u8]) -> bool
+    requires { length image.now ≡ image_len }
+    ensures { result ≡ (eqb (at (fields image.now) zeros_field) 0 && use_in_range (at (fields image.now) used_field) log_limit) }
+{
+    (places::field_at::<2>(image, layout::ZEROS_AT, layout::ZEROS) == 0)
+        & savelog::use_in_range(used_at(image), savelog::LOG_LIMIT)
 }
 
 // By the kind of machine, as `machine_surely_fits` goes: in place that costs less than `head_fits`.
@@ -280,10 +273,7 @@ pub fn rest_fits(image: &[u8]) -> bool
     requires { length image.now ≡ image_len }
     ensures { result ≡ rest_fits (fields image.now) }
 {
-    if places::u8_at(image, layout::ZEROS_AT, layout::ZEROS) != 0 {
-        return false;
-    }
-    if !savelog::use_in_range(used_at(image), savelog::LOG_LIMIT) {
+    if !end_fits(image) {
         return false;
     }
     let banks = banks_at(image);
@@ -308,10 +298,7 @@ pub fn tail_fits(image: &[u8]) -> bool
     if !mapper_fits(image) {
         return false;
     }
-    if places::u8_at(image, layout::ZEROS_AT, layout::ZEROS) != 0 {
-        return false;
-    }
-    savelog::use_in_range(used_at(image), savelog::LOG_LIMIT)
+    end_fits(image)
 }
 
 pub fn put_banks(image: &mut [u8], banks: Banks)
@@ -319,8 +306,8 @@ pub fn put_banks(image: &mut [u8], banks: Banks)
     ensures { image.new ≡ put (banks_fields banks) image.old }
 {
     places::put_flag(image, layout::COLOUR_AT, banks.colour);
-    places::put_u8(image, layout::VRAM_AT, 1, banks.vram);
-    places::put_u8(image, layout::WRAM_AT, 3, banks.wram);
+    places::put_field::<2>(image, layout::VRAM_AT, 1, banks.vram as u64);
+    places::put_field::<2>(image, layout::WRAM_AT, 3, banks.wram as u64);
 }
 
 fn put_lines(image: &mut [u8], lcd: Lcd)
@@ -328,16 +315,16 @@ fn put_lines(image: &mut [u8], lcd: Lcd)
     ensures { image.new ≡ put (lines_fields lcd) image.old }
 {
     places::put_flag(image, layout::DISABLED_AT, lcd.disabled);
-    places::put_u8(image, layout::LINE_AT, 8, lcd.line);
-    places::put_u8(image, layout::SIGNAL_AT, 8, lcd.signal);
-    places::put_u8(image, layout::MODE_AT, 8, lcd.mode);
+    places::put_field::<2>(image, layout::LINE_AT, 8, lcd.line as u64);
+    places::put_field::<2>(image, layout::SIGNAL_AT, 8, lcd.signal as u64);
+    places::put_field::<2>(image, layout::MODE_AT, 8, lcd.mode as u64);
 }
 
-fn put_signed(image: &mut [u8], bit: usize, n: i32)
+pub fn put_signed(image: &mut [u8], bit: usize, n: i32)
     requires { Within 40 image.old bit 32 }
     ensures { image.new ≡ put_at image.old bit 32 (of_z w32 n) }
 {
-    places::put_u32(image, bit, 32, packing::complement_of(n));
+    places::put_field::<5>(image, bit, 32, n.cast_unsigned() as u64);
 }
 
 pub fn put_lcd(image: &mut [u8], lcd: Lcd)
@@ -356,8 +343,8 @@ pub fn put_hdma(image: &mut [u8], hdma: Hdma)
     ensures { image.new ≡ put (hdma_fields hdma) image.old }
 {
     places::put_flag(image, layout::ON_AT, hdma.on);
-    places::put_u16(image, layout::SOURCE_AT, 16, hdma.source);
-    places::put_u16(image, layout::DESTINATION_AT, 16, hdma.destination);
+    places::put_field::<3>(image, layout::SOURCE_AT, 16, hdma.source as u64);
+    places::put_field::<3>(image, layout::DESTINATION_AT, 16, hdma.destination as u64);
 }
 
 pub fn put_joypad(image: &mut [u8], joypad: Controller)
@@ -366,24 +353,24 @@ pub fn put_joypad(image: &mut [u8], joypad: Controller)
 {
     places::put_flag(image, layout::ACTION_AT, joypad.action);
     places::put_flag(image, layout::DIRECTION_AT, joypad.direction);
-    places::put_u8(image, layout::STATE_AT, 8, joypad.state);
-    places::put_u8(image, layout::RELEASED_AT, 8, joypad.released);
+    places::put_field::<2>(image, layout::STATE_AT, 8, joypad.state as u64);
+    places::put_field::<2>(image, layout::RELEASED_AT, 8, joypad.released as u64);
 }
 
 pub fn put_clock(image: &mut [u8], clock: Clock)
     requires { (length image.old ≡ image_len) × Fits (clock_fields clock) }
     ensures { image.new ≡ clock_put image.old clock }
 {
-    places::put_u8(image, layout::DIV_AT, 8, clock.div);
-    places::put_u16(image, layout::TIMA_AT, 10, clock.tima);
+    places::put_field::<2>(image, layout::DIV_AT, 8, clock.div as u64);
+    places::put_field::<3>(image, layout::TIMA_AT, 10, clock.tima as u64);
 }
 
 fn put_cartridge(image: &mut [u8], cartridge: Cartridge)
     requires { (length image.old ≡ image_len) × Fits (cartridge_fields cartridge) }
     ensures { image.new ≡ put (cartridge_fields cartridge) image.old }
 {
-    places::put_u8(image, layout::LOG_AT, layout::LOG, cartridge.log());
-    places::put_u8(image, layout::CODE_AT, layout::CODE, cartridge.code);
+    places::put_field::<2>(image, layout::LOG_AT, layout::LOG, cartridge.log() as u64);
+    places::put_field::<2>(image, layout::CODE_AT, layout::CODE, cartridge.code as u64);
 }
 
 // A mapper's numbers but its kind: they stand side by side, so they are put as one.
@@ -397,14 +384,14 @@ fn put_numbers(image: &mut [u8], r: Registers)
         + r.high as u32;
     // Those behind the ROM bank make a byte: told so, the compiler looks for no carry out of them, which takes ten instructions.
     let n = r.rom as u32 * layout::ROM_UNIT + low as u8 as u32;
-    places::put_u24(image, layout::ROM_AT, layout::NUMBERS, n);
+    places::put_field::<3>(image, layout::ROM_AT, layout::NUMBERS, n as u64);
 }
 
 pub fn put_used(image: &mut [u8], used: u16)
     requires { length image.old ≡ image_len }
     ensures { image.new ≡ used_put image.old used }
 {
-    places::put_u16(image, layout::USED_AT, layout::USED, used);
+    places::put_field::<3>(image, layout::USED_AT, layout::USED, used as u64);
 }
 
 // Mapper and log use.
@@ -412,8 +399,8 @@ pub fn put_mapping(image: &mut [u8], mapper: Mapper, used: u16)
     requires { (length image.old ≡ image_len) × Slim mapper }
     ensures { image.new ≡ mapping_put image.old mapper used }
 {
-    let r = mapper.registers();
-    places::put_u8(image, layout::KIND_AT, layout::KIND, r.kind);
+    let r = Registers::from(mapper);
+    places::put_field::<2>(image, layout::KIND_AT, layout::KIND, r.kind as u64);
     put_numbers(image, r);
     put_used(image, used);
 }
@@ -453,5 +440,5 @@ pub fn put_core(image: &mut [u8], core: Core)
     ensures { image.new ≡ put (core_fields core) image.old }
 {
     put_groups(image, core);
-    places::put_u8(image, layout::ZEROS_AT, layout::ZEROS, 0);
+    places::put_field::<2>(image, layout::ZEROS_AT, layout::ZEROS, 0);
 }

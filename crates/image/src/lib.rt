@@ -4,12 +4,12 @@
 
 ghost use Rattle.std.specs.Prelude.{◌≡◌, true, ◌+◌, ◌≤◌, length, take};
 ghost use Rattle.numbers.specs.Numbers.{done};
+ghost use Rattle.numbers.specs.Refusal.{number_given};
 ghost use Rattle.image.specs.Layout.{image_len, image_of};
-ghost use Rattle.image.specs.Load.{storable, Stores, loaded, state_of, load_call, opened_of, open_call};
+ghost use Rattle.image.specs.Load.{storable, Stores, state_of, load_call, load_given, open_call, open_given};
 ghost use Rattle.image.specs.Known.{Known};
-ghost use Rattle.image.specs.Laws.{Typed, StateBack, ImageBack, ImageTyped, OneStore};
+ghost use Rattle.image.specs.Laws.{Typed, StateBack, ImageBack, ImageTyped, OneStore, OneStored};
 ghost use Rattle.image.specs.Patches.{arrays_of, Mapped};
-ghost use Rattle.memory.specs.Start.{zeroed};
 
 mod colors;
 mod enough;
@@ -19,27 +19,14 @@ mod layout;
 pub use colors::{channels_of, color_at, put_color};
 pub use fields::{
     banks_at, cartridge_at, clock_at, hdma_at, joypad_at, lcd_at, mapper_at, mapper_surely_fits,
-    put_banks, put_clock, put_hdma, put_joypad, put_lcd, put_mapping, put_registers, put_used,
-    registers_at, rest_surely_fits, used_at,
+    put_banks, put_clock, put_hdma, put_joypad, put_lcd, put_mapping, put_registers, put_signed,
+    put_used, registers_at, rest_surely_fits, used_at,
 };
 pub use layout::{
     AUX_AT, COUNTER_AT, DELAY_AT, DISABLED_AT, LENGTH, LINE_AT, MODE_AT, SIGNAL_AT, WINDOW_AT,
 };
 use memory::{Core, Memory};
-
-// The number, and the state that an image gave.
-#[derive(Clone, Copy)]
-pub struct Loaded {
-    pub number: u8,
-    pub state: Memory,
-}
-
-// The number, and the state that an image gave, without its arrays.
-#[derive(Clone, Copy)]
-pub struct Opened {
-    pub number: u8,
-    pub core: Core,
-}
+use numbers::Refusal;
 
 // What the types of a state say.
 fn typed(memory: Memory)
@@ -75,89 +62,71 @@ pub fn store(memory: Memory, image: &mut [u8])
     fields::put_core(image, core);
 }
 
-// The state's image; 4 for another length, 3 for a state out of range, and then nothing is changed.
-pub fn encode(memory: Memory, image: &mut [u8]) -> u8
-    ensures { Stores memory image.old result image.new }
+// The state's image; refused by 4 for another length, by 3 for a state out of range, and then nothing is changed.
+pub fn encode(memory: Memory, image: &mut [u8]) -> Result<(), Refusal>
+    ensures { Stores memory image.old (number_given result) image.new }
 {
     if image.len() != LENGTH {
-        return numbers::WRONG_LENGTH;
+        return Err(Refusal::WrongLength);
     }
     if !memory::in_range(memory, savelog::LOG_LIMIT) {
-        return numbers::OUT_OF_RANGE;
+        return Err(Refusal::OutOfRange);
     }
     store(memory, image);
-    numbers::DONE
+    Ok(())
 }
 
-// A refused load, without the all-zero state's arrays.
-fn closed(number: u8) -> Opened
-    ensures { result ≡ opened_of (loaded number zeroed) }
-{
-    let zero = memory::zero();
-    let core = zero.core;
-    Opened {
-        number: number,
-        core: core,
-    }
-}
-
-// The number that a load gives: 4 for another length, 3 for an image that no state in range has. The colours are not looked at: a
-// channel of five bits is in range.
-pub fn number(image: &[u8]) -> u8
-    ensures { result ≡ (load_call image.now).number }
+// Whether a load takes an image: it refuses by 4 another length, by 3 an image that no state in range has. The colours are not looked at: a channel of
+// five bits is in range.
+pub fn taken(image: &[u8]) -> Result<(), Refusal>
+    ensures { number_given result ≡ (load_call image.now).number }
 {
     if image.len() != LENGTH {
-        return numbers::WRONG_LENGTH;
+        return Err(Refusal::WrongLength);
     }
     if !fields::head_fits(image) {
-        return numbers::OUT_OF_RANGE;
+        return Err(Refusal::OutOfRange);
     }
     if !fields::tail_fits(image) {
-        return numbers::OUT_OF_RANGE;
+        return Err(Refusal::OutOfRange);
     }
-    numbers::DONE
+    Ok(())
 }
 
 // Called from one place, so that the slice is stored there and not by every call.
-fn number_apart(image: &[u8]) -> u8
-    ensures { result ≡ (load_call image.now).number }
+fn taken_apart(image: &[u8]) -> Result<(), Refusal>
+    ensures { number_given result ≡ (load_call image.now).number }
 {
-    number(image)
+    taken(image)
 }
 
-// A load's number. In two, so that each is put in place where it is called: the first is that number, or 0 where the rest is still to be asked.
-pub fn mapper_number(image: &[u8]) -> u8
-    ensures { (result ≡ done → Mapped image.now) × ((result ≡ done → ⊥) → result ≡ (load_call image.now).number) }
+// The same in two, so that each is put in place where it is called: what the first refuses, a load refuses by the same number; what it takes, is still to
+// be asked of the rest.
+pub fn mapper_taken(image: &[u8]) -> Result<(), Refusal>
+    ensures { (number_given result ≡ done → Mapped image.now) × ((number_given result ≡ done → ⊥) → number_given result ≡ (load_call image.now).number) }
 {
     if fields::mapper_surely(image) {
-        return numbers::DONE;
+        return Ok(());
     }
-    number_apart(image)
+    taken_apart(image)
 }
 
-pub fn rest_number(image: &[u8]) -> u8
+pub fn rest_taken(image: &[u8]) -> Result<(), Refusal>
     requires { Mapped image.now }
-    ensures { result ≡ (load_call image.now).number }
+    ensures { number_given result ≡ (load_call image.now).number }
 {
     if fields::rest_fits(image) {
-        return numbers::DONE;
+        return Ok(());
     }
-    numbers::OUT_OF_RANGE
+    Err(Refusal::OutOfRange)
 }
 
 // What a load gives, without the arrays.
-pub fn open(image: &[u8]) -> Opened
-    ensures { result ≡ open_call image.now }
+pub fn open(image: &[u8]) -> Result<Core, Refusal>
+    ensures { open_given result ≡ open_call image.now }
 {
-    let number = number(image);
-    if number != numbers::DONE {
-        return closed(number);
-    }
-    let core = fields::core_at(image);
-    Opened {
-        number: numbers::DONE,
-        core: core,
-    }
+    taken(image)?;
+    Ok(fields::core_at(image))
 }
 
 // The state that an image's bytes hold.
@@ -170,42 +139,23 @@ fn state_of(image: &[u8], core: Core) -> Memory
     let background = colors::colors_at(&image[512..572]);
     let sprites = colors::colors_at(&image[572..632]);
     Memory {
-        oam: oam,
-        page: page,
-        background: background,
-        sprites: sprites,
-        core: core,
-    }
-}
-
-// A refused load gives the all-zero state.
-fn refused(number: u8) -> Loaded
-    ensures { result ≡ loaded number zeroed }
-{
-    let state = memory::zero();
-    Loaded {
-        number: number,
-        state: state,
+        oam,
+        page,
+        background,
+        sprites,
+        core,
     }
 }
 
 // The state of an image; refused as `open` is.
-pub fn decode(image: &[u8]) -> Loaded
-    ensures { result ≡ load_call image.now }
+pub fn decode(image: &[u8]) -> Result<Memory, Refusal>
+    ensures { load_given result ≡ load_call image.now }
 {
-    let opened = open(image);
-    if opened.number != numbers::DONE {
-        return refused(opened.number);
-    }
-    let core = opened.core;
-    let state = state_of(image, core);
-    Loaded {
-        number: numbers::DONE,
-        state: state,
-    }
+    let core = open(image)?;
+    Ok(state_of(image, core))
 }
 
 // The laws of specs/Laws.antt and the images of specs/Known.antt, as a contract: its proof hands them over.
 pub fn laws_hold()
-    ensures { StateBack × ImageBack × ImageTyped × Known × OneStore }
+    ensures { StateBack × ImageBack × ImageTyped × Known × OneStore × OneStored }
 {}

@@ -1,6 +1,6 @@
 -- An image with the state that it is of, and what a byte of the page or a group of fields put in it makes of both. An image that is taken is such a pair
 -- (`held`); each law leaves one, so that they follow one another as the code does.
-use mathlib.Core.Bool.{Bool, true, false}
+use mathlib.Core.Bool.{Bool, true, false, cond}
 use mathlib.Core.List.{List}
 use mathlib.Core.Path.{◌≡◌, refl, sym, ap, ◌∙◌}
 use Prim.Native.Nat.{ℕ, ◌+◌, ◌<◌, ◌≤◌}
@@ -18,6 +18,8 @@ use Rattle.joypad.specs.Joypad.{Bytes}
 use Rattle.hdma.specs.Hdma.{starts}
 use Rattle.hdma.specs.declared.Hdma.{Hdma}
 use Rattle.hdma.specs.declared.Start.{Start}
+use Rattle.hdma.specs.declared.Start.TheVariants as start
+use mathlib.Core.Logic.{◌⊎◌, inl, inr}
 use Rattle.hdma.specs.declared.Written.{Written}
 use Rattle.image.proofs.StateLaws.{storable_state, fields_fit, banks_fit}
 use Rattle.memory.proofs.Laws.{clock_range}
@@ -146,7 +148,7 @@ module _ (m : Memory) (at v : ℕ) (n : Memory) {t : Bool} (a : t ≡ m.core.ban
   in_monochrome b c = c ∙ ap image_of (sym (cond_false _ n (stored m at v) (sym a ∙ b)))
 
   -- what the write leaves is in range
-  colour_storable : t ≡ true → storable m ≡ true → Kept m (in_colour m at v n) → storable n ≡ true
+  pub colour_storable : t ≡ true → storable m ≡ true → Kept m (in_colour m at v n) → storable n ≡ true
   colour_storable b s k = sym (ap storable (cond_true _ n (stored m at v) (sym a ∙ b))) ∙ kept_storable k s
 
 module _ (i : List ℕ) (h : Held i) (at : ℕ) (ha : at < 256) where
@@ -173,49 +175,45 @@ module _ (i : List ℕ) (h : Held i) (at : ℕ) (ha : at < 256) where
   transfer_image w b r s e f = f ∙ (put_hdma (page_put w.byte b e) w.hdma r s).same
 
   -- a bank selected in colour, else the byte is stored
-  pub bank_stored : (v u : ℕ) (g : Banks → Banks) {b : Banks} {j : List ℕ} → b ≡ (state i h).core.banks → b.colour ≡ false
-      → j ≡ image_of (stored (state i h) at v)
-      → j ≡ image_of (in_colour (state i h) at v (with_banks (state i h) (g (state i h).core.banks) (set (state i h).page at u)))
-  bank_stored v u g p q e = in_monochrome (state i h) at v _ (ap (λ (x : Banks). x.colour) p) q e
-
-  module _ (v u : ℕ) (g : Banks → Banks) {b n : Banks} (p : b ≡ (state i h).core.banks) (q : b.colour ≡ true) (e : n ≡ g b) where
+  module _ (v u : ℕ) (g : Banks → Banks) {b n : Banks} (p : b ≡ (state i h).core.banks) (e : n ≡ g b) where
     abbrev selected : Memory
     selected = with_banks (state i h) (g (state i h).core.banks) (set (state i h).page at u)
 
     same_banks : n ≡ g (state i h).core.banks
     same_banks = e ∙ ap g p
 
-    pub bank_storable : Kept (state i h) (in_colour (state i h) at v selected) → storable (with_banks (state i h) n (set (state i h).page at u)) ≡ true
-    bank_storable k =
+    pub bank_storable : Kept (state i h) (in_colour (state i h) at v selected) → b.colour ≡ true
+        → storable (with_banks (state i h) n (set (state i h).page at u)) ≡ true
+    bank_storable k q =
         ap (λ (x : Banks). storable (with_banks (state i h) x (set (state i h).page at u))) same_banks
         ∙ colour_storable (state i h) at v selected (ap (λ (x : Banks). x.colour) p) q (held i h).storable k
 
-    pub bank_written : {j : List ℕ} → j ≡ image_of (with_banks (state i h) n (set (state i h).page at u)) → j ≡ image_of (in_colour (state i h) at v selected)
-    bank_written d =
-        in_colour_law (state i h) at v selected (ap (λ (x : Banks). x.colour) p) q
-        (d ∙ ap (λ (x : Banks). image_of (with_banks (state i h) x (set (state i h).page at u))) same_banks)
+    pub bank_put : {j : List ℕ} → j ≡ image_of (in_colour (state i h) at v (with_banks (state i h) n (set (state i h).page at u)))
+        → j ≡ image_of (in_colour (state i h) at v selected)
+    bank_put d = d ∙ ap (λ (x : Banks). image_of (in_colour (state i h) at v (with_banks (state i h) x (set (state i h).page at u)))) same_banks
 
-  -- an address written in colour, else the byte is stored
-  pub transfer_stored : (v : ℕ) (g : Hdma → ℕ → Written) {t : Bool} {j : List ℕ} → t ≡ (state i h).core.banks.colour → t ≡ false
-      → j ≡ image_of (stored (state i h) at v) → j ≡ image_of (in_colour (state i h) at v (transfer_put (state i h) at (g (state i h).core.hdma v)))
-  transfer_stored v g a b e = in_monochrome (state i h) at v _ a b e
-
-  module _ (v : ℕ) (g : Hdma → ℕ → Written) {t : Bool} {x : Hdma} {w : Written} (a : t ≡ (state i h).core.banks.colour) (b : t ≡ true)
-      (p : x ≡ (state i h).core.hdma) (q : w ≡ g x v) where
+  -- an address's byte, by what crate hdma gives of it
+  module _ (v : ℕ) (g : Hdma → ℕ → Written) where
     abbrev addressed : Memory
     addressed = transfer_put (state i h) at (g (state i h).core.hdma v)
 
-    same_written : w ≡ g (state i h).core.hdma v
-    same_written = q ∙ ap (λ (y : Hdma). g y v) p
+    pub address_storable : {w : Written} → w ≡ g (state i h).core.hdma v → Kept (state i h) (in_colour (state i h) at v addressed)
+        → (state i h).core.banks.colour ≡ true → storable (transfer_put (state i h) at w) ≡ true
+    address_storable e k b =
+        ap (λ (x : Written). storable (transfer_put (state i h) at x)) e
+        ∙ colour_storable (state i h) at v addressed refl b (held i h).storable k
 
-    pub transfer_storable : Kept (state i h) (in_colour (state i h) at v addressed) → storable (transfer_put (state i h) at w) ≡ true
-    transfer_storable k =
-        ap (λ (y : Written). storable (transfer_put (state i h) at y)) same_written
-        ∙ colour_storable (state i h) at v addressed a b (held i h).storable k
+    abbrev Addressed : List ℕ → Type 0
+    Addressed j = (w : Written) × (w ≡ g (state i h).core.hdma v) × (j ≡ image_of (transfer_put (state i h) at w))
 
-    pub transfer_written : {j : List ℕ} → j ≡ image_of (transfer_put (state i h) at w) → j ≡ image_of (in_colour (state i h) at v addressed)
-    transfer_written d =
-        in_colour_law (state i h) at v addressed a b (d ∙ ap (λ (y : Written). image_of (transfer_put (state i h) at y)) same_written)
+    pub address_written : {j : List ℕ} → ((state i h).core.banks.colour ≡ true → Addressed j)
+        → ((state i h).core.banks.colour ≡ false → j ≡ image_of (stored (state i h) at v)) → j ≡ image_of (in_colour (state i h) at v addressed)
+    address_written {j} = by_colour (state i h).core.banks.colour
+      where
+        by_colour : (t : Bool) → (t ≡ true → Addressed j) → (t ≡ false → j ≡ image_of (stored (state i h) at v))
+            → j ≡ image_of (cond t addressed (stored (state i h) at v))
+        by_colour true e f = let r = e refl in r.2 ∙ ap (λ (w : Written). image_of (transfer_put (state i h) at w)) r.1
+        by_colour false e f = f refl
 
 module _ (i : List ℕ) (h : Held i) where
   -- FF4D: the speed is made of the byte that is there
@@ -248,6 +246,18 @@ module _ (i : List ℕ) (h : Held i) where
 
       pub start_written : {j : List ℕ} → j ≡ image_of (started_by (state i h) v k).memory → j ≡ image_of (start_put (state i h) v)
       start_written e = e ∙ ap (λ (z : Started). image_of z.memory) decided
+
+    -- a write that sets the registers
+    module _ {x : Hdma} {mode : ℕ} {s : Start} {w : Written} (b : t ≡ true) (p : x ≡ (state i h).core.hdma) (q : mode ≡ (state i h).core.lcd.mode)
+        (r : s ≡ starts x mode v) where
+      pub set_storable : (s ≡ start.Set w) ⊎ (s ≡ start.Block w) → storable (transfer_put (state i h) 0x55 w) ≡ true
+      set_storable (inl g) = start_storable (start.Set w) b p q r g
+      set_storable (inr g) = start_storable (start.Block w) b p q r g
+
+      pub set_written : (s ≡ start.Set w) ⊎ (s ≡ start.Block w) → {j : List ℕ} → j ≡ image_of (transfer_put (state i h) 0x55 w)
+          → j ≡ image_of (start_put (state i h) v)
+      set_written (inl g) e = start_written (start.Set w) b p q r g e
+      set_written (inr g) e = start_written (start.Block w) b p q r g e
 
     pub start_stored : t ≡ false → {j : List ℕ} → j ≡ image_of (stored (state i h) 0x55 v) → j ≡ image_of (start_put (state i h) v)
     unfolding started

@@ -21,9 +21,11 @@ use Rattle.palette.specs.Palette.{write_index, write_data, next_index, data_writ
 use Rattle.palette.specs.declared.Color.{Color}
 use Rattle.palette.specs.declared.Palette.{Palette}
 use Rattle.palette.specs.declared.Written.{Written}
-use Rattle.registers.specs.Colour.{background_of, with_background_palette, sprites_of, with_sprite_palette}
+use Rattle.registers.specs.Colour.{background_of, with_background_palette, sprites_of, with_sprite_palette, index_at, palette_of, with_palette}
+use Rattle.registers.specs.declared.colour.Plane.{Plane}
+use Rattle.registers.specs.declared.colour.Plane.TheVariants.{Background, Sprites}
 use Rattle.in_place.specs.Held.{Held}
-use Rattle.in_place.specs.Palettes.{color_for, index_put, data_of, data_put}
+use Rattle.in_place.specs.Palettes.{first_of, color_for, index_put, data_of, data_put}
 use Rattle.in_place.proofs.Fine.{Fine, typed_fine, background_ready, sprites_ready}
 use Rattle.in_place.proofs.Images.{ImageOf, state, held, byte, put_byte}
 
@@ -167,3 +169,24 @@ module _ (i : List ℕ) (h : Held i) where
         ∙ put_sprite (put_byte (put_byte (held i h) 0x6A w.index (omega arith) x) 0x6B w.«data» (omega arith) y) _ (omega arith) w.color
         (channels_range _)
         ∙ ap (λ (q : Palette). image_of (with_sprite_palette (state i h) q)) (changed sprites 32 sprite_color v b r)
+
+-- either, by where the code has it
+
+module _ (i : List ℕ) (h : Held i) (v : ℕ) (b : v < 256) (p : Plane) {at first : ℕ} (a : at ≡ 256 + index_at p) (f : first ≡ first_of p) where
+  pub index_written : {j : List ℕ} → j ≡ index_put i at first v
+      → j ≡ image_of (with_palette p (state i h) (write_index (palette_of p (state i h)) v))
+  index_written e = by_plane p (rw (a, f) at e)
+    where
+      by_plane : (p : Plane) {j : List ℕ} → j ≡ index_put i (256 + index_at p) (first_of p) v
+          → j ≡ image_of (with_palette p (state i h) (write_index (palette_of p (state i h)) v))
+      by_plane Background e = background_index i h v b e
+      by_plane Sprites e = sprite_index i h v b e
+
+  pub data_written_law : {j : List ℕ} → j ≡ data_put i at first v
+      → j ≡ image_of (with_palette p (state i h) (write_data (palette_of p (state i h)) v))
+  data_written_law e = by_plane p (rw (a, f) at e)
+    where
+      by_plane : (p : Plane) {j : List ℕ} → j ≡ data_put i (256 + index_at p) (first_of p) v
+          → j ≡ image_of (with_palette p (state i h) (write_data (palette_of p (state i h)) v))
+      by_plane Background e = background_data i h v b e
+      by_plane Sprites e = sprite_data i h v b e

@@ -1,6 +1,6 @@
 -- The updates that the loop of a host makes at every step. The timer's: DIV's part, the steps of TIMA, and the remainders. The joypad's, with no mark: the
 -- state alone, or nothing.
-use mathlib.Core.Bool.{false}
+use mathlib.Core.Bool.{Bool, false}
 use mathlib.Core.List.{List}
 use mathlib.Core.Path.{◌≡◌, refl, sym, ap, subst, ◌∙◌}
 use Prim.Native.Nat.{ℕ, ◌+◌, ◌*◌, ◌%◌, ◌<◌}
@@ -24,6 +24,7 @@ use Rattle.timer.proofs.AtOnce.{before, counted_at_once}
 use Rattle.timer.proofs.Laws.{update_ready}
 use Rattle.timer.specs.AtOnce.{periods_in}
 use Rattle.timer.specs.Overflow.{cycles_left, left_of}
+use Rattle.timer.specs.PanDocs.{counting}
 use Rattle.timer.specs.Promises.{Ready}
 use Rattle.timer.specs.Timer.{divided_of, divided, updated}
 use Rattle.timer.specs.declared.Divided.{Divided}
@@ -105,6 +106,9 @@ module _ (i : List ℕ) (h : Held i) where
       ∙ ap (λ (x : Clock). cycles_left (get_or i 0x107 0) (get_or i 0x105 0) x.tima) (clock_in e)
       ∙ ap (λ (x : ℕ). cycles_left x (get_or i 0x105 0) m.core.clock.tima) (byte i h 0x07 (omega arith))
       ∙ ap (λ (x : ℕ). cycles_left (loaded m 0x07) x m.core.clock.tima) (byte i h 0x05 (omega arith))
+
+  pub counting_in : {b : Bool} → b ≡ counting (get_or i 0x107 0) → b ≡ counting (timer_of (state i h)).tac
+  counting_in e = e ∙ ap counting (byte i h 0x07 (omega arith))
 
   -- The joypad
 

@@ -5,6 +5,13 @@ use Rattle.image.specs.Patches.{color_in, color_put}
 use Rattle.palette.specs.PanDocs.{address_of, color_of, byte_in}
 use Rattle.palette.specs.Palette.{next_index, data_written}
 use Rattle.palette.specs.declared.Written.{Written}
+use Rattle.registers.specs.declared.colour.Plane.{Plane}
+use Rattle.registers.specs.declared.colour.Plane.TheVariants.{Background, Sprites}
+
+-- the first colour of either palette, of the 64
+abbrev pub first_of : Plane → ℕ
+first_of Background = 0
+first_of Sprites = 32
 
 -- of the colours from `first` on, the one that the address of an index register is in
 abbrev pub color_for : ℕ → ℕ → ℕ

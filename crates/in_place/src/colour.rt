@@ -1,9 +1,11 @@
-// The registers that only a colour machine has, on the image: monochrome just stores them.
+// The registers that only a colour machine has, on the image: monochrome just stores them. The test is in each function, as in registers/src/colour.rt.
+#![tactic(auto, using(crate::proofs::Images::size))]
+
 ghost use Rattle.std.specs.Prelude.{true, ◌≡◌, set};
 ghost use Rattle.image.specs.Layout.{image_of};
 ghost use Rattle.image.specs.Load.{load_call, storable};
 ghost use Rattle.memory.specs.World.{with_banks};
-ghost use Rattle.registers.specs.Colour.{speed_put, vram_bank_put, wram_bank_put};
+ghost use Rattle.registers.specs.Colour.{in_colour, speed_put, vram_bank_put, wram_bank_put};
 ghost use Rattle.in_place.specs.Held.{Held};
 
 use crate::store;
@@ -14,10 +16,10 @@ pub fn is_colour(image: &[u8]) -> bool
     requires { Held image.now }
     ensures { result ≡ (load_call image.now).state.core.banks.colour }
 {
-    let banks = banks_at(image);
-    banks.colour
+    banks_at(image).colour
 }
 
+// A group of the state, as `controller_at` and `hdma_at` are: each has a type of its own, and is one line.
 pub fn banks_at(image: &[u8]) -> Banks
     requires { Held image.now }
     ensures { result ≡ (load_call image.now).state.core.banks }
@@ -25,13 +27,17 @@ pub fn banks_at(image: &[u8]) -> Banks
     image::banks_at(image)
 }
 
-// The banks, and a byte of the page.
-fn put_banks(image: &mut [u8], at: u8, byte: u8, banks: Banks)
-    requires { Held image.old × (storable (with_banks (load_call image.old).state banks (set (load_call image.old).state.page at byte)) ≡ true) }
-    ensures { image.new ≡ image_of (with_banks (load_call image.old).state banks (set (load_call image.old).state.page at byte)) }
+// A bank's register, of which a colour machine keeps `kept`, and selects by it.
+fn put_bank(image: &mut [u8], at: u8, value: u8, kept: u8, banks: Banks)
+    requires { Held image.old × ((banks.colour ≡ (load_call image.old).state.core.banks.colour) × (banks.colour ≡ true → storable (with_banks (load_call image.old).state banks (set (load_call image.old).state.page at kept)) ≡ true)) }
+    ensures { image.new ≡ image_of (in_colour (load_call image.old).state at value (with_banks (load_call image.old).state banks (set (load_call image.old).state.page at kept))) }
 {
-    store(image, at, byte);
-    image::put_banks(image, banks);
+    if banks.colour {
+        store(image, at, kept);
+        image::put_banks(image, banks);
+    } else {
+        store(image, at, value);
+    }
 }
 
 // FF4D.
@@ -42,9 +48,9 @@ pub fn write_speed(image: &mut [u8], value: u8)
     if is_colour(image) {
         let next = speed(image[0x14D], value);
         store(image, 0x4D, next);
-        return;
+    } else {
+        store(image, 0x4D, value);
     }
-    store(image, 0x4D, value);
 }
 
 // FF4F.
@@ -52,13 +58,11 @@ pub fn write_vram_bank(image: &mut [u8], value: u8)
     requires { Held image.old }
     ensures { image.new ≡ image_of (vram_bank_put (load_call image.old).state value) }
 {
-    let mut banks = banks_at(image);
-    if banks.colour {
-        banks.vram = vram_bank(value);
-        put_banks(image, 0x4F, value % 2, banks);
-        return;
-    }
-    store(image, 0x4F, value);
+    let banks = Banks {
+        vram: vram_bank(value),
+        ..banks_at(image)
+    };
+    put_bank(image, 0x4F, value, value % 2, banks);
 }
 
 // FF70.
@@ -66,11 +70,9 @@ pub fn write_wram_bank(image: &mut [u8], value: u8)
     requires { Held image.old }
     ensures { image.new ≡ image_of (wram_bank_put (load_call image.old).state value) }
 {
-    let mut banks = banks_at(image);
-    if banks.colour {
-        banks.wram = wram_bank(value);
-        put_banks(image, 0x70, value % 8, banks);
-        return;
-    }
-    store(image, 0x70, value);
+    let banks = Banks {
+        wram: wram_bank(value),
+        ..banks_at(image)
+    };
+    put_bank(image, 0x70, value, value % 8, banks);
 }

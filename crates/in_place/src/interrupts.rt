@@ -1,37 +1,49 @@
 // Interrupts, the timer and the joypad on the image.
-ghost use Rattle.std.specs.Prelude.{◌≡◌, ◌≤◌, length};
+#![tactic(auto, using(crate::proofs::Images::size))]
+
+ghost use Rattle.std.specs.Prelude.{◌≡◌, ℕ, ◌≤◌, length};
+ghost use Rattle.std.specs.Option.{is_some};
 ghost use Rattle.image.specs.Layout.{image_len, image_of};
 ghost use Rattle.image.specs.Load.{load_call};
 ghost use Rattle.interrupt.specs.PanDocs.{first_of};
 ghost use Rattle.joypad.specs.Joypad.{with_state, actions_answer, directions_answer};
-ghost use Rattle.registers.specs.State.{loaded, timer_of, with_timer, requested_in, removed_in, with_controller, polled_in};
-ghost use Rattle.timer.specs.Overflow.{left_of};
+ghost use Rattle.registers.specs.State.{loaded, stored, timer_of, with_timer, requested_in, removed_in, with_controller, polled_in};
+ghost use Rattle.timer.specs.Overflow.{left_given, left_of};
+ghost use Rattle.timer.specs.PanDocs.{counting};
 ghost use Rattle.timer.specs.Timer.{updated};
 ghost use Rattle.in_place.specs.Held.{Held};
 ghost use Rattle.in_place.specs.Steps.{stepped_in};
 
 use crate::{load, store};
-use interrupt::{Interrupt, Pending};
+use interrupt::Interrupt;
 use joypad::Controller;
 use memory::Clock;
+
+// FF0F with an interrupt's bit changed.
+fn on_flags<F: FnOnce(u8, Interrupt) -> u8>(image: &mut [u8], interrupt: Interrupt, change: F)
+    requires held { Held image.old }
+    requires callable { F.IsAlwaysCallable change }
+    ensures { (next : ℕ) × F.post change (loaded (load_call image.old).state 0x0F) interrupt next × image.new ≡ image_of (stored (load_call image.old).state 0x0F next) }
+{
+    let flags = change(load(image, 0x0F), interrupt);
+    store(image, 0x0F, flags);
+}
 
 pub fn request_interrupt(image: &mut [u8], interrupt: Interrupt)
     requires { Held image.old }
     ensures { image.new ≡ image_of (requested_in (load_call image.old).state interrupt) }
 {
-    let flags = interrupt::request(load(image, 0x0F), interrupt);
-    store(image, 0x0F, flags);
+    on_flags(image, interrupt, interrupt::request);
 }
 
 pub fn remove_interrupt(image: &mut [u8], interrupt: Interrupt)
     requires { Held image.old }
     ensures { image.new ≡ image_of (removed_in (load_call image.old).state interrupt) }
 {
-    let flags = interrupt::remove(load(image, 0x0F), interrupt);
-    store(image, 0x0F, flags);
+    on_flags(image, interrupt, interrupt::remove);
 }
 
-pub fn get_interrupts(image: &[u8]) -> Pending
+pub fn get_interrupts(image: &[u8]) -> Option<Interrupt>
     requires { Held image.now }
     ensures { result ≡ first_of (loaded (load_call image.now).state 0xFF) (loaded (load_call image.now).state 0x0F) }
 {
@@ -67,10 +79,10 @@ fn step_tima_by(image: &mut [u8], count: u32)
     }
 }
 
-// How many cycles are left until TIMA overflows.
-pub fn cycles_to_overflow(image: &[u8]) -> u32
+// How many cycles are left until TIMA overflows; None while it does not count.
+pub fn cycles_to_overflow(image: &[u8]) -> Option<u32>
     requires { Held image.now }
-    ensures { result ≡ left_of (timer_of (load_call image.now).state) }
+    ensures { (left_given result ≡ left_of (timer_of (load_call image.now).state)) × (is_some result ≡ counting (timer_of (load_call image.now).state).tac) }
 {
     let clock = image::clock_at(image);
     timer::cycles_to_overflow(image[0x107], image[0x105], clock.tima)

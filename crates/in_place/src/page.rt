@@ -1,4 +1,6 @@
 // The page dispatch on the image: what a byte write stores, by the same map of the registers.
+#![tactic(auto, using(crate::proofs::Images::size))]
+
 ghost use Rattle.std.specs.Prelude.{◌≡◌};
 ghost use Rattle.image.specs.Layout.{image_of};
 ghost use Rattle.image.specs.Load.{load_call};
@@ -6,6 +8,7 @@ ghost use Rattle.registers.specs.Page.{write_register};
 ghost use Rattle.in_place.specs.Held.{Held};
 
 use crate::{colour, palettes, screen, store, transfers};
+use registers::colour::Plane;
 use registers::{Register, byte_as, register_of};
 
 // Without the copying that FF46 and FF55 start.
@@ -26,10 +29,10 @@ pub fn write(image: &mut [u8], at: u8, value: u8)
         Register::DestinationHigh => transfers::write_destination_high(image, value),
         Register::DestinationLow => transfers::write_destination_low(image, value),
         Register::Start => transfers::write_start(image, value),
-        Register::BackgroundIndex => palettes::write_background_index(image, value),
-        Register::BackgroundData => palettes::write_background_data(image, value),
-        Register::SpriteIndex => palettes::write_sprite_index(image, value),
-        Register::SpriteData => palettes::write_sprite_data(image, value),
+        Register::BackgroundIndex => palettes::write_index(image, Plane::Background, value),
+        Register::BackgroundData => palettes::write_data(image, Plane::Background, value),
+        Register::SpriteIndex => palettes::write_index(image, Plane::Sprites, value),
+        Register::SpriteData => palettes::write_data(image, Plane::Sprites, value),
         Register::WramBank => colour::write_wram_bank(image, value),
         Register::Byte => store(image, at, byte_as(at, value)),
     }

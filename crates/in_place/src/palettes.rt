@@ -1,14 +1,18 @@
-// FF68..FF6B on the image: monochrome just stores them. The background's and the sprites' work alike, on their own registers and colours.
-ghost use Rattle.std.specs.Prelude.{◌≡◌, ◌+◌, ◌<◌, ◌≤◌, length};
+// FF68..FF6B on the image: monochrome just stores them. The background's and the sprites' work alike, each on its own registers and colours.
+#![tactic(auto, using(crate::proofs::Images::size))]
+
+ghost use Rattle.std.specs.Prelude.{◌≡◌, ℕ, ◌+◌, ◌<◌, ◌≤◌, length};
 ghost use Rattle.image.specs.Layout.{image_len, image_of};
 ghost use Rattle.image.specs.Load.{load_call};
-ghost use Rattle.registers.specs.Colour.{background_index_put, background_data_put, sprite_index_put, sprite_data_put};
+ghost use Rattle.palette.specs.declared.Palette.{Palette};
+ghost use Rattle.registers.specs.Colour as colour;
 ghost use Rattle.in_place.specs.Held.{Held};
-ghost use Rattle.in_place.specs.Palettes.{index_put, data_put};
+ghost use Rattle.in_place.specs.Palettes.{first_of, index_put, data_put};
 
 use crate::colour::is_colour;
 use crate::store;
 use palette::{byte_of, color_of, next_index, set_color_palette};
+use registers::colour::Plane;
 
 // The byte `at` is the index register, the next the data register, and the colours are those from `first` on.
 fn put_index(image: &mut [u8], at: usize, first: usize, value: u8)
@@ -20,6 +24,8 @@ fn put_index(image: &mut [u8], at: usize, first: usize, value: u8)
     image[at + 1] = byte_of(c, value);
 }
 
+// Apart, so that what calls it is put in place.
+#[inline(never)]
 fn put_data(image: &mut [u8], at: usize, first: usize, value: u8)
     requires { (length image.old ≡ image_len) × ((at + 1 < image_len) × (first ≤ 32)) }
     ensures { image.new ≡ data_put image.old at first value }
@@ -31,54 +37,64 @@ fn put_data(image: &mut [u8], at: usize, first: usize, value: u8)
     let w = set_color_palette(index, c, next, value);
     image[at] = w.index;
     image[at + 1] = w.data;
-    let color = w.color;
-    image::put_color(image, k, color);
+    image::put_color(image, k, w.color);
 }
 
-// FF68.
-pub fn write_background_index(image: &mut [u8], value: u8)
-    requires { Held image.old }
-    ensures { image.new ≡ image_of (background_index_put (load_call image.old).state value) }
+// A plane's first colour of the 64.
+fn first_of(plane: Plane) -> usize
+    ensures { result ≡ first_of plane }
 {
-    if is_colour(image) {
-        put_index(image, 0x168, 0, value);
-        return;
+    match plane {
+        Plane::Background => 0,
+        Plane::Sprites => 32,
     }
-    store(image, 0x68, value);
 }
 
-// FF69.
-pub fn write_background_data(image: &mut [u8], value: u8)
-    requires { Held image.old }
-    ensures { image.new ≡ image_of (background_data_put (load_call image.old).state value) }
+// A palette's register: monochrome just stores it. The writer gets where the plane's index register and its first colour lie.
+fn put_palette<F: FnOnce(&mut [u8], usize, usize)>(
+    image: &mut [u8],
+    plane: Plane,
+    at: u8,
+    value: u8,
+    put: F,
+)
+    requires held { Held image.old }
+    requires fits { (a : _) (k n : ℕ) → length a.now ≡ image_len → k + 1 < image_len → n ≤ 32 → F.pre put a k n }
+    ensures { (next : Palette) → ((a : _) (k n : ℕ) (b : _) → a.now ≡ image.old → k ≡ 256 + colour.index_at plane → n ≡ first_of plane
+        → F.post put a k n tt b → b.now ≡ image_of (colour.with_palette plane (load_call image.old).state next))
+        → image.new ≡ image_of (colour.in_colour (load_call image.old).state at value (colour.with_palette plane (load_call image.old).state next)) }
 {
     if is_colour(image) {
-        put_data(image, 0x168, 0, value);
-        return;
+        put(image, 0x100 + plane.at() as usize, first_of(plane));
+    } else {
+        store(image, at, value);
     }
-    store(image, 0x69, value);
 }
 
-// FF6A.
-pub fn write_sprite_index(image: &mut [u8], value: u8)
+// FF68, FF6A.
+pub fn write_index(image: &mut [u8], plane: Plane, value: u8)
     requires { Held image.old }
-    ensures { image.new ≡ image_of (sprite_index_put (load_call image.old).state value) }
+    ensures { image.new ≡ image_of (colour.index_put plane (load_call image.old).state value) }
 {
-    if is_colour(image) {
-        put_index(image, 0x16A, 32, value);
-        return;
-    }
-    store(image, 0x6A, value);
+    put_palette(
+        image,
+        plane,
+        plane.at(),
+        value,
+        |image, at, first| put_index(image, at, first, value),
+    );
 }
 
-// FF6B.
-pub fn write_sprite_data(image: &mut [u8], value: u8)
+// FF69, FF6B.
+pub fn write_data(image: &mut [u8], plane: Plane, value: u8)
     requires { Held image.old }
-    ensures { image.new ≡ image_of (sprite_data_put (load_call image.old).state value) }
+    ensures { image.new ≡ image_of (colour.data_put plane (load_call image.old).state value) }
 {
-    if is_colour(image) {
-        put_data(image, 0x16A, 32, value);
-        return;
-    }
-    store(image, 0x6B, value);
+    put_palette(
+        image,
+        plane,
+        plane.at() + 1,
+        value,
+        |image, at, first| put_data(image, at, first, value),
+    );
 }

@@ -1,7 +1,11 @@
 // FF51..FF55 on the image: the registers of the transfers. The bytes are copied elsewhere.
-ghost use Rattle.std.specs.Prelude.{true, ◌≡◌};
+#![tactic(auto, using(crate::proofs::Images::size))]
+
+ghost use Rattle.std.specs.Prelude.{true, false, ◌≡◌};
 ghost use Rattle.image.specs.Layout.{image_of};
 ghost use Rattle.image.specs.Load.{load_call, storable};
+ghost use Rattle.hdma.specs.declared.Written.{Written};
+ghost use Rattle.registers.specs.State.{stored};
 ghost use Rattle.registers.specs.Transfers.{transfer_put, source_high_put, source_low_put, destination_high_put, destination_low_put, start_put};
 ghost use Rattle.in_place.specs.Held.{Held};
 
@@ -22,8 +26,23 @@ pub fn put_written(image: &mut [u8], at: u8, written: Written)
     ensures { image.new ≡ image_of (transfer_put (load_call image.old).state at written) }
 {
     store(image, at, written.byte);
-    let after = written.hdma;
-    image::put_hdma(image, after);
+    image::put_hdma(image, written.hdma);
+}
+
+// A write of an address's byte: monochrome just stores it.
+fn write_address<F: FnOnce(Hdma, u8) -> Written>(image: &mut [u8], at: u8, value: u8, write: F)
+    requires held { Held image.old }
+    requires callable { F.IsAlwaysCallable write }
+    requires kept { (w : Written) → F.post write (load_call image.old).state.core.hdma value w → (load_call image.old).state.core.banks.colour ≡ true → storable (transfer_put (load_call image.old).state at w) ≡ true }
+    ensures coloured { (load_call image.old).state.core.banks.colour ≡ true → (w : Written) × F.post write (load_call image.old).state.core.hdma value w × image.new ≡ image_of (transfer_put (load_call image.old).state at w) }
+    ensures plain { (load_call image.old).state.core.banks.colour ≡ false → image.new ≡ image_of (stored (load_call image.old).state at value) }
+{
+    if is_colour(image) {
+        let written = write(hdma_at(image), value);
+        put_written(image, at, written);
+    } else {
+        store(image, at, value);
+    }
 }
 
 // FF51.
@@ -31,12 +50,7 @@ pub fn write_source_high(image: &mut [u8], value: u8)
     requires { Held image.old }
     ensures { image.new ≡ image_of (source_high_put (load_call image.old).state value) }
 {
-    if is_colour(image) {
-        let hdma = hdma_at(image);
-        put_written(image, 0x51, hdma::write_source_high(hdma, value));
-        return;
-    }
-    store(image, 0x51, value);
+    write_address(image, 0x51, value, hdma::write_source_high);
 }
 
 // FF52.
@@ -44,12 +58,7 @@ pub fn write_source_low(image: &mut [u8], value: u8)
     requires { Held image.old }
     ensures { image.new ≡ image_of (source_low_put (load_call image.old).state value) }
 {
-    if is_colour(image) {
-        let hdma = hdma_at(image);
-        put_written(image, 0x52, hdma::write_source_low(hdma, value));
-        return;
-    }
-    store(image, 0x52, value);
+    write_address(image, 0x52, value, hdma::write_source_low);
 }
 
 // FF53.
@@ -57,12 +66,7 @@ pub fn write_destination_high(image: &mut [u8], value: u8)
     requires { Held image.old }
     ensures { image.new ≡ image_of (destination_high_put (load_call image.old).state value) }
 {
-    if is_colour(image) {
-        let hdma = hdma_at(image);
-        put_written(image, 0x53, hdma::write_destination_high(hdma, value));
-        return;
-    }
-    store(image, 0x53, value);
+    write_address(image, 0x53, value, hdma::write_destination_high);
 }
 
 // FF54.
@@ -70,20 +74,14 @@ pub fn write_destination_low(image: &mut [u8], value: u8)
     requires { Held image.old }
     ensures { image.new ≡ image_of (destination_low_put (load_call image.old).state value) }
 {
-    if is_colour(image) {
-        let hdma = hdma_at(image);
-        put_written(image, 0x54, hdma::write_destination_low(hdma, value));
-        return;
-    }
-    store(image, 0x54, value);
+    write_address(image, 0x54, value, hdma::write_destination_low);
 }
 
 pub fn mode_at(image: &[u8]) -> u8
     requires { Held image.now }
     ensures { result ≡ (load_call image.now).state.core.lcd.mode }
 {
-    let lcd = image::lcd_at(image);
-    lcd.mode
+    image::lcd_at(image).mode
 }
 
 // FF55, before any byte is copied; a general transfer sets the registers at its end.
@@ -92,13 +90,11 @@ pub fn write_start(image: &mut [u8], value: u8)
     ensures { image.new ≡ image_of (start_put (load_call image.old).state value) }
 {
     if is_colour(image) {
-        let hdma = hdma_at(image);
-        match hdma::do_cgb_dma(hdma, mode_at(image), value) {
-            Start::Set(written) => put_written(image, 0x55, written),
-            Start::Block(written) => put_written(image, 0x55, written),
+        match hdma::do_cgb_dma(hdma_at(image), mode_at(image), value) {
+            Start::Set(written) | Start::Block(written) => put_written(image, 0x55, written),
             Start::General => {}
         }
-        return;
+    } else {
+        store(image, 0x55, value);
     }
-    store(image, 0x55, value);
 }

@@ -1,12 +1,10 @@
 -- The timer's and the joypad's calls on the bus, each whole: number, answer, next state (document 01, "Numbers a call gives back", "Timer and buttons").
 use Rattle.std.specs.Prelude.{ℕ}
 use Rattle.joypad.specs.Joypad as joypad
-use Rattle.joypad.specs.declared.Pressed.{Pressed}
+use Rattle.joypad.specs.Joypad.{Pressed}
 use Rattle.memory.specs.declared.Memory.{Memory}
-use Rattle.refusals.specs.Answers.{changed, flag_given}
+use Rattle.refusals.specs.Answers.{Done, Flag, changed, flag_given}
 use Rattle.refusals.specs.Refusal.{or_else, refused_state, cycles_refused}
-use Rattle.refusals.specs.declared.Done.{Done}
-use Rattle.refusals.specs.declared.Flag.{Flag}
 use Rattle.registers.specs.State.{loaded, timer_of, with_timer, with_controller, polled_in}
 use Rattle.timer.specs.Timer.{updated}
 

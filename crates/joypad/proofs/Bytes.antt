@@ -1,4 +1,5 @@
 -- Bytes stay bytes over each call: of the controller, and FF0F.
+use Rattle.std.specs.Prelude.{Option, Some, None}
 use mathlib.Core.Bool.{◌&&◌}
 use Prim.Native.Nat.{ℕ, ◌%◌, ◌<◌}
 use native.Mathlib.Omega.{arith}
@@ -11,8 +12,6 @@ use Rattle.joypad.specs.declared.Controller.{Controller}
 use Rattle.joypad.specs.declared.Polled.{Polled}
 use Rattle.joypad.specs.declared.buttons.Button.{Button}
 use Rattle.joypad.specs.declared.buttons.Button.TheVariants.{Up, Down, Left, Right, A, B, Start, Select}
-use Rattle.joypad.specs.declared.buttons.Named.{Named}
-use Rattle.joypad.specs.declared.buttons.Named.TheVariants.{Some, None}
 
 pub bit_below : (b : Button) → bit_of b < 8
 unfolding bit_of
@@ -26,7 +25,7 @@ bit_below Start = lit< tt
 bit_below Select = lit< tt
 
 on_button_law : (f : Controller → Button → Controller) → ((c : Controller) (b : Button) → Bytes c → Bytes (f c b))
-    → (c : Controller) (m : Named) → Bytes c → Bytes (on_button f c m).controller
+    → (c : Controller) (m : Option Button) → Bytes c → Bytes (on_button f c m).controller
 on_button_law f keeps c (Some b) h = keeps c b h
 on_button_law f keeps c None h = h
 

@@ -1,20 +1,20 @@
 -- The buttons (document 01, "Timer and buttons", Joypad), each call whole. A call with a button over 7 is refused by 7 (number 7).
-use Rattle.std.specs.Prelude.{Bool, true, false, cond, not, ◌&&◌, ℕ, ◌+◌, ◌*◌, ◌/◌, ◌%◌, ◌<◌, eqb}
+use Rattle.std.specs.Prelude.{Option, Some, None, Result, Bool, true, false, cond, not, ◌&&◌, ℕ, ◌+◌, ◌*◌, ◌/◌, ◌%◌, ◌<◌, eqb}
+use Rattle.std.specs.Result.{result_unwrap_or}
 use Rattle.numbers.specs.Numbers.{done, outside}
+use Rattle.numbers.specs.Refusal.{number_given}
+use Rattle.numbers.specs.declared.Refusal.{Refusal}
 use Rattle.bit_utils.specs.Bits.{is_set, set_bit, unset_bit}
 use Rattle.interrupt.specs.Flags.{requested}
 use Rattle.interrupt.specs.declared.Interrupt.TheVariants as interrupts
 use Rattle.joypad.specs.PanDocs.{line_of, is_action}
 use Rattle.joypad.specs.declared.Controller.{Controller}
-use Rattle.joypad.specs.declared.Pressed.{Pressed}
 use Rattle.joypad.specs.declared.Polled.{Polled}
 use Rattle.joypad.specs.declared.buttons.Button.{Button}
 use Rattle.joypad.specs.declared.buttons.Button.TheVariants.{Up, Down, Left, Right, A, B, Start, Select}
-use Rattle.joypad.specs.declared.buttons.Named.{Named}
-use Rattle.joypad.specs.declared.buttons.Named.TheVariants.{Some, None}
 
 -- "Numbers a call gives back": buttons 0..7 follow `Button`'s order
-unfoldable pub named : ℕ → Named
+unfoldable pub named : ℕ → Option Button
 named n =
     cond (eqb n 0) (Some Up)
     (cond (eqb n 1) (Some Down)
@@ -45,8 +45,16 @@ unfoldable pub after_release : Controller → Button → Controller
 after_release c b =
     record { released = set_bit c.released (bit_of b); action = c.action; direction = c.direction; state = c.state }
 
+-- the number, and the controller after a press or a release: a refusal leaves it as it was
+pub record Pressed : Type 0 where
+  pub number : ℕ
+  pub controller : Controller
+
+abbrev pub pressed_of : Controller → Result Controller Refusal → Pressed
+pressed_of c r = record { number = number_given r; controller = result_unwrap_or r c }
+
 -- what a call does with the button of its number, or the refusal
-abbrev pub on_button : (Controller → Button → Controller) → Controller → Named → Pressed
+abbrev pub on_button : (Controller → Button → Controller) → Controller → Option Button → Pressed
 on_button f c (Some b) = record { number = done; controller = f c b }
 on_button f c None = record { number = outside; controller = c }
 

@@ -5,16 +5,17 @@
 ghost use Rattle.std.specs.Prelude.{◌≡◌, not, ◌%◌};
 ghost use Rattle.bit_utils.specs.Bits.{is_set};
 ghost use Rattle.joypad.specs.PanDocs.{low_four};
-ghost use Rattle.joypad.specs.Joypad.{fresh, press_call, release_call, with_state, marked, polled, pad_read, actions_answer, directions_answer};
+ghost use Rattle.joypad.specs.Joypad.{fresh, pressed_of, press_call, release_call, with_state, marked, polled, pad_read, actions_answer, directions_answer};
 
 use interrupt::Interrupt;
 
 pub mod buttons;
 
-use buttons::Named;
+use buttons::Button;
+use numbers::Refusal;
 
 // The Rust's Controller, with `joypad_state` beside it. A bit of `released` and of `state` is 1 while its button is up.
-#[derive(Clone, Copy)]
+#[derive(Clone, Copy, Debug, PartialEq, Eq)]
 pub struct Controller {
     pub released: u8,
     pub action: bool,
@@ -22,15 +23,8 @@ pub struct Controller {
     pub state: u8,
 }
 
-// The number, and the controller after a press or a release.
-#[derive(Clone, Copy)]
-pub struct Pressed {
-    pub number: u8,
-    pub controller: Controller,
-}
-
 // After an update: the controller, and FF0F as stored.
-#[derive(Clone, Copy)]
+#[derive(Clone, Copy, Debug, PartialEq, Eq)]
 pub struct Polled {
     pub controller: Controller,
     pub flags: u8,
@@ -49,81 +43,54 @@ impl Controller {
     }
 
     // A released button that goes down overwrites both marks; one that is down already stays so.
-    pub fn press(self, button: u8) -> Pressed
-        ensures { result ≡ press_call self button }
+    #[tactic(auto, using(numbers::proofs::Named::name_of_ok, crate::proofs::Laws::high_half, crate::proofs::Laws::low_half), unfolding(crate::specs::Joypad::after_press))]
+    pub fn press(self, button: u8) -> Result<Controller, Refusal>
+        ensures { pressed_of self result ≡ press_call self button }
     {
-        let named = buttons::from_number(button);
-        let Named::Some(known) = named else {
-            return Pressed {
-                number: numbers::OUTSIDE,
-                controller: self,
-            };
-        };
+        let known = Button::try_from(button)?;
         let bit = buttons::bit(known);
         if bit_utils::within::is_set(self.released, bit) {
             let down = bit_utils::within::unset_bit(self.released, bit);
-            return Pressed {
-                number: numbers::DONE,
-                controller: Controller {
-                    released: down,
-                    action: 4 <= bit,
-                    direction: bit < 4,
-                    state: self.state,
-                },
-            };
+            return Ok(Controller {
+                released: down,
+                action: 4 <= bit,
+                direction: bit < 4,
+                ..self
+            });
         }
-        Pressed {
-            number: numbers::DONE,
-            controller: self,
-        }
+        Ok(self)
     }
 
-    pub fn release(self, button: u8) -> Pressed
-        ensures { result ≡ release_call self button }
+    #[tactic(auto, using(numbers::proofs::Named::name_of_ok), unfolding(crate::specs::Joypad::after_release))]
+    pub fn release(self, button: u8) -> Result<Controller, Refusal>
+        ensures { pressed_of self result ≡ release_call self button }
     {
-        let named = buttons::from_number(button);
-        let Named::Some(known) = named else {
-            return Pressed {
-                number: numbers::OUTSIDE,
-                controller: self,
-            };
-        };
+        let known = Button::try_from(button)?;
         let bit = buttons::bit(known);
         let up = bit_utils::within::set_bit(self.released, bit);
-        Pressed {
-            number: numbers::DONE,
-            controller: Controller {
-                released: up,
-                action: self.action,
-                direction: self.direction,
-                state: self.state,
-            },
-        }
+        Ok(Controller {
+            released: up,
+            ..self
+        })
     }
 
     // What FF00 is read from, apart from `released`: only an update brings it up to date.
     pub fn set_joypad_state(self, state: u8) -> Controller
         ensures { result ≡ with_state self state }
     {
-        Controller {
-            released: self.released,
-            action: self.action,
-            direction: self.direction,
-            state: state,
-        }
+        Controller { state, ..self }
     }
 
     // Whether a mark waits for an update.
+    #[tactic(auto, unfolding(crate::specs::Joypad::marked))]
     pub fn is_marked(self) -> bool
         ensures { result ≡ marked self }
     {
-        if self.action {
-            return true;
-        }
-        self.direction
+        self.action || self.direction
     }
 
     // One mark at most is taken, the action mark first.
+    #[tactic(auto, unfolding(crate::specs::Joypad::polled))]
     pub fn update(self, control: u8, flags: u8) -> Polled
         ensures { result ≡ polled self control flags }
     {
@@ -146,7 +113,7 @@ impl Controller {
         }
         Polled {
             controller: next,
-            flags: flags,
+            flags,
         }
     }
 }
@@ -163,6 +130,7 @@ pub fn read(control: u8, state: u8) -> u8
     control / 16 * 16 + state / 16
 }
 
+// This and the next differ in one number, of which each says its meaning: one function with the number as an argument would say neither.
 pub fn are_action_keys_enabled(control: u8) -> bool
     ensures { result ≡ actions_answer control }
 {

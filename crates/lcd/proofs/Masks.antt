@@ -1,16 +1,12 @@
--- The masks of the code against the definitions, and what a call and a branch show of a test.
-use mathlib.Core.Bool.{Bool, cond}
-use mathlib.Core.Path.{◌≡◌, refl, sym, ap, ◌∙◌}
+-- The masks of the code against the definitions.
+use mathlib.Core.Bool.{cond}
+use mathlib.Core.Path.{◌≡◌, refl, ap, ◌∙◌}
 use Prim.Native.Nat.{ℕ, zero, suc, ◌+◌, ◌*◌, ◌/◌, ◌%◌, ◌<◌}
 use native.Mathlib.Omega.{arith}
 use lib.Dec.{eqb}
 use lib.Bits.{bit_and, bit_or, and_high, and_mask, or_shifted}
 use Rattle.bit_utils.specs.Bits.{is_set, set_bit}
 use Rattle.lcd.specs.PanDocs.{sources, status_of}
-
--- what a call answered and a branch tested, of the definition's own test
-pub shown : {b t u : Bool} → b ≡ t → b ≡ u → t ≡ u
-shown e h = sym e ∙ h
 
 -- `disable_screen` keeps bits 6..2
 pub off_mask : (x : ℕ) → bit_and x 124 ≡ x / 4 % 32 * 4

@@ -1,5 +1,4 @@
 pub mod Contents
-pub mod Fill
 pub mod Reading
 pub mod Steps
 pub mod Decoding

@@ -1,21 +1,15 @@
 -- A step of the reader: of the places that it goes by, each kind of step is what specs/Reader.antt says.
 use Rattle.std.proofs.Common.{◌≡◌, ℕ, suc, ◌+◌, ◌-◌, ◌<◌, ◌≤◌, Bool, true, false, ltb, List, [], ◌∷◌, ◌++◌, length, take, drop, sym, refl, ap, ◌∙◌, arith, length-drop, length-take-le, take-take, drop-drop, take-add, Some, None}
 use Rattle.memchr.specs.Find.{is_byte, IsFirstByte}
-use Rattle.lines.specs.Reader.{fed, part, standing, Ended, Last, Came, Dropped, Over}
-use Rattle.lines.specs.declared.reader.Found.{Found}
+use Rattle.lines.specs.Reader.{fed, part, standing, step, Ended, Last, Came, Dropped, Over}
 use Rattle.lines.specs.declared.reader.Found.TheVariants.{Line, Long, Read, End}
-use Rattle.lines.specs.declared.reader.Reader.{Reader}
-use Rattle.lines.specs.declared.reader.Step.{Step}
 use Rattle.lines.proofs.Reading.{part_drop, length_part, cuts, clear}
-
-abbrev step : Found → ℕ → ℕ → Reader → Step
-step found from to next = record { found = found; from = from; to = to; next = next }
 
 pub part_none : (l : List ℕ) (from to : ℕ) → to ≤ from → part from to l ≡ []
 part_none l from to h = let e : to - from ≡ 0 = omega arith in ap (λ (n : ℕ). take n (drop from l)) e
 
 module _ (l : List ℕ) (at end : ℕ) (h : at ≤ end) (k : end ≤ length l) where
-  pub step_over : at ≡ end → Over (part at end l) false l (step End at end (standing end end false))
+  pub step_over : at ≡ end → Over (part at end l) false l (step End (standing end end false))
   step_over e =
       record {
         ended = refl;
@@ -24,7 +18,7 @@ module _ (l : List ℕ) (at end : ℕ) (h : at ≤ end) (k : end ≤ length l) w
         stays = refl;
       }
 
-  pub step_last : (at ≡ end → ⊥) → fed (part at end l) ≡ false → Last (part at end l) false l (step Line at end (standing end end false))
+  pub step_last : (at ≡ end → ⊥) → fed (part at end l) ≡ false → Last (part at end l) false l (step (Line at end) (standing end end false))
   step_last d c =
       record {
         ended = refl;
@@ -36,7 +30,7 @@ module _ (l : List ℕ) (at end : ℕ) (h : at ≤ end) (k : end ≤ length l) w
       }
 
   pub step_dropped : (m : List ℕ) → length m ≡ length l → length l ≤ end - at → fed (part at end l) ≡ false
-      → Dropped (part at end l) true m (step Long 0 0 (standing 0 0 true))
+      → Dropped (part at end l) true m (step Long (standing 0 0 true))
   step_dropped m s f c =
       record {
         reads = refl;
@@ -48,7 +42,7 @@ module _ (l : List ℕ) (at end : ℕ) (h : at ≤ end) (k : end ≤ length l) w
 
   pub step_came : (m : List ℕ) (n : ℕ) → length m ≡ length l → end - at < length l → end - at + n ≤ length m → fed (part at end l) ≡ false
       → take (end - at) m ≡ part at end l
-      → Came (part at end l) true m (step Read 0 0 (standing 0 (end - at + n) (ltb 0 n)))
+      → Came (part at end l) true m (step Read (standing 0 (end - at + n) (ltb 0 n)))
   step_came m n s r f c e =
       record {
         reads = refl;
@@ -81,7 +75,7 @@ module _ (l : List ℕ) (at end : ℕ) (h : at ≤ end) (k : end ≤ length l) w
         let f : at + suc size ≡ at + size + 1 = omega arith in
         rw e (ap (take (end - (at + size + 1))) (drop-drop (suc size) at l ∙ ap (λ (n : ℕ). drop n l) f)))
 
-    pub step_ended : (more : Bool) → Ended (part at end l) more l (step Line at (at + size) (standing (at + size + 1) end more))
+    pub step_ended : (more : Bool) → Ended (part at end l) more l (step (Line at (at + size)) (standing (at + size + 1) end more))
     step_ended more =
         let p = (cuts (part at end l) size found).1 in
         record {

@@ -1,4 +1,5 @@
 pub mod Text
+pub mod Flag
 pub mod Contents
 pub mod Reader
 pub mod Answer

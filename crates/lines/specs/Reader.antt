@@ -4,7 +4,6 @@ use Rattle.std.specs.Prelude.{◌≡◌, ℕ, ◌-◌, ◌<◌, ◌≤◌, Bool,
 use Rattle.lines.specs.declared.reader.Found.{Found}
 use Rattle.lines.specs.declared.reader.Found.TheVariants.{Line, Long, Read, End}
 use Rattle.lines.specs.declared.reader.Reader.{Reader}
-use Rattle.lines.specs.declared.reader.Step.{Step}
 
 -- a character that is no line feed begins the first line
 abbrev pub begun : ℕ → List (List ℕ) → List (List ℕ)
@@ -25,13 +24,27 @@ fed (c ∷ s) = cond (c == 10) true (fed s)
 abbrev pub part : ℕ → ℕ → List ℕ → List ℕ
 part from to bytes = take (to - from) (drop from bytes)
 
+-- what a step finds, and where it leaves the reader
+pub record Step : Type 0 where
+  pub found : Found
+  pub next : Reader
+
+abbrev pub step : Found → Reader → Step
+step found next = record { found = found; next = next }
+
 -- what is read and not yet given
 abbrev pub pending : List ℕ → Reader → List ℕ
 pending bytes r = part r.at r.end bytes
 
 -- the line that a step gives
+abbrev pub line_found : List ℕ → Found → List ℕ
+line_found bytes (Line from to) = part from to bytes
+line_found bytes Long = []
+line_found bytes Read = []
+line_found bytes End = []
+
 abbrev pub line_in : List ℕ → Step → List ℕ
-line_in bytes s = part s.from s.to bytes
+line_in bytes s = line_found bytes s.found
 
 abbrev pub standing : ℕ → ℕ → Bool → Reader
 standing at end more = record { at = at; end = end; more = more }
@@ -41,8 +54,14 @@ abbrev pub Inside : ℕ → Reader → Type 0
 Inside n r = (r.at ≤ r.end) × (r.end ≤ n)
 
 -- what is given lies within the buffer, and so does the rest
+abbrev pub LineGiven : ℕ → Found → Type 0
+LineGiven n (Line from to) = (from ≤ to) × (to ≤ n)
+LineGiven n Long = Unit {0}
+LineGiven n Read = Unit {0}
+LineGiven n End = Unit {0}
+
 abbrev pub Given : ℕ → Step → Type 0
-Given n s = (s.from ≤ s.to) × ((s.to ≤ n) × Inside n s.next)
+Given n s = LineGiven n s.found × Inside n s.next
 
 -- What a step finds, where `before` was pending and `more` said whether there may be more to read; `bytes` is the buffer after it
 
@@ -86,7 +105,7 @@ pub record Over (before : List ℕ) (more : Bool) (bytes : List ℕ) (s : Step) 
   pub stays : s.next.more ≡ false
 
 abbrev pub FoundAs : Found → List ℕ → Bool → List ℕ → Step → Type 0
-FoundAs Line before more bytes s = Ended before more bytes s ⊎ Last before more bytes s
+FoundAs (Line from to) before more bytes s = Ended before more bytes s ⊎ Last before more bytes s
 FoundAs Read before more bytes s = Came before more bytes s
 FoundAs Long before more bytes s = Dropped before more bytes s
 FoundAs End before more bytes s = Over before more bytes s

@@ -1,7 +1,5 @@
 -- The bytes of a line: oracle/README.md, "Lines".
-use Rattle.std.specs.Prelude.{ℕ, zero, suc, ◌+◌, ◌-◌, ◌*◌, ◌/◌, ◌%◌, ◌≤◌, Bool, false, cond, ◌&&◌, List, [], ◌∷◌, ◌++◌, length, drop, ◌==◌, nat_le, nat_lt, slice_index}
-use Rattle.lines.specs.declared.line.Pair.{Pair}
-use Rattle.lines.specs.declared.line.Pair.TheVariants.{Byte, Wrong}
+use Rattle.std.specs.Prelude.{ℕ, zero, suc, ◌+◌, ◌-◌, ◌*◌, ◌/◌, ◌%◌, ◌≤◌, Bool, false, cond, ◌&&◌, List, [], ◌∷◌, ◌++◌, Option, Some, None, length, drop, ◌==◌, nat_le, nat_lt, slice_index}
 
 -- the number of an uppercase hexadecimal digit: 0 is 48 in ASCII, A is 65; 16 for any other character
 unfoldable pub digit_of : ℕ → ℕ
@@ -9,6 +7,10 @@ digit_of c =
     cond (nat_le 48 c && nat_le c 57) (c - 48)
     (cond (nat_le 65 c && nat_le c 70) (c - 55)
     16)
+
+-- the number where the character is a digit
+unfoldable pub digit_in : ℕ → Option ℕ
+digit_in c = cond (nat_lt (digit_of c) 16) (Some (digit_of c)) None
 
 -- the uppercase hexadecimal digit of a number below 16
 unfoldable pub hex_digit : ℕ → ℕ
@@ -22,8 +24,8 @@ abbrev pub index_text : ℕ → List ℕ
 index_text i = byte_text (i / 256) ++ byte_text (i % 256)
 
 -- the byte of two digits' numbers, the more significant first
-unfoldable pub byte_of : ℕ → ℕ → Pair
-byte_of high low = cond (nat_lt high 16 && nat_lt low 16) (Byte (high * 16 + low)) Wrong
+unfoldable pub byte_of : ℕ → ℕ → Option ℕ
+byte_of high low = cond (nat_lt high 16 && nat_lt low 16) (Some (high * 16 + low)) None
 
 -- n bytes have room; no field has more than 64
 abbrev pub Holds : ℕ → List ℕ → Type 0
@@ -33,9 +35,9 @@ Holds n bytes = (n ≤ 64) × (n ≤ length bytes)
 -- - is 45
 
 -- a byte, and those that come after it; no byte ends them
-abbrev pub and_then : Pair → List ℕ → List ℕ
-and_then (Byte b) rest = b ∷ rest
-and_then Wrong rest = []
+abbrev pub and_then : Option ℕ → List ℕ → List ℕ
+and_then (Some b) rest = b ∷ rest
+and_then None rest = []
 
 -- the bytes that a text has two digits for, at most n: up to the first two characters that are no byte
 unfoldable pub bytes_in : ℕ → List ℕ → List ℕ

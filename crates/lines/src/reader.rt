@@ -1,11 +1,13 @@
 // The lines of an input, one at a time. What is read stands in a buffer that the caller lends.
 ghost use Rattle.std.specs.Prelude.{◌≡◌, ◌+◌, ◌-◌, ◌≤◌, true, false, length, take};
-ghost use Rattle.lines.specs.Reader.{fed, part, pending, standing, Inside, Given, Finds};
+ghost use Rattle.lines.specs.Reader.{fed, pending, standing, step, Inside, Given, Finds};
 
 use std::io::{Read, Write};
 
-// The bytes from `at` to `end` are read and not yet given. `more`: there may be more to read.
-#[derive(Clone, Copy)]
+// The bytes from `at` to `end` are read and not yet given. `more`: there may be more to read. These are places and no slice, which would
+// keep the buffer from being read into. The buffer stays the caller's, and `Inside`, which ties the two, a clause: a reader with the buffer in it would lend a
+// line out of itself, of which no clause could say what is read and not yet given afterwards, or give places as this one does.
+#[derive(Clone, Copy, PartialEq, Eq)]
 pub struct Reader {
     pub at: usize,
     pub end: usize,
@@ -13,30 +15,12 @@ pub struct Reader {
 }
 
 // A line stands from `from` to `to`, without its line end. A line that does not fit the buffer is dropped as `Long`. `Read`: go on.
-#[derive(Clone, Copy)]
+#[derive(Clone, Copy, PartialEq, Eq)]
 pub enum Found {
-    Line,
+    Line { from: usize, to: usize },
     Long,
     Read,
     End,
-}
-
-#[derive(Clone, Copy)]
-pub struct Step {
-    pub found: Found,
-    pub from: usize,
-    pub to: usize,
-    pub next: Reader,
-}
-
-pub fn new() -> Reader
-    ensures { (result ≡ standing 0 0 true) × Inside 0 result }
-{
-    Reader {
-        at: 0,
-        end: 0,
-        more: true,
-    }
 }
 
 // Reads behind the first `kept` bytes: how many came, 0 at the end. A read that fails ends the input too, and is told on the output.
@@ -53,103 +37,75 @@ fn read_on<R: Read, W: Write>(input: &mut R, output: &mut W, buf: &mut [u8], kep
     }
 }
 
-// Moves the bytes from `from` to `to` to the front.
-fn move_down(buf: &mut [u8], from: usize, to: usize)
-    requires { (from ≤ to) × (to ≤ length buf.old) }
-    ensures { take (to - from) buf.new ≡ part from to buf.old }
-{
-    let mut i = 0;
-    while i < to - from {
-        buf[i] = buf[from + i];
-        i += 1;
+impl Reader {
+    pub fn new() -> Self
+        ensures { (result ≡ standing 0 0 true) × Inside 0 result }
+    {
+        Reader {
+            at: 0,
+            end: 0,
+            more: true,
+        }
     }
-}
 
-// Reads once, behind a line that is not whole.
-fn fill<R: Read, W: Write>(
-    input: &mut R,
-    output: &mut W,
-    buf: &mut [u8],
-    at: usize,
-    end: usize,
-) -> Step
-    requires { (at ≤ end) × ((end ≤ length buf.old) × (fed (part at end buf.old) ≡ false)) }
-    ensures { Given (length buf.new) result × Finds (part at end buf.old) true buf.new result }
-{
-    let kept = end - at;
-    if buf.len() <= kept {
-        return Step {
-            found: Found::Long,
-            from: 0,
-            to: 0,
-            next: new(),
-        };
-    }
-    move_down(buf, at, end);
-    let n = read_on(input, output, buf, kept);
-    Step {
-        found: Found::Read,
-        from: 0,
-        to: 0,
-        next: Reader {
+    // Reads once, behind a line that is not whole.
+    fn fill<R: Read, W: Write>(&mut self, input: &mut R, output: &mut W, buf: &mut [u8]) -> Found
+        requires { Inside (length buf.old) self.old × (fed (pending buf.old self.old) ≡ false) }
+        ensures { Given (length buf.new) (step result self.new) × Finds (pending buf.old self.old) true buf.new (step result self.new) }
+    {
+        let kept = self.end - self.at;
+        if buf.len() <= kept {
+            *self = Reader::new();
+            return Found::Long;
+        }
+        buf.copy_within(self.at..self.end, 0);
+        let n = read_on(input, output, buf, kept);
+        *self = Reader {
             at: 0,
             end: kept + n,
             more: 0 < n,
-        },
-    }
-}
-
-// The input's end: a last line may lack its line end.
-fn last(buf: &[u8], at: usize, end: usize) -> Step
-    requires { (at ≤ end) × ((end ≤ length buf.now) × (fed (part at end buf.now) ≡ false)) }
-    ensures { Given end result × Finds (part at end buf.now) false buf.now result }
-{
-    let next = Reader {
-        at: end,
-        end: end,
-        more: false,
-    };
-    if at == end {
-        return Step {
-            found: Found::End,
-            from: at,
-            to: end,
-            next: next,
         };
+        Found::Read
     }
-    Step {
-        found: Found::Line,
-        from: at,
-        to: end,
-        next: next,
-    }
-}
 
-pub fn next<R: Read, W: Write>(
-    input: &mut R,
-    output: &mut W,
-    buf: &mut [u8],
-    reader: Reader,
-) -> Step
-    requires { Inside (length buf.old) reader }
-    ensures { Given (length buf.new) result × Finds (pending buf.old reader) reader.more buf.new result }
-{
-    let at = reader.at;
-    let end = reader.end;
-    if let Some(size) = memchr::memchr(b'\n', &buf[at..end]) {
-        return Step {
-            found: Found::Line,
-            from: at,
-            to: at + size,
-            next: Reader {
-                at: at + size + 1,
-                end: end,
-                more: reader.more,
-            },
+    // The input's end: a last line may lack its line end.
+    fn last(&mut self, buf: &[u8]) -> Found
+        requires { Inside (length buf.now) self.old × (fed (pending buf.now self.old) ≡ false) }
+        ensures { Given self.old.end (step result self.new) × Finds (pending buf.now self.old) false buf.now (step result self.new) }
+    {
+        let from = self.at;
+        let to = self.end;
+        *self = Reader {
+            at: to,
+            end: to,
+            more: false,
         };
+        if from == to {
+            Found::End
+        } else {
+            Found::Line { from, to }
+        }
     }
-    if reader.more {
-        return fill(input, output, buf, at, end);
+
+    pub fn next<R: Read, W: Write>(
+        &mut self,
+        input: &mut R,
+        output: &mut W,
+        buf: &mut [u8],
+    ) -> Found
+        requires { Inside (length buf.old) self.old }
+        ensures { Given (length buf.new) (step result self.new) × Finds (pending buf.old self.old) self.old.more buf.new (step result self.new) }
+    {
+        let from = self.at;
+        if let Some(size) = memchr::memchr(b'\n', &buf[from..self.end]) {
+            let to = from + size;
+            self.at = to + 1;
+            return Found::Line { from, to };
+        }
+        if self.more {
+            self.fill(input, output, buf)
+        } else {
+            self.last(buf)
+        }
     }
-    last(buf, at, end)
 }

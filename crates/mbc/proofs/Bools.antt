@@ -6,7 +6,7 @@ use mathlib.Core.Logic.{◌⊎◌, inl, inr, ⊎_elim}
 use Prim.Native.Nat.{ℕ, zero, suc, ◌<◌}
 use native.Mathlib.Omega.{arith}
 use lib.Dec.{eqb}
-use borrow.Author.Tests.{eq-eqb, ne_eqb, eqb-true, not-true}
+use borrow.Author.Tests.{eq-eqb, eqb-true, not-true}
 use Rattle.rules.proofs.Tests.{or_cases, untrue}
 use Rattle.mbc.specs.Mbc.{one_of, implies}
 
@@ -27,10 +27,6 @@ pub among : (x : ℕ) (xs : List ℕ) (n : ℕ) → Among x xs n → one_of (x �
 among x [] n e = rw (eq-eqb n x e)
 among x (y ∷ ys) n (inl e) = rw (eq-eqb n x e)
 among x (y ∷ ys) n (inr h) = rw (among y ys n h) (or-true (eqb n x))
-
-pub not_among : (x : ℕ) (xs : List ℕ) (n : ℕ) → (Among x xs n → ⊥) → one_of (x ∷ xs) n ≡ false
-not_among x [] n h = rw (ne_eqb n x h)
-not_among x (y ∷ ys) n h = rw (ne_eqb n x (λ e. h (inl e))) (not_among y ys n (λ a. h (inr a)))
 
 pub implied : (a b : Bool) → implies a b ≡ true → a ≡ true → b ≡ true
 implied a true e h = refl

@@ -1,8 +1,9 @@
 -- What the bus leans on: a write keeps a mapper in range, what it stores lies in the save, ROM writes store nothing and RAM writes
 -- change no register; a read gives a byte. At the end, document 01's corners 10 and 11.
-use mathlib.Core.Path.{◌≡◌, refl}
-use mathlib.Core.Bool.{true, false}
-use Prim.Native.Nat.{ℕ, ◌%◌, ◌<◌, ◌≤◌}
+use mathlib.Core.Path.{◌≡◌, refl, ap}
+use mathlib.Core.Bool.{true, false, cond}
+use Rattle.std.specs.Prelude.{Option, Some, None}
+use Prim.Native.Nat.{ℕ, ◌<◌, ◌≤◌}
 use native.Mathlib.Omega.{arith}
 use lib.Dec.{ltb, lit≤}
 use lib.ListN.{get_or}
@@ -11,14 +12,13 @@ use mathlib.Core.Logic.{⊎_elim}
 use borrow.Author.Tests.{ltb-true, lt-ltb}
 use Rattle.rules.proofs.Tests.{by_cond}
 use Rattle.mbc.specs.PanDocs.{zero_as_one, half_byte}
-use Rattle.mbc.specs.Mbc.{ram_len, has_banks, described, in_range, behaviour, registers_of, start, rom_bank, ram_source, source, byte_of, read_at, stored_at, answer, low1, high1, after1, enable2, after2, after, cartridge_of}
+use Rattle.mbc.specs.Mbc.{ram_len, has_banks, described, in_range, behaviour, registers_of, start, rom_bank, ram_source, source, byte_of, read_at, stored_as, stored_at, answer, low1, high1, after1, enable2, after2, after, cartridge_of}
 use Rattle.mbc.specs.declared.cartridge.Cartridge.{Cartridge}
 use Rattle.mbc.specs.declared.mbc.Mapper.{Mapper}
 use Rattle.mbc.specs.declared.mbc.Mapper.TheVariants.{RomOnly}
 use Rattle.mbc.specs.declared.mbc.Source.{Source}
 use Rattle.mbc.specs.declared.mbc.Source.TheVariants.{Rom, Save, Half, Fixed}
-use Rattle.mbc.specs.declared.mbc.Answer.{Answer}
-use Rattle.mbc.specs.declared.mbc.Answer.TheVariants.{Stored, NotStored}
+use Rattle.mbc.specs.declared.mbc.Stored.{Stored}
 use Rattle.mbc.proofs.Cartridges.{by_ram_banks}
 use Rattle.mbc.proofs.Lawful.{Whole}
 use Rattle.mbc.proofs.Cases.{lawful}
@@ -27,27 +27,31 @@ pub use Rattle.mbc.proofs.Places.{mapped_rom, mapped_ram}
 
 -- what a write stores
 
+-- what is stored, where something is
+at_in : Option Stored → ℕ
+at_in (Some s) = s.at
+at_in None = 0
+
+value_in : Option Stored → ℕ
+value_in (Some s) = s.value
+value_in None = 0
+
+asked_below : (len value byte a : ℕ) (s : Stored) → byte < 256 → cond (ltb a len) (stored_as a byte) None ≡ Some s → (s.at < len) × (s.value < 256)
+unfolding at_in value_in
+asked_below len value byte a s v =
+    by_cond (λ (x : Option Stored). x ≡ Some s → (s.at < len) × (s.value < 256)) (ltb a len) (stored_as a byte) None
+    (λ t q.
+    let p : a ≡ s.at = ap at_in q in
+    let r : byte ≡ s.value = ap value_in q in
+    omega (arith, p, r, v, ltb-true a len t))
+    (λ f q. let z : ◌≡◌ {A = ℕ} 0 1 = cc in omega arith)
+
 -- said of any source: the address was tested, and the byte is the value or its low half
-stored_below : (len value : ℕ) (s : Source) (at byte : ℕ) → value < 256 → stored_at len value s ≡ Stored at byte
-    → (at < len) × (byte < 256)
-stored_below len value (Rom a) at byte v e = let z : ◌≡◌ {A = ℕ} 0 1 = cc in omega arith
-stored_below len value (Fixed b) at byte v e = let z : ◌≡◌ {A = ℕ} 0 1 = cc in omega arith
-stored_below len value (Save a) at byte v e =
-    by_cond (λ (x : Answer). x ≡ Stored at byte → (at < len) × (byte < 256)) (ltb a len) (Stored a value) NotStored
-    (λ t q.
-    let p : a ≡ at = cc in
-    let r : value ≡ byte = cc in
-    omega (arith, ltb-true a len t))
-    (λ f q. let z : ◌≡◌ {A = ℕ} 0 1 = cc in omega arith)
-    e
-stored_below len value (Half a) at byte v e =
-    by_cond (λ (x : Answer). x ≡ Stored at byte → (at < len) × (byte < 256)) (ltb a len) (Stored a (half_byte value)) NotStored
-    (λ t q.
-    let p : a ≡ at = cc in
-    let r : value % 16 ≡ byte = cc in
-    omega (arith, ltb-true a len t))
-    (λ f q. let z : ◌≡◌ {A = ℕ} 0 1 = cc in omega arith)
-    e
+stored_below : (len value : ℕ) (s : Source) (k : Stored) → value < 256 → stored_at len value s ≡ Some k → (k.at < len) × (k.value < 256)
+stored_below len value (Rom a) k v e = let z : ◌≡◌ {A = ℕ} 0 1 = cc in omega arith
+stored_below len value (Fixed b) k v e = let z : ◌≡◌ {A = ℕ} 0 1 = cc in omega arith
+stored_below len value (Save a) k v e = asked_below len value value a k v e
+stored_below len value (Half a) k v e = asked_below len value (half_byte value) a k (omega arith) e
 
 -- the lengths that a save can have
 pub by_ram_len : (P : ℕ → Type 0) → P 0 → P 512 → P 0x2000 → P 0x8000 → P 0x20000 → (c : Cartridge) (m : Mapper) → P (ram_len c m)
@@ -58,15 +62,15 @@ by_ram_len P none own one four sixteen c m =
 pub ram_len_most : (c : Cartridge) (m : Mapper) → ram_len c m ≤ 0x20000
 ram_len_most c m = by_ram_len (λ (n : ℕ). n ≤ 0x20000) (lit≤ tt) (lit≤ tt) (lit≤ tt) (lit≤ tt) (lit≤ tt) c m
 
-pub stored_within : (c : Cartridge) (m : Mapper) (index value at byte : ℕ) → value < 256
-    → answer c m index value ≡ Stored at byte → (at < ram_len c m) × ((at < 0x20000) × (byte < 256))
-stored_within c m index value at byte v e =
-    let b = stored_below (ram_len c m) value (source c m index) at byte v e in
+pub stored_within : (c : Cartridge) (m : Mapper) (index value : ℕ) (s : Stored) → value < 256
+    → answer c m index value ≡ Some s → (s.at < ram_len c m) × ((s.at < 0x20000) × (s.value < 256))
+stored_within c m index value s v e =
+    let b = stored_below (ram_len c m) value (source c m index) s v e in
     (b.0, (omega (arith, b.0, ram_len_most c m), b.1))
 
 -- a write below 8000 stores nothing
 pub rom_write_stores_nothing : (c : Cartridge) (m : Mapper) (index value : ℕ) → index < 0x8000
-    → answer c m index value ≡ NotStored
+    → answer c m index value ≡ None
 unfolding source
 rom_write_stores_nothing c m index value h =
     rw (lt-ltb index 0x8000 h)
@@ -120,6 +124,6 @@ pub corner_10_large : rom_bank (after (cartridge_of 128 0) (after (cartridge_of 
 unfolding start after1 low1 high1 zero_as_one
 corner_10_large = refl
 
-pub corner_11 : answer (cartridge_of 2 0) (after (cartridge_of 2 0) (start 2) 0x0000 0x0A) 0xA000 0xAB ≡ Stored 0 0x0B
+pub corner_11 : answer (cartridge_of 2 0) (after (cartridge_of 2 0) (start 2) 0x0000 0x0A) 0xA000 0xAB ≡ stored_as 0 0x0B
 unfolding start after2 enable2 source ram_source ram_len
 corner_11 = refl

@@ -1,5 +1,4 @@
 pub mod Bools
-pub mod Banks
 pub mod Bits
 pub mod Same
 pub mod Cartridges

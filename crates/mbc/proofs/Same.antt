@@ -1,6 +1,6 @@
 -- Registers compared field by field.
-use mathlib.Core.Path.{◌≡◌, refl, sym}
-use mathlib.Core.Bool.{Bool, true, false}
+use mathlib.Core.Path.{◌≡◌, refl}
+use mathlib.Core.Bool.{true}
 use Prim.Native.Nat.{ℕ}
 use lib.Dec.{eqb}
 use borrow.Author.Tests.{eqb-true, eq-eqb}
@@ -42,10 +42,3 @@ same_is r s e =
     let f = both_true (eqb r.enabled s.enabled) _ d.1 in
     numbers_are r.kind r.rom r.ram r.mode r.enabled r.high s (eqb-true _ _ a.0) (eqb-true _ _ b.0) (eqb-true _ _ c.0)
     (eqb-true _ _ d.0) (eqb-true _ _ f.0) (eqb-true _ _ f.1)
-
-refuted : (b : Bool) → (b ≡ true → ⊥) → false ≡ b
-refuted true h = absurd (h refl)
-refuted false h = refl
-
-pub unlike : (r s : Registers) → (r ≡ s → ⊥) → false ≡ same r s
-unlike r s h = refuted (same r s) (λ e. h (sym (same_is r s e)))

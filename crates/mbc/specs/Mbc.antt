@@ -1,6 +1,6 @@
 -- The mappers as documents 01 (sections are named in quotes) and 02 have them. A further mapper is a file like specs/Mbc/RomOnlyRules.antt, one case of `behaviour`,
 -- one of `mapper_of` and the last kind in `known`; all else is common, but for MBC5's `OneField`. Pan Docs' pieces are in specs/PanDocs.antt.
-use Rattle.std.specs.Prelude.{◌≡◌, Bool, true, cond, not, ◌&&◌, ◌||◌, List, [], ◌∷◌, ℕ, ◌*◌, ◌<◌, eqb, ltb, leb, length, get_or}
+use Rattle.std.specs.Prelude.{◌≡◌, Bool, true, cond, not, ◌&&◌, ◌||◌, List, [], ◌∷◌, ℕ, Option, None, ◌*◌, ◌<◌, eqb, ltb, leb, length, get_or}
 use Rattle.numbers.specs.Numbers.{done, out_of_range, wrong_length, outside}
 use Rattle.mbc.specs.PanDocs.{half_byte, rom_place}
 use Rattle.mbc.specs.Behaviour.{Behaviour}
@@ -10,12 +10,9 @@ use Rattle.mbc.specs.declared.mbc.Mapper.{Mapper}
 use Rattle.mbc.specs.declared.mbc.Mapper.TheVariants.{RomOnly, Mbc1, Mbc2, Mbc5}
 use Rattle.mbc.specs.declared.mbc.Source.{Source}
 use Rattle.mbc.specs.declared.mbc.Source.TheVariants.{Rom, Save, Half, Fixed}
-use Rattle.mbc.specs.declared.mbc.Answer.{Answer}
-use Rattle.mbc.specs.declared.mbc.Answer.TheVariants.{Stored, NotStored}
+use Rattle.mbc.specs.declared.mbc.Stored.{Stored}
 use Rattle.mbc.specs.declared.mbc.Written.{Written}
-use Rattle.mbc.specs.declared.mbc.Fresh.{Fresh}
-use Rattle.mbc.specs.declared.mbc.ReadByte.{ReadByte}
-use Rattle.mbc.specs.declared.mbc.WriteByte.{WriteByte}
+pub use Rattle.mbc.specs.Answers.{stored_as, Fresh, ReadByte, WriteByte, fresh_of, read_of, wrote_of}
 pub use Rattle.mbc.specs.Cartridge.{one_of, implies, cartridge_of, rom_len, powers}
 unfoldable pub use Rattle.mbc.specs.Cartridge.{ram_banks, has_banks, has_code, log2, banks_of}
 pub use Rattle.mbc.specs.Registers.{starting, bit, is_on}
@@ -119,13 +116,20 @@ read_at c m rom save index = byte_of rom save (source c m index)
 
 -- "Mappers", writes. What a write asks of the save: the byte that a read would find there, if its address is below the RAM length
 
-abbrev pub stored_at : ℕ → ℕ → Source → Answer
-stored_at len value (Rom at) = NotStored
-stored_at len value (Save at) = cond (ltb at len) (Stored at value) NotStored
-stored_at len value (Half at) = cond (ltb at len) (Stored at (half_byte value)) NotStored
-stored_at len value (Fixed byte) = NotStored
+-- ... wherever its address lies
+abbrev pub kept : ℕ → Source → Option Stored
+kept value (Rom at) = None
+kept value (Save at) = stored_as at value
+kept value (Half at) = stored_as at (half_byte value)
+kept value (Fixed byte) = None
 
-abbrev pub answer : Cartridge → Mapper → ℕ → ℕ → Answer
+abbrev pub stored_at : ℕ → ℕ → Source → Option Stored
+stored_at len value (Rom at) = None
+stored_at len value (Save at) = cond (ltb at len) (stored_as at value) None
+stored_at len value (Half at) = cond (ltb at len) (stored_as at (half_byte value)) None
+stored_at len value (Fixed byte) = None
+
+abbrev pub answer : Cartridge → Mapper → ℕ → ℕ → Option Stored
 answer c m index value = stored_at (ram_len c m) value (source c m index)
 
 abbrev pub after : Cartridge → Mapper → ℕ → ℕ → Mapper
@@ -170,12 +174,12 @@ read_byte c m rom save index =
     (cond (not (mapped index)) (read_as outside 0)
     (read_as done (read_at c m rom save index))))
 
-abbrev pub wrote_as : ℕ → Mapper → Answer → WriteByte
+abbrev pub wrote_as : ℕ → Mapper → Option Stored → WriteByte
 wrote_as number m a = record { number = number; mapper = m; answer = a }
 
 -- a refused write changes nothing
 unfoldable pub write_byte : Cartridge → Mapper → ℕ → ℕ → WriteByte
 write_byte c m index value =
-    cond (not (in_range c m)) (wrote_as out_of_range m NotStored)
-    (cond (not (mapped index)) (wrote_as outside m NotStored)
+    cond (not (in_range c m)) (wrote_as out_of_range m None)
+    (cond (not (mapped index)) (wrote_as outside m None)
     (wrote_as done (after c m index value) (answer c m index value)))

@@ -1,22 +1,31 @@
 // What a cartridge is described by, and what all mappers ask of it.
-ghost use Rattle.std.specs.Prelude.{◌≡◌, ◌&&◌, ◌<◌, ◌*◌};
-ghost use Rattle.mbc.specs.PanDocs.{masked};
+#![tactic(auto, unfolding(crate::specs::Cartridge::ram_banks, crate::specs::Cartridge::has_banks, crate::specs::Cartridge::has_code, crate::specs::Cartridge::log2, crate::specs::Cartridge::banks_of))]
+
+ghost use Rattle.std.specs.Prelude.{◌≡◌, cond, ◌&&◌, ◌<◌, ◌*◌, eqb};
+ghost use Rattle.mbc.specs.PanDocs.{enables, masked};
 ghost use Rattle.mbc.specs.Cartridge.{rom_len, ram_banks, has_banks, has_code, log2, banks_of};
 
+// The value that enables RAM.
+pub(crate) fn enables(value: u8) -> bool
+    ensures { result ≡ enables value }
+{
+    value % 16 == 0x0A
+}
+
 // N, the ROM's banks of 16,384 bytes, and the header's RAM code.
-#[derive(Clone, Copy)]
+#[derive(Clone, Copy, PartialEq, Eq)]
 pub struct Cartridge {
     pub banks: u16,
     pub code: u8,
 }
 
 impl Cartridge {
-    // N's logarithm.
+    // N's logarithm; 0 for a number that no N is. No Option, here and in the next: an image's field and a cartridge hold a number, whose range is asked for with
+    // the others, so each caller would put the 0 back.
     pub fn log(self) -> u8
         ensures { result ≡ log2 self.banks }
     {
-        let banks = self.banks;
-        match banks {
+        match self.banks {
             2 => 1,
             4 => 2,
             8 => 3,
@@ -50,17 +59,12 @@ impl Cartridge {
     pub fn ram_banks(self) -> u8
         ensures { result ≡ ram_banks self.code }
     {
-        let code = self.code;
-        if code == 2 {
-            return 1;
+        match self.code {
+            2 => 1,
+            3 => 4,
+            4 => 16,
+            _ => 0,
         }
-        if code == 3 {
-            return 4;
-        }
-        if code == 4 {
-            return 16;
-        }
-        0
     }
 
     pub fn ram_len(self) -> usize
@@ -73,41 +77,32 @@ impl Cartridge {
     pub fn has_banks(self, most: u16) -> bool
         ensures { result ≡ has_banks most self }
     {
-        let banks = self.banks;
-        if most < banks {
-            return false;
-        }
-        match banks {
-            2 | 4 | 8 | 16 | 32 | 64 | 128 | 256 | 512 => true,
-            _ => false,
-        }
+        self.banks <= most && matches!(self.banks, 2 | 4 | 8 | 16 | 32 | 64 | 128 | 256 | 512)
     }
 
     // The RAM code is one that there is, to `most`; 1 is none.
     pub fn has_code(self, most: u8) -> bool
         ensures { result ≡ has_code most self }
     {
-        let code = self.code;
-        if most < code {
-            return false;
-        }
-        if code == 1 {
-            return false;
-        }
-        code <= 4
+        self.code <= most && matches!(self.code, 0 | 2 | 3 | 4)
     }
 
     // N is to `banks`, the RAM code to `code`.
     pub fn describes(self, banks: u16, code: u8) -> bool
         ensures { result ≡ (has_banks banks self && has_code code self) }
     {
-        if self.has_banks(banks) {
-            return self.has_code(code);
-        }
-        false
+        self.has_banks(banks) && self.has_code(code)
     }
 
-    // The Rust's `bank & (banks - 1)`: N is a power of two.
+    // Whether RAM is on after a write of `value` to 0000..1FFF, where it was `on`: a cartridge without RAM enables none.
+    pub(crate) fn enabled(self, on: bool, value: u8) -> bool
+        ensures { result ≡ cond (eqb self.code 0) on (enables value) }
+    {
+        if self.code == 0 { on } else { enables(value) }
+    }
+
+    // The Rust's `bank & (banks - 1)`: N is a power of two. `0 < banks`, here and where the mappers call it, follows from the ranges; N is no nonzero type, as
+    // the all-zero state's cartridge has no banks, nor may one whose description is not tested yet.
     pub fn masked(self, bank: u16) -> u16
         requires { 0 < self.banks }
         ensures { result ≡ masked self.banks bank }

@@ -11,8 +11,9 @@ mod mbc5;
 mod rom_only;
 
 pub use cartridge::Cartridge;
-pub use held::{Registers, bit};
-pub use mbc::{Answer, Fresh, Mapper, ReadByte, Source, WriteByte, Written, is_mapped, rom_place};
-pub use mbc1::Mbc1;
-pub use mbc2::Mbc2;
-pub use mbc5::Mbc5;
+pub use held::Registers;
+pub use mbc::{Mapper, Source, Stored, Written, is_mapped, rom_place};
+pub use mbc1::{KIND as MBC1_KIND, Mbc1};
+pub use mbc2::{KIND as MBC2_KIND, Mbc2};
+pub use mbc5::{KIND as MBC5_KIND, Mbc5};
+pub use rom_only::KIND as ROM_ONLY_KIND;

@@ -1,8 +1,10 @@
 // What is common to the mappers: the Rust's trait `Mbc` as an enum, and its two calls.
+#![tactic(auto, unfolding(crate::specs::PanDocs::rom_place, crate::specs::Mbc::mapped, crate::specs::Mbc::source, crate::specs::Mbc::start, crate::specs::Mbc::fresh, crate::specs::Mbc::lengths, crate::specs::Mbc::read_byte, crate::specs::Mbc::write_byte))]
+
 ghost use Rattle.std.specs.Prelude.{◌≡◌, true, [], ℕ, ◌<◌, ◌≤◌, length};
 ghost use Rattle.mbc.specs.PanDocs.{rom_address, rom_place, ram_address};
 ghost use Rattle.mbc.specs.Behaviour.{ram_where};
-ghost use Rattle.mbc.specs.Mbc.{rom_len, ram_len, in_range, mapper_of, registers_of, mapped, start, ram_source, source, Within, read_at, stored_at, answer, after, written, fresh, lengths, read_as, read_byte, write_byte};
+ghost use Rattle.mbc.specs.Mbc.{rom_len, ram_len, in_range, mapper_of, registers_of, mapped, start, ram_source, source, Within, read_at, kept, stored_at, answer, after, written, fresh, lengths, read_byte, write_byte, fresh_of, read_of, wrote_of};
 ghost use Rattle.mbc.specs.declared.cartridge.Cartridge.{Cartridge};
 
 use crate::cartridge::Cartridge;
@@ -11,9 +13,10 @@ use crate::mbc1::Mbc1;
 use crate::mbc2::Mbc2;
 use crate::mbc5::Mbc5;
 use crate::{mbc1, mbc2, mbc5, rom_only};
+use numbers::Refusal;
 
 // Kinds are the state image's: each mapper's file has its own.
-#[derive(Clone, Copy)]
+#[derive(Clone, Copy, PartialEq, Eq)]
 pub enum Mapper {
     RomOnly,
     Mbc1(Mbc1),
@@ -21,18 +24,19 @@ pub enum Mapper {
     Mbc5(Mbc5),
 }
 
-// The last kind.
+// The last kind. `fresh` is given a kind as a number, and `Registers` holds any number as one (held.rt), as the definitions `known` and `mapper_of` do: an
+// enum of kinds would be made for this one test and taken apart at the next line.
 const LAST: u8 = mbc5::KIND;
 
-// What a write asks of the save.
-#[derive(Clone, Copy)]
-pub enum Answer {
-    Stored { at: usize, value: u8 },
-    NotStored,
+// The byte that a write asks the save to store.
+#[derive(Clone, Copy, PartialEq, Eq)]
+pub struct Stored {
+    pub at: usize,
+    pub value: u8,
 }
 
 // Where a read finds its byte; `Half` is a save byte of which the low half counts.
-#[derive(Clone, Copy)]
+#[derive(Clone, Copy, PartialEq, Eq)]
 pub enum Source {
     Rom(usize),
     Save(usize),
@@ -40,43 +44,17 @@ pub enum Source {
     Fixed(u8),
 }
 
-#[derive(Clone, Copy)]
-pub struct Fresh {
-    pub number: u8,
-    pub cartridge: Cartridge,
-    pub mapper: Mapper,
-}
-
-#[derive(Clone, Copy)]
+#[derive(Clone, Copy, PartialEq, Eq)]
 pub struct Written {
     pub mapper: Mapper,
-    pub answer: Answer,
-}
-
-#[derive(Clone, Copy)]
-pub struct ReadByte {
-    pub number: u8,
-    pub value: u8,
-}
-
-#[derive(Clone, Copy)]
-pub struct WriteByte {
-    pub number: u8,
-    pub mapper: Mapper,
-    pub answer: Answer,
+    pub answer: Option<Stored>,
 }
 
 // Whether a mapper answers for a place: 0000..7FFF and A000..BFFF.
 pub fn is_mapped(index: u16) -> bool
     ensures { result ≡ mapped index }
 {
-    if index < 0x8000 {
-        return true;
-    }
-    if index < 0xA000 {
-        return false;
-    }
-    index < 0xC000
+    matches!(index, 0x0000..=0x7FFF | 0xA000..=0xBFFF)
 }
 
 // The address in ROM of a place in 4000..7FFF.
@@ -97,19 +75,13 @@ pub fn rom_place(bank: u16, index: u16) -> usize
     rom_address(bank, index)
 }
 
-// The address in RAM of a place in A000..BFFF.
+// The address in RAM of a place in A000..BFFF. That the index is such a place, here, in `Source::of_ram`, `ram_source` and `source`, is a fact of the address
+// that a caller gave, which is asked once above; an index of a type of its own would be made there and taken apart here.
 pub fn ram_address(bank: u8, index: u16) -> usize
     requires { 0xA000 ≤ index }
     ensures { result ≡ ram_address bank index }
 {
     (index - 0xA000) as usize + bank as usize * 0x2000
-}
-
-// A refused read gives 0.
-fn refused_read(number: u8) -> ReadByte
-    ensures { result ≡ read_as number 0 }
-{
-    ReadByte { number, value: 0 }
 }
 
 impl Source {
@@ -125,85 +97,68 @@ impl Source {
     }
 
     // What a write of `value` asks of a save of `len` bytes: to store where a read would look.
-    pub fn stored(self, len: usize, value: u8) -> Answer
+    pub fn stored(self, len: usize, value: u8) -> Option<Stored>
         ensures { result ≡ stored_at len value self }
     {
-        match self {
-            Source::Rom(_) => Answer::NotStored,
-            Source::Save(at) => {
-                if at < len {
-                    return Answer::Stored { at, value };
-                }
-                Answer::NotStored
-            }
-            Source::Half(at) => {
-                if at < len {
-                    return Answer::Stored {
-                        at,
-                        value: value % 16,
-                    };
-                }
-                Answer::NotStored
-            }
-            Source::Fixed(_) => Answer::NotStored,
-        }
+        let asked = self.kept(value)?;
+        if asked.at < len { Some(asked) } else { None }
     }
 
     // The same of an address that lies in the save.
-    pub fn kept(self, value: u8) -> Answer
-        ensures { (len : ℕ) → Within 0 len self → result ≡ stored_at len value self }
+    pub fn kept(self, value: u8) -> Option<Stored>
+        ensures whole { result ≡ kept value self }
+        ensures in_save { (len : ℕ) → Within 0 len self → result ≡ stored_at len value self }
     {
         match self {
-            Source::Rom(_) => Answer::NotStored,
-            Source::Save(at) => Answer::Stored { at, value },
-            Source::Half(at) => Answer::Stored {
+            Source::Save(at) => Some(Stored { at, value }),
+            Source::Half(at) => Some(Stored {
                 at,
                 value: value % 16,
-            },
-            Source::Fixed(_) => Answer::NotStored,
+            }),
+            Source::Rom(_) | Source::Fixed(_) => None,
+        }
+    }
+}
+
+// A mapper's fields as numbers.
+impl From<Mapper> for Registers {
+    ghost from_gives = { λ m r. r ≡ registers_of m };
+
+    fn from(mapper: Mapper) -> Registers {
+        match mapper {
+            Mapper::RomOnly => Registers::start(rom_only::KIND),
+            Mapper::Mbc1(m) => Registers::from(m),
+            Mapper::Mbc2(m) => Registers::from(m),
+            Mapper::Mbc5(m) => Registers::from(m),
+        }
+    }
+}
+
+// The mapper that has these fields; a kind past the last counts as the last.
+impl From<Registers> for Mapper {
+    ghost from_gives = { λ r m. m ≡ mapper_of r };
+
+    fn from(r: Registers) -> Mapper {
+        match r.kind {
+            rom_only::KIND => Mapper::RomOnly,
+            mbc1::KIND => Mapper::Mbc1(Mbc1::from(r)),
+            mbc2::KIND => Mapper::Mbc2(Mbc2::from(r)),
+            _ => Mapper::Mbc5(Mbc5::from(r)),
         }
     }
 }
 
 impl Mapper {
-    // Its fields as numbers.
-    pub fn registers(self) -> Registers
-        ensures { result ≡ registers_of self }
-    {
-        match self {
-            Mapper::RomOnly => Registers::start(rom_only::KIND),
-            Mapper::Mbc1(m) => m.registers(),
-            Mapper::Mbc2(m) => m.registers(),
-            Mapper::Mbc5(m) => m.registers(),
-        }
-    }
-
-    // The mapper that has these fields; a kind past the last counts as the last.
-    pub fn from_registers(r: Registers) -> Mapper
-        ensures { result ≡ mapper_of r }
-    {
-        if r.kind == rom_only::KIND {
-            return Mapper::RomOnly;
-        }
-        if r.kind == mbc1::KIND {
-            return Mapper::Mbc1(Mbc1::from_registers(r));
-        }
-        if r.kind == mbc2::KIND {
-            return Mapper::Mbc2(Mbc2::from_registers(r));
-        }
-        Mapper::Mbc5(Mbc5::from_registers(r))
-    }
-
     fn start(kind: u8) -> Mapper
         ensures { result ≡ start kind }
     {
-        Mapper::from_registers(Registers::start(kind))
+        Mapper::from(Registers::start(kind))
     }
 
     pub fn ram_len(self, cartridge: Cartridge) -> usize
         ensures { result ≡ ram_len cartridge self }
     {
-        let held = self.registers();
+        let held = Registers::from(self);
         held.ram_len(cartridge)
     }
 
@@ -211,17 +166,22 @@ impl Mapper {
     pub fn lengths(self, cartridge: Cartridge, rom: usize, save: usize) -> bool
         ensures { result ≡ lengths cartridge self rom save }
     {
-        if rom == cartridge.rom_len() {
-            return save == self.ram_len(cartridge);
-        }
-        false
+        rom == cartridge.rom_len() && save == self.ram_len(cartridge)
     }
 
+    // One of three matches of a mapper, beside its numbers and `after`: each gives another type, and its arms call another function. One match for all three
+    // would need a trait of the mappers, with three methods and their laws.
+    // Ten calls have this as a `requires`. The definitions speak of any pair, in range or not, as `write_byte` refuses one by number: a type of a pair in range
+    // would carry its proof into each record that they make, and be taken apart at each call.
     pub fn in_range(self, cartridge: Cartridge) -> bool
         ensures { result ≡ in_range cartridge self }
     {
-        let held = self.registers();
-        held.fit(cartridge)
+        match self {
+            Mapper::RomOnly => rom_only::in_range(cartridge),
+            Mapper::Mbc1(m) => m.in_range(cartridge),
+            Mapper::Mbc2(m) => m.in_range(cartridge),
+            Mapper::Mbc5(m) => m.in_range(cartridge),
+        }
     }
 
     // Where a read finds its byte.
@@ -229,7 +189,7 @@ impl Mapper {
         requires { mapped index ≡ true }
         ensures { result ≡ source cartridge self index }
     {
-        let held = self.registers();
+        let held = Registers::from(self);
         if index < 0x8000 {
             return Source::Rom(rom_place(held.rom, index));
         }
@@ -256,12 +216,13 @@ impl Mapper {
         0x8000 <= index
     }
 
-    // For the bus, which has tested the state, the lengths and the index.
+    // For the bus, which has tested the state, the lengths and the index. Here and below the cartridge, what is lent, the index and the value stay a
+    // parameter each: each is used by itself, and a caller, who holds them apart, would make the struct that this takes apart.
     pub fn read(self, cartridge: Cartridge, rom: &[u8], save: &[u8], index: u16) -> u8
         requires { (in_range cartridge self ≡ true) × ((mapped index ≡ true) × ((length rom.now ≡ rom_len cartridge) × (length save.now ≡ ram_len cartridge self))) }
         ensures { result ≡ read_at cartridge self rom.now save.now index }
     {
-        let held = self.registers();
+        let held = Registers::from(self);
         if index < 0x8000 {
             return rom[rom_place(held.rom, index)];
         }
@@ -280,86 +241,67 @@ impl Mapper {
         Written { mapper, answer }
     }
 
-    // A new cartridge with its mapper as it starts; 3 for a description out of range.
-    pub fn fresh(kind: u8, banks: u16, code: u8) -> Fresh
-        ensures { result ≡ fresh kind banks code }
+    // A new cartridge with its mapper as it starts; a description out of range is refused.
+    pub fn fresh(kind: u8, banks: u16, code: u8) -> Result<(Cartridge, Mapper), Refusal>
+        ensures { fresh_of result ≡ fresh kind banks code }
     {
-        let none = Cartridge { banks: 0, code: 0 };
-        let cartridge = Cartridge { banks, code };
         if LAST < kind {
-            return Fresh {
-                number: numbers::OUT_OF_RANGE,
-                cartridge: none,
-                mapper: Mapper::RomOnly,
-            };
+            return Err(Refusal::OutOfRange);
         }
+        let cartridge = Cartridge { banks, code };
         let mapper = Mapper::start(kind);
-        if mapper.in_range(cartridge) {
-            return Fresh {
-                number: numbers::DONE,
-                cartridge,
-                mapper,
-            };
+        if !mapper.in_range(cartridge) {
+            return Err(Refusal::OutOfRange);
         }
-        Fresh {
-            number: numbers::OUT_OF_RANGE,
-            cartridge: none,
-            mapper: Mapper::RomOnly,
-        }
+        Ok((cartridge, mapper))
     }
 
     // As `read_byte`, for who has tested the state.
-    pub fn read_lent(self, cartridge: Cartridge, rom: &[u8], save: &[u8], index: u16) -> ReadByte
+    pub fn read_lent(
+        self,
+        cartridge: Cartridge,
+        rom: &[u8],
+        save: &[u8],
+        index: u16,
+    ) -> Result<u8, Refusal>
         requires { in_range cartridge self ≡ true }
-        ensures { result ≡ read_byte cartridge self rom.now save.now index }
+        ensures { read_of result ≡ read_byte cartridge self rom.now save.now index }
     {
         if !self.lengths(cartridge, rom.len(), save.len()) {
-            return refused_read(numbers::WRONG_LENGTH);
+            return Err(Refusal::WrongLength);
         }
         if !is_mapped(index) {
-            return refused_read(numbers::OUTSIDE);
+            return Err(Refusal::Outside);
         }
-        ReadByte {
-            number: numbers::DONE,
-            value: self.read(cartridge, rom, save, index),
-        }
+        Ok(self.read(cartridge, rom, save, index))
     }
 
-    // The Rust's `read_byte`: 3, 4 and 7 refuse, with 0.
-    pub fn read_byte(self, cartridge: Cartridge, rom: &[u8], save: &[u8], index: u16) -> ReadByte
-        ensures { result ≡ read_byte cartridge self rom.now save.now index }
+    // The Rust's `read_byte`, which refuses a state out of range, lengths that are not the cartridge's, and a place that no mapper answers for.
+    pub fn read_byte(
+        self,
+        cartridge: Cartridge,
+        rom: &[u8],
+        save: &[u8],
+        index: u16,
+    ) -> Result<u8, Refusal>
+        ensures { read_of result ≡ read_byte cartridge self rom.now save.now index }
     {
         if !self.in_range(cartridge) {
-            return refused_read(numbers::OUT_OF_RANGE);
+            return Err(Refusal::OutOfRange);
         }
         self.read_lent(cartridge, rom, save, index)
     }
 
-    // The Rust's `write_byte`: 3 and 7 refuse, and change nothing.
-    pub fn write_byte(self, cartridge: Cartridge, index: u16, value: u8) -> WriteByte
-        ensures { result ≡ write_byte cartridge self index value }
+    // The Rust's `write_byte`, which refuses a state out of range and a place that no mapper answers for.
+    pub fn write_byte(self, cartridge: Cartridge, index: u16, value: u8) -> Result<Written, Refusal>
+        ensures { wrote_of self result ≡ write_byte cartridge self index value }
     {
         if !self.in_range(cartridge) {
-            return WriteByte {
-                number: numbers::OUT_OF_RANGE,
-                mapper: self,
-                answer: Answer::NotStored,
-            };
+            return Err(Refusal::OutOfRange);
         }
         if !is_mapped(index) {
-            return WriteByte {
-                number: numbers::OUTSIDE,
-                mapper: self,
-                answer: Answer::NotStored,
-            };
+            return Err(Refusal::Outside);
         }
-        let done = self.write(cartridge, index, value);
-        let mapper = done.mapper;
-        let answer = done.answer;
-        WriteByte {
-            number: numbers::DONE,
-            mapper,
-            answer,
-        }
+        Ok(self.write(cartridge, index, value))
     }
 }

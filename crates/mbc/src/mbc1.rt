@@ -1,4 +1,6 @@
 // MBC1, as the Rust's mbc1.rs: five registers.
+#![tactic(auto, unfolding(crate::specs::PanDocs::zero_as_one, crate::specs::Mbc::in_range, crate::specs::Mbc::described, crate::specs::Mbc::held, crate::specs::Mbc::Mbc1Rules::suits, crate::specs::Mbc::Mbc1Rules::ram_bank1, crate::specs::Mbc::Mbc1Rules::enable1, crate::specs::Mbc::Mbc1Rules::low1, crate::specs::Mbc::Mbc1Rules::high1, crate::specs::Mbc::Mbc1Rules::mode1, crate::specs::Mbc::Mbc1Rules::after1))]
+
 ghost use Rattle.std.specs.Prelude.{◌≡◌, true, cond, ◌&&◌, ◌<◌, ◌≤◌};
 ghost use Rattle.mbc.specs.PanDocs.{mbc1_bank};
 ghost use Rattle.mbc.specs.Registers.{same};
@@ -7,11 +9,11 @@ ghost use Rattle.mbc.specs.Mbc.{in_range};
 ghost use Rattle.mbc.specs.declared.mbc.Mapper.TheVariants as mapper;
 
 use crate::cartridge::Cartridge;
-use crate::held::{Registers, bit};
+use crate::held::Registers;
 
 pub const KIND: u8 = 1;
 
-#[derive(Clone, Copy)]
+#[derive(Clone, Copy, PartialEq, Eq)]
 pub struct Mbc1 {
     // The ROM bank at 4000..7FFF.
     pub rom: u16,
@@ -35,10 +37,10 @@ fn combined(five: u16, two: u8) -> u16
     }
 }
 
-impl Mbc1 {
-    pub fn from_registers(r: Registers) -> Mbc1
-        ensures { result ≡ from1 r }
-    {
+impl From<Registers> for Mbc1 {
+    ghost from_gives = { λ r m. m ≡ from1 r };
+
+    fn from(r: Registers) -> Mbc1 {
         Mbc1 {
             rom: r.rom,
             ram: r.ram,
@@ -47,114 +49,69 @@ impl Mbc1 {
             high: r.high,
         }
     }
+}
 
-    pub fn registers(self) -> Registers
-        ensures { result ≡ numbers1 self }
-    {
+impl From<Mbc1> for Registers {
+    ghost from_gives = { λ m r. r ≡ numbers1 m };
+
+    fn from(m: Mbc1) -> Registers {
         Registers {
             kind: KIND,
-            rom: self.rom,
-            ram: self.ram,
-            mode: bit(self.mode),
-            enabled: bit(self.enabled),
-            high: self.high,
+            rom: m.rom,
+            ram: m.ram,
+            mode: u8::from(m.mode),
+            enabled: u8::from(m.enabled),
+            high: m.high,
         }
     }
+}
 
-    // Whether one has these registers.
-    pub fn has(r: Registers) -> bool
-        ensures { result ≡ same r (numbers1 (from1 r)) }
-    {
-        if r.kind != KIND {
-            return false;
-        }
-        if 1 < r.mode {
-            return false;
-        }
-        r.enabled <= 1
-    }
-
+impl Mbc1 {
     // RAM enabled needs code 2 or 3; banking mode or a RAM bank above 0 needs code 3.
     fn suits(self, code: u8) -> bool
         ensures { result ≡ suits self code }
     {
-        if code == 3 {
-            return true;
-        }
-        if self.mode {
-            return false;
-        }
-        if 0 < self.ram {
-            return false;
-        }
-        if code == 2 {
-            return true;
-        }
-        !self.enabled
+        code == 3 || !self.mode && self.ram == 0 && (code == 2 || !self.enabled)
     }
 
     // The state ranges.
     fn held(self, cartridge: Cartridge) -> bool
         ensures { result ≡ held1 cartridge self }
     {
-        let rom = self.rom;
-        let ram = self.ram;
-        let high = self.high;
-        if cartridge.banks <= rom {
-            return false;
-        }
-        if 3 < ram {
-            return false;
-        }
-        if 3 < high {
-            return false;
-        }
-        self.suits(cartridge.code)
+        self.rom < cartridge.banks && self.ram <= 3 && self.high <= 3 && self.suits(cartridge.code)
     }
 
+    // What MBC5 has in common with it, here and in `enable`, is a method of the cartridge: the rest of each line names what differs.
     pub fn in_range(self, cartridge: Cartridge) -> bool
         ensures { result ≡ in_range cartridge (mapper.Mbc1 self) }
     {
-        if cartridge.describes(128, 3) {
-            return self.held(cartridge);
-        }
-        false
+        cartridge.describes(128, 3) && self.held(cartridge)
     }
 
-    // Whether one has these registers, and is in range.
+    // Whether one has these registers, and is in range. `Mbc2::fit` is the same of its type: one generic over both would need `in_range` in a trait, of which
+    // no other code makes use.
+    #[tactic(auto, unfolding(crate::specs::Registers::same))]
     pub fn fit(r: Registers, cartridge: Cartridge) -> bool
         ensures { result ≡ (same r (numbers1 (from1 r)) && in_range cartridge (mapper.Mbc1 (from1 r))) }
     {
-        if !Mbc1::has(r) {
-            return false;
-        }
-        let m = Mbc1::from_registers(r);
-        m.in_range(cartridge)
+        let m = Mbc1::from(r);
+        r == Registers::from(m) && m.in_range(cartridge)
     }
 
     // The RAM bank at A000..BFFF.
     pub fn ram_bank(self) -> u8
         ensures { result ≡ ram_bank1 self }
     {
-        if self.mode {
-            return self.ram;
-        }
-        0
+        if self.mode { self.ram } else { 0 }
     }
 
     // 0000..1FFF
     fn enable(self, cartridge: Cartridge, value: u8) -> Mbc1
         ensures { result ≡ enable1 cartridge self value }
     {
-        if cartridge.code == 0 {
-            return self;
-        }
         Mbc1 {
-            rom: self.rom,
-            ram: self.ram,
-            mode: self.mode,
-            enabled: value % 16 == 0x0A,
-            high: self.high,
+            enabled: cartridge.enabled(self.enabled, value),
+            ..self
         }
     }
 
@@ -163,10 +120,8 @@ impl Mbc1 {
         requires { self.high ≤ 3 }
         ensures { result ≡ mbc1_bank value (cond self.mode 0 self.high) }
     {
-        if self.mode {
-            return combined(value as u16, 0);
-        }
-        combined(value as u16, self.high)
+        let high = if self.mode { 0 } else { self.high };
+        combined(value as u16, high)
     }
 
     // 2000..3FFF
@@ -177,10 +132,7 @@ impl Mbc1 {
         let bank = self.low_bank(value);
         Mbc1 {
             rom: cartridge.masked(bank),
-            ram: self.ram,
-            mode: self.mode,
-            enabled: self.enabled,
-            high: self.high,
+            ..self
         }
     }
 
@@ -191,11 +143,8 @@ impl Mbc1 {
     {
         if self.mode {
             return Mbc1 {
-                rom: self.rom,
                 ram: value % 4 % cartridge.ram_banks(),
-                mode: self.mode,
-                enabled: self.enabled,
-                high: self.high,
+                ..self
             };
         }
         let high = value % 4;
@@ -203,10 +152,8 @@ impl Mbc1 {
         let masked = cartridge.masked(bank);
         Mbc1 {
             rom: masked,
-            ram: self.ram,
-            mode: self.mode,
-            enabled: self.enabled,
-            high: high,
+            high,
+            ..self
         }
     }
 
@@ -214,13 +161,7 @@ impl Mbc1 {
     fn mode_by(self, cartridge: Cartridge, value: u8) -> bool
         ensures { with_mode self result ≡ mode1 cartridge self value }
     {
-        if value % 2 == 1 {
-            if cartridge.code == 3 {
-                return true;
-            }
-            return self.mode;
-        }
-        false
+        value % 2 == 1 && (cartridge.code == 3 || self.mode)
     }
 
     // 6000..7FFF
@@ -228,11 +169,8 @@ impl Mbc1 {
         ensures { result ≡ mode1 cartridge self value }
     {
         Mbc1 {
-            rom: self.rom,
-            ram: self.ram,
             mode: self.mode_by(cartridge, value),
-            enabled: self.enabled,
-            high: self.high,
+            ..self
         }
     }
 

@@ -1,4 +1,6 @@
 // MBC5, from Pan Docs, beside the Rust's mbc5.rs: a ROM bank of nine bits, 0 too, and RAM banks.
+#![tactic(auto, unfolding(crate::specs::Mbc::in_range, crate::specs::Mbc::described, crate::specs::Mbc::held, crate::specs::Mbc::Mbc5Rules::chosen_ram, crate::specs::Mbc::Mbc5Rules::ram_fits, crate::specs::Mbc::Mbc5Rules::enable5, crate::specs::Mbc::Mbc5Rules::low5, crate::specs::Mbc::Mbc5Rules::ninth5, crate::specs::Mbc::Mbc5Rules::ram5, crate::specs::Mbc::Mbc5Rules::after5))]
+
 ghost use Rattle.std.specs.Prelude.{◌≡◌, true, ◌&&◌, ◌<◌, ◌≤◌};
 ghost use Rattle.mbc.specs.PanDocs.{mbc5_bank};
 ghost use Rattle.mbc.specs.Registers.{same};
@@ -7,11 +9,11 @@ ghost use Rattle.mbc.specs.Mbc.{in_range};
 ghost use Rattle.mbc.specs.declared.mbc.Mapper.TheVariants as mapper;
 
 use crate::cartridge::Cartridge;
-use crate::held::{Registers, bit};
+use crate::held::Registers;
 
 pub const KIND: u8 = 3;
 
-#[derive(Clone, Copy)]
+#[derive(Clone, Copy, PartialEq, Eq)]
 pub struct Mbc5 {
     // The ROM bank at 4000..7FFF. The Rust's `selected_rom_bank_high` is its ninth bit: with 512 banks nothing is masked off, with fewer that bit never counts.
     pub rom: u16,
@@ -36,95 +38,72 @@ fn chosen_ram(bank: u8, banks: u8) -> u8
     bank % banks
 }
 
-impl Mbc5 {
-    pub fn from_registers(r: Registers) -> Mbc5
-        ensures { result ≡ from5 r }
-    {
+impl From<Registers> for Mbc5 {
+    ghost from_gives = { λ r m. m ≡ from5 r };
+
+    fn from(r: Registers) -> Mbc5 {
         Mbc5 {
             rom: r.rom,
             ram: r.ram,
             enabled: r.enabled == 1,
         }
     }
+}
 
-    pub fn registers(self) -> Registers
-        ensures { result ≡ numbers5 self }
-    {
+impl From<Mbc5> for Registers {
+    ghost from_gives = { λ m r. r ≡ numbers5 m };
+
+    fn from(m: Mbc5) -> Registers {
         Registers {
             kind: KIND,
-            rom: self.rom,
-            ram: self.ram,
+            rom: m.rom,
+            ram: m.ram,
             mode: 0,
-            enabled: bit(self.enabled),
+            enabled: u8::from(m.enabled),
             high: 0,
         }
     }
+}
 
+impl Mbc5 {
     // Whether one has these registers.
+    #[tactic(auto, unfolding(crate::specs::Registers::same))]
     pub fn has(r: Registers) -> bool
         ensures { result ≡ same r (numbers5 (from5 r)) }
     {
-        if r.kind != KIND {
-            return false;
-        }
-        if r.mode != 0 {
-            return false;
-        }
-        if 1 < r.enabled {
-            return false;
-        }
-        r.high == 0
+        r.kind == KIND && r.mode == 0 && r.enabled <= 1 && r.high == 0
     }
 
     // The state ranges: RAM enabled needs code 2, 3 or 4, and the RAM bank is one that there is, or 0.
     fn held(self, cartridge: Cartridge) -> bool
         ensures { result ≡ held5 cartridge self }
     {
-        let rom = self.rom;
-        let ram = self.ram;
-        if cartridge.banks <= rom {
-            return false;
-        }
-        let banks = cartridge.ram_banks();
-        if ram < banks {
-            return true;
-        }
-        if ram != 0 {
-            return false;
-        }
-        !self.enabled
+        self.rom < cartridge.banks
+            && (self.ram < cartridge.ram_banks() || self.ram == 0 && !self.enabled)
     }
 
     pub fn in_range(self, cartridge: Cartridge) -> bool
         ensures { result ≡ in_range cartridge (mapper.Mbc5 self) }
     {
-        if cartridge.describes(512, 4) {
-            return self.held(cartridge);
-        }
-        false
+        cartridge.describes(512, 4) && self.held(cartridge)
     }
 
     // Whether one has these registers, and is in range.
     pub fn fit(r: Registers, cartridge: Cartridge) -> bool
         ensures { result ≡ (same r (numbers5 (from5 r)) && in_range cartridge (mapper.Mbc5 (from5 r))) }
     {
-        if !Mbc5::has(r) {
-            return false;
-        }
-        let m = Mbc5::from_registers(r);
-        m.in_range(cartridge)
+        let m = Mbc5::from(r);
+        Mbc5::has(r) && m.in_range(cartridge)
     }
 
     // 0000..1FFF
     fn enable(self, cartridge: Cartridge, value: u8) -> Mbc5
         ensures { result ≡ enable5 cartridge self value }
     {
-        if cartridge.code == 0 {
-            return self;
+        Mbc5 {
+            enabled: cartridge.enabled(self.enabled, value),
+            ..self
         }
-        let mut next = self;
-        next.enabled = value % 16 == 0x0A;
-        next
     }
 
     // 2000..2FFF: the low eight bits; the ninth stays.
@@ -132,10 +111,11 @@ impl Mbc5 {
         requires { 0 < cartridge.banks }
         ensures { result ≡ low5 cartridge self value }
     {
-        let mut next = self;
         let bank = nine_bits(value as u16, self.rom / 256);
-        next.rom = cartridge.masked(bank);
-        next
+        Mbc5 {
+            rom: cartridge.masked(bank),
+            ..self
+        }
     }
 
     // 3000..3FFF: the ninth bit; the low eight stay.
@@ -143,18 +123,20 @@ impl Mbc5 {
         requires { 0 < cartridge.banks }
         ensures { result ≡ ninth5 cartridge self value }
     {
-        let mut next = self;
-        next.rom = cartridge.masked(nine_bits(self.rom, value as u16));
-        next
+        Mbc5 {
+            rom: cartridge.masked(nine_bits(self.rom, value as u16)),
+            ..self
+        }
     }
 
     // 4000..5FFF: the RAM bank.
     fn select_ram(self, cartridge: Cartridge, value: u8) -> Mbc5
         ensures { result ≡ ram5 cartridge self value }
     {
-        let mut next = self;
-        next.ram = chosen_ram(value % 16, cartridge.ram_banks());
-        next
+        Mbc5 {
+            ram: chosen_ram(value % 16, cartridge.ram_banks()),
+            ..self
+        }
     }
 
     pub fn after(self, cartridge: Cartridge, index: u16, value: u8) -> Mbc5

@@ -19,13 +19,11 @@ pub fn in_range(cartridge: Cartridge) -> bool
 }
 
 // Whether the registers are as they start, which they stay, and the description is in range.
+#[tactic(auto, using(crate::proofs::Cases::RomOnlyLaws::rom_only_starts), unfolding(crate::specs::Registers::same, crate::specs::Mbc::described))]
 pub fn fit(r: Registers, cartridge: Cartridge) -> bool
     ensures { result ≡ (same r (starting kind_rom_only) && in_range cartridge mapper.RomOnly) }
 {
-    if !r.same(Registers::start(KIND)) {
-        return false;
-    }
-    in_range(cartridge)
+    r == Registers::start(KIND) && in_range(cartridge)
 }
 
 // A000..BFFF

@@ -1,5 +1,5 @@
 -- What a state in range gives and what leaves it in range, for the bus above; a fresh bus is in range, the all-zero state is not.
-use mathlib.Core.Bool.{Bool, true, false, cond, not, ◌&&◌, ◌||◌}
+use mathlib.Core.Bool.{Bool, true, false, cond, not, ◌&&◌, ◌||◌, and-true}
 use mathlib.Core.List.{List}
 use mathlib.Core.Path.{◌≡◌, refl, ◌∙◌}
 use Prim.Native.Nat.{ℕ, ◌+◌, ◌*◌, ◌%◌, ◌≤◌}
@@ -132,10 +132,6 @@ apart true false true = refl
 apart true false false = refl
 apart false b c = refl
 
-and_true : (a : Bool) → (a && true) ≡ a
-and_true true = refl
-and_true false = refl
-
 pub core_colors : (m : Memory) (limit : ℕ) → in_range m limit ≡ (core_in_range m.core limit && palettes_in_range m)
 unfolding in_range state_in_range core_in_range
 core_colors m limit = apart (groups_in_range m.core) (palettes_in_range m) (use_in_range m.core.used limit)
@@ -143,7 +139,7 @@ core_colors m limit = apart (groups_in_range m.core) (palettes_in_range m) (use_
 pub core_range : (m : Memory) (limit : ℕ) → colors_in_range m.background ≡ true → colors_in_range m.sprites ≡ true
     → in_range m limit ≡ core_in_range m.core limit
 unfolding palettes_in_range
-core_range m limit b s = core_colors m limit ∙ rw (b, s) (and_true (core_in_range m.core limit))
+core_range m limit b s = core_colors m limit ∙ rw (b, s) (and-true (core_in_range m.core limit))
 
 module _ (m : Memory) (h : state_in_range m ≡ true) where
   pub range_banks : banks_in_range m.core.banks ≡ true

@@ -5,7 +5,7 @@
 ghost use Rattle.std.specs.Prelude.{not, ◌||◌, ◌≡◌, ◌<◌};
 ghost use Rattle.memory.specs.Ranges.{banks_in_range, hdma_in_range, groups_in_range, palettes_in_range, in_range, core_in_range, vram_len, wram_len};
 ghost use Rattle.memory.specs.Start.{zeroed, start_hdma, started};
-ghost use Rattle.memory.specs.World.{core_of, mapper_in, with_mapper, with_used};
+ghost use Rattle.memory.specs.World.{core_of, with_mapper, with_used};
 
 mod region;
 mod start;
@@ -60,48 +60,24 @@ pub struct Memory {
     pub core: Core,
 }
 
-// Another mapper; a field that is an enum is not stored to, so the record is made anew.
-fn core_with_mapper(core: Core, mapper: Mapper) -> Core
-    ensures { result ≡ mapper_in core mapper }
-{
-    let banks = core.banks;
-    let lcd = core.lcd;
-    let hdma = core.hdma;
-    let joypad = core.joypad;
-    let clock = core.clock;
-    let cartridge = core.cartridge;
-    Core {
-        banks: banks,
-        lcd: lcd,
-        hdma: hdma,
-        joypad: joypad,
-        clock: clock,
-        cartridge: cartridge,
-        mapper: mapper,
-        used: core.used,
-    }
-}
-
-pub fn with_mapper(memory: Memory, mapper: Mapper) -> Memory
+pub fn with_mapper(mut memory: Memory, mapper: Mapper) -> Memory
     ensures { result ≡ with_mapper memory mapper }
 {
-    let mut next = memory;
-    next.core = core_with_mapper(memory.core, mapper);
-    next
+    memory.core.mapper = mapper;
+    memory
 }
 
-pub fn with_used(memory: Memory, used: u16) -> Memory
+pub fn with_used(mut memory: Memory, used: u16) -> Memory
     ensures { result ≡ with_used memory used }
 {
-    let mut next = memory;
-    next.core.used = used;
-    next
+    memory.core.used = used;
+    memory
 }
 
 // The bytes of the sound window.
 pub const SOUND_LEN: usize = 48;
 
-// Bytes of video memory.
+// Bytes of video memory. Two functions, as each is one test: a third for both would be that test, with the two lengths handed to it.
 pub fn vram_len(colour: bool) -> usize
     ensures { result ≡ vram_len colour }
 {
@@ -115,99 +91,79 @@ pub fn wram_len(colour: bool) -> usize
     if colour { 0x8000 } else { 0x2000 }
 }
 
+#[tactic(auto, unfolding(crate::specs::Ranges::banks_in_range))]
 pub fn banks_in_range(banks: Banks) -> bool
     ensures { result ≡ banks_in_range banks }
 {
     if banks.colour {
-        if 1 < banks.vram {
-            return false;
-        }
-        if banks.wram < 1 {
-            return false;
-        }
-        return banks.wram <= 7;
+        banks.vram <= 1 && 1 <= banks.wram && banks.wram <= 7
+    } else {
+        banks.vram == 0 && banks.wram == 1
     }
-    if banks.vram != 0 {
-        return false;
-    }
-    banks.wram == 1
 }
 
 // Monochrome: HDMA off.
 fn hdma_allowed(on: bool, colour: bool) -> bool
     ensures { result ≡ (colour || not on) }
 {
-    if colour {
-        return true;
-    }
-    !on
+    colour || !on
 }
 
+#[tactic(auto, unfolding(crate::specs::Ranges::hdma_in_range))]
 pub fn hdma_in_range(hdma: Hdma, colour: bool) -> bool
     ensures { result ≡ hdma_in_range hdma colour }
 {
-    if !hdma_allowed(hdma.on, colour) {
-        return false;
-    }
-    if hdma.source % 16 != 0 {
-        return false;
-    }
-    hdma.destination % 16 == 0
+    hdma.source % 16 == 0 && hdma.destination % 16 == 0 && hdma_allowed(hdma.on, colour)
 }
 
 // The ranges of the groups.
+#[tactic(auto, unfolding(crate::specs::Ranges::groups_in_range))]
 fn groups_in_range(core: Core) -> bool
     ensures { result ≡ groups_in_range core }
 {
-    let banks = core.banks;
-    let hdma = core.hdma;
-    let clock = core.clock;
-    let cartridge = core.cartridge;
-    let mapper = core.mapper;
-    if !banks_in_range(banks) {
-        return false;
-    }
-    if !hdma_in_range(hdma, banks.colour) {
-        return false;
-    }
-    if 1023 < clock.tima {
-        return false;
-    }
-    mapper.in_range(cartridge)
+    banks_in_range(core.banks)
+        && hdma_in_range(core.hdma, core.banks.colour)
+        && core.clock.tima <= 1023
+        && core.mapper.in_range(core.cartridge)
 }
 
 // All ranges but the colours'; `limit` is the lent log's length, or 65,535 where none is lent.
+#[tactic(auto, unfolding(crate::specs::Ranges::core_in_range))]
 pub fn core_in_range(core: Core, limit: usize) -> bool
     ensures { result ≡ core_in_range core limit }
 {
-    if !groups_in_range(core) {
-        return false;
-    }
-    savelog::use_in_range(core.used, limit)
+    groups_in_range(core) && savelog::use_in_range(core.used, limit)
 }
 
 // The ranges of the colours.
+#[tactic(auto, unfolding(crate::specs::Ranges::palettes_in_range))]
 fn palettes_in_range(memory: Memory) -> bool
     ensures { result ≡ palettes_in_range memory }
 {
-    let background = memory.background;
-    if !palette::colors_in_range(background) {
-        return false;
-    }
-    let sprites = memory.sprites;
-    palette::colors_in_range(sprites)
+    palette::colors_in_range(memory.background) && palette::colors_in_range(memory.sprites)
 }
 
 // All ranges.
+#[tactic(auto, using(crate::proofs::Laws::core_colors))]
 pub fn in_range(memory: Memory, limit: usize) -> bool
     ensures { result ≡ in_range memory limit }
 {
-    let core = memory.core;
-    if !core_in_range(core, limit) {
-        return false;
-    }
-    palettes_in_range(memory)
+    core_in_range(memory.core, limit) && palettes_in_range(memory)
 }
+
+// The colour that every palette starts with.
+const BLACK: Color = Color {
+    red: 0,
+    green: 0,
+    blue: 0,
+};
+
+// No transfer, and the hidden addresses 0.
+const OFF: Hdma = Hdma {
+    on: false,
+    source: 0,
+    destination: 0,
+};
 
 // These groups, and all else 0.
 fn core_of(
@@ -221,31 +177,27 @@ fn core_of(
     ensures { result ≡ core_of banks lcd hdma joypad cartridge mapper }
 {
     Core {
-        banks: banks,
-        lcd: lcd,
-        hdma: hdma,
-        joypad: joypad,
+        banks,
+        lcd,
+        hdma,
+        joypad,
         clock: Clock { div: 0, tima: 0 },
-        cartridge: cartridge,
-        mapper: mapper,
+        cartridge,
+        mapper,
         used: 0,
     }
 }
 
-// The state that a refused fresh start gives. It is out of range: it has no WRAM bank.
+// The state that stands for a refused fresh start: the call gives `Err`, and this is the definitions' value of it. It is out of range: it has no WRAM bank.
+#[tactic(auto, unfolding(crate::specs::Start::zeroed))]
 pub fn zero() -> Memory
     ensures { result ≡ zeroed }
 {
-    let black = Color {
-        red: 0,
-        green: 0,
-        blue: 0,
-    };
     Memory {
         oam: [0; 256],
         page: [0; 256],
-        background: [black; 32],
-        sprites: [black; 32],
+        background: [BLACK; 32],
+        sprites: [BLACK; 32],
         core: core_of(
             Banks {
                 colour: false,
@@ -253,11 +205,7 @@ pub fn zero() -> Memory
                 wram: 0,
             },
             lcd::host(false, 0, 0, 0, 0, 0, 0, 0),
-            Hdma {
-                on: false,
-                source: 0,
-                destination: 0,
-            },
+            OFF,
             Controller {
                 released: 0,
                 action: false,
@@ -270,39 +218,33 @@ pub fn zero() -> Memory
     }
 }
 
-// The hidden addresses at the start: those of the colour page, or 0.
+// The hidden addresses at the start: those of the colour page, or 0. `colour` picks a value, as the definition does, and no step that a caller could pass.
+#[tactic(auto, unfolding(crate::specs::Start::start_hdma))]
 fn start_hdma(colour: bool, page: [u8; 256]) -> Hdma
     ensures { result ≡ start_hdma colour page }
 {
     if colour {
-        return hdma::start_of(page[0x51], page[0x52], page[0x53], page[0x54]);
-    }
-    Hdma {
-        on: false,
-        source: 0,
-        destination: 0,
+        hdma::start_of(page[0x51], page[0x52], page[0x53], page[0x54])
+    } else {
+        OFF
     }
 }
 
 // The Rust's `from_cartridge`.
+#[tactic(auto, unfolding(crate::specs::Start::started))]
 pub fn new(cartridge: Cartridge, mapper: Mapper, colour: bool) -> Memory
     ensures { result ≡ started cartridge mapper colour }
 {
     let page = start_page(colour);
     let hdma = start_hdma(colour, page);
-    let black = Color {
-        red: 0,
-        green: 0,
-        blue: 0,
-    };
     Memory {
         oam: [0; 256],
-        page: page,
-        background: [black; 32],
-        sprites: [black; 32],
+        page,
+        background: [BLACK; 32],
+        sprites: [BLACK; 32],
         core: core_of(
             Banks {
-                colour: colour,
+                colour,
                 vram: 0,
                 wram: 1,
             },

@@ -35,23 +35,16 @@ pub const PAGE_START: u16 = 0xFF00;
 // High memory, in the page: from here on every byte reads as it is stored.
 pub const HRAM_START: u16 = 0xFF80;
 
+#[tactic(auto, unfolding(crate::specs::Region::region_of))]
 pub fn region_of(index: u16) -> Region
     ensures { result ≡ region_of index }
 {
-    if index < VRAM_START {
-        return Region::Rom;
+    match index {
+        0..VRAM_START => Region::Rom,
+        VRAM_START..SAVE_START => Region::Vram,
+        SAVE_START..WRAM_START => Region::Save,
+        WRAM_START..OAM_START => Region::Wram,
+        OAM_START..PAGE_START => Region::Oam,
+        PAGE_START.. => Region::Page,
     }
-    if index < SAVE_START {
-        return Region::Vram;
-    }
-    if index < WRAM_START {
-        return Region::Save;
-    }
-    if index < OAM_START {
-        return Region::Wram;
-    }
-    if index < PAGE_START {
-        return Region::Oam;
-    }
-    Region::Page
 }

@@ -41,13 +41,9 @@ const COLOUR: [u8; 256] = [
 ];
 
 // The page of a kind, copied.
+#[tactic(auto, unfolding(crate::specs::Start::start_page, crate::specs::Start::colour_page, crate::specs::Start::monochrome_page))]
 pub fn start_page(colour: bool) -> [u8; 256]
     ensures { result ≡ start_page colour }
 {
-    if colour {
-        let page = COLOUR;
-        return page;
-    }
-    let page = MONOCHROME;
-    page
+    if colour { COLOUR } else { MONOCHROME }
 }

@@ -1,11 +1,10 @@
 -- Every write leaves a world in which the next one can be made; and a copy and a write by cases, as the code makes them.
-use Rattle.std.proofs.Common.{◌≡◌, ℕ, zero, suc, ◌+◌, ◌-◌, ◌/◌, ◌%◌, ◌≤◌, true, false, ◌||◌, eqb, [], length, set, sym, refl, ap, ◌∙◌, subst, ⊎_elim, add-one, sub-one, arith, length-set, ne_eqb, eqb-true}
+use Rattle.std.proofs.Common.{◌≡◌, ℕ, zero, suc, ◌+◌, ◌-◌, ◌/◌, ◌%◌, ◌≤◌, true, false, ◌||◌, eqb, Option, Some, None, [], length, set, sym, refl, ap, ◌∙◌, subst, ⊎_elim, add-one, sub-one, arith, length-set, ne_eqb, eqb-true}
 use borrow.Author.Tests.{eqb-false}
 use Rattle.rules.proofs.Tests.{by_cond, neither, or_cases}
 use Rattle.mbc.proofs.Laws.{ram_len_after}
 use Rattle.mbc.specs.Mbc.{answer}
-use Rattle.mbc.specs.declared.mbc.Answer.{Answer}
-use Rattle.mbc.specs.declared.mbc.Answer.TheVariants.{Stored, NotStored}
+use Rattle.mbc.specs.declared.mbc.Stored.{Stored}
 use Rattle.memory.proofs.Laws.{used_range, mapper_kept}
 use Rattle.memory.proofs.Regions.{region_at}
 use Rattle.memory.specs.Region.{region_of}
@@ -105,22 +104,22 @@ module _ (w : World) (h : Holds w) where
         used = λ e. e;
       }
 
-  saved_stays : (a : Answer) → w.state.core.used + width ≤ length w.log → Stays w (saved a w)
-  saved_stays (Stored at v) room =
-      let l = appended_length w.log w.state.core.used at v room in
+  saved_stays : (a : Option Stored) → w.state.core.used + width ≤ length w.log → Stays w (saved a w)
+  saved_stays (Some k) room =
+      let l = appended_length w.log w.state.core.used k.at k.value room in
       record {
         holds = record {
           state = used_range w.state (w.state.core.used + width) ∙ h.state;
           vram = h.vram;
           wram = h.wram;
-          save = length-set w.save at v ∙ h.save;
+          save = length-set w.save k.at k.value ∙ h.save;
           log = rw l h.log;
         };
         colour = refl;
         cartridge = refl;
         used = λ e. rw l (use_more w.state.core.used (length w.log) room e);
       }
-  saved_stays NotStored room = stays_refl w h
+  saved_stays None room = stays_refl w h
 
 module _ (w : World) (h : Holds w) where
   save_stays : (i v : ℕ) → Stays w (save_put w i v)

@@ -1,11 +1,10 @@
 -- A byte read and a byte write by the region of the index; and the bounds that a state in range gives.
-use Rattle.std.proofs.Common.{◌≡◌, ℕ, ◌+◌, ◌-◌, ◌*◌, ◌<◌, ◌≤◌, Bool, true, false, cond, ltb, ◌⊎◌, List, [], length, set, sym, refl, ap, ◌∙◌, inl, inr, ⊎_elim, arith, lit≤, ltb-false, ltb-true}
+use Rattle.std.proofs.Common.{◌≡◌, ℕ, ◌+◌, ◌-◌, ◌*◌, ◌<◌, ◌≤◌, Bool, true, false, cond, ltb, Option, Some, None, ◌⊎◌, List, [], length, set, sym, refl, ap, ◌∙◌, inl, inr, ⊎_elim, arith, lit≤, ltb-false, ltb-true}
 use Rattle.rules.proofs.Tests.{by_cond, cond_both, cond_false, cond_true}
 use Rattle.mbc.proofs.Laws.{mapped_rom, mapped_ram, stored_within}
 use Rattle.mbc.specs.Mbc.{mapped, read_at, after, answer, in_range, ram_len}
 use Rattle.mbc.specs.declared.cartridge.Cartridge.{Cartridge}
-use Rattle.mbc.specs.declared.mbc.Answer.{Answer}
-use Rattle.mbc.specs.declared.mbc.Answer.TheVariants.{Stored, NotStored}
+use Rattle.mbc.specs.declared.mbc.Stored.{Stored}
 use Rattle.mbc.specs.declared.mbc.Mapper.{Mapper}
 use Rattle.memory.proofs.Laws.{range_banks, range_mapper, vram_fits, wram_fits}
 use Rattle.memory.proofs.Regions.{Within, within}
@@ -102,16 +101,16 @@ module _ (i : ℕ) {r : Region} (e : region_of i ≡ r) (l : i < 0xFE00) (not_vr
 
 -- the save, of every state with this cartridge, mapper and log use: what an answer does, and a write, with a full log and with room
 
-pub answer_lands : (c : Cartridge) (t : Mapper) (i v : ℕ) {k : Answer} {n : ℕ} → v < 256 → k ≡ answer c t i v → n ≡ ram_len c t → Lands k n
-answer_lands c t i v h a n at b e = let w = stored_within c t i v at b h (sym a ∙ e) in (omega (arith, w.0), w.1.0)
+pub answer_lands : (c : Cartridge) (t : Mapper) (i v : ℕ) {k : Option Stored} {n : ℕ} → v < 256 → k ≡ answer c t i v → n ≡ ram_len c t → Lands k n
+answer_lands c t i v h a n k e = let w = stored_within c t i v k h (sym a ∙ e) in (omega (arith, w.0), w.1.0)
 
 module _ (m : Memory) {used : ℕ} (e : m.core.used ≡ used) (s l : List ℕ) where
-  pub answered_none : {k : Answer} → k ≡ NotStored → world (with_used m used) [] [] s l ≡ saved k (world m [] [] s l)
+  pub answered_none : {k : Option Stored} → k ≡ None → world (with_used m used) [] [] s l ≡ saved k (world m [] [] s l)
   answered_none a = rw (a, ← e)
 
-  pub answered_stored : {k : Answer} (at b : ℕ) {r : ℕ} {z : List ℕ} → k ≡ Stored at b → r ≡ used + width → z ≡ appended l used at b
-      → world (with_used m r) [] [] (set s at b) z ≡ saved k (world m [] [] s l)
-  answered_stored at b a x z = rw (a, x, z, ← e)
+  pub answered_stored : {k : Option Stored} (b : Stored) {r : ℕ} {z : List ℕ} → k ≡ Some b → r ≡ used + width → z ≡ appended l used b.at b.value
+      → world (with_used m r) [] [] (set s b.at b.value) z ≡ saved k (world m [] [] s l)
+  answered_stored b a x z = rw (a, x, z, ← e)
 
 module _ (m : Memory) {c : Cartridge} {t : Mapper} {used : ℕ} (p : m.core.cartridge ≡ c) (q : m.core.mapper ≡ t) (e : m.core.used ≡ used) (s l : List ℕ)
     (i v : ℕ) where
@@ -121,7 +120,7 @@ module _ (m : Memory) {c : Cartridge} {t : Mapper} {used : ℕ} (p : m.core.cart
       let b : full (length l) m.core.used 1 ≡ true = rw e a in
       rw (← e, ← q) (sym (cond_true _ _ _ b))
 
-  pub save_done : {k : Answer} {o : Mapper} {r : ℕ} {y z : List ℕ} → full (length l) used 1 ≡ false → o ≡ after c t i v → k ≡ answer c t i v
+  pub save_done : {k : Option Stored} {o : Mapper} {r : ℕ} {y z : List ℕ} → full (length l) used 1 ≡ false → o ≡ after c t i v → k ≡ answer c t i v
       → ((n : Memory) → n.core.used ≡ used → world (with_used n r) [] [] y z ≡ saved k (world n [] [] s l))
       → world (with_used (with_mapper m o) r) [] [] y z ≡ save_put (world m [] [] s l) i v
   unfolding save_put
@@ -138,7 +137,7 @@ beside w u = world u.state w.vram w.wram u.save u.log
 abbrev alone : World → World
 alone w = world w.state [] [] w.save w.log
 
-beside_cond : (t : Bool) (a : Answer) (w : World) (m : Memory)
+beside_cond : (t : Bool) (a : Option Stored) (w : World) (m : Memory)
     → beside w (cond t (alone w) (saved a (in_state (alone w) m))) ≡ cond t w (saved a (in_state w m))
 beside_cond true a w m = refl
 beside_cond false a w m = refl

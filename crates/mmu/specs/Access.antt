@@ -1,9 +1,8 @@
 -- A byte read, and a byte write without the copying that it may start, by the region of the index (document 01, "The bus" and
 -- "Save log and state image").
-use Rattle.std.specs.Prelude.{◌≡◌, ℕ, ◌+◌, ◌-◌, ◌*◌, ◌%◌, ◌<◌, ◌≤◌, true, cond, List, length, slice_index, slice_set}
+use Rattle.std.specs.Prelude.{◌≡◌, ℕ, ◌+◌, ◌-◌, ◌*◌, ◌%◌, ◌<◌, ◌≤◌, true, cond, Option, Some, None, List, length, slice_index, slice_set}
 use Rattle.mbc.specs.Mbc.{in_range, rom_len, ram_len, read_at, after, answer}
-use Rattle.mbc.specs.declared.mbc.Answer.{Answer}
-use Rattle.mbc.specs.declared.mbc.Answer.TheVariants.{Stored, NotStored}
+use Rattle.mbc.specs.declared.mbc.Stored.{Stored}
 use Rattle.memory.specs.Ranges.{state_in_range, vram_len, wram_len, sound_len}
 use Rattle.memory.specs.Region.{oam_start, page_start, region_of}
 use Rattle.memory.specs.World.{World, world, Fixed, with_oam, with_mapper, with_used}
@@ -60,25 +59,25 @@ abbrev pub mapper_put : Memory → ℕ → ℕ → Memory
 mapper_put m i v = with_mapper m (after m.core.cartridge m.core.mapper i v)
 
 -- what the mapper answers is done: a stored byte goes to the save and, as one record, to the log, whose use rises by the record
-abbrev pub saved_state : Answer → Memory → Memory
-saved_state (Stored at v) m = with_used m (m.core.used + width)
-saved_state NotStored m = m
+abbrev pub saved_state : Option Stored → Memory → Memory
+saved_state (Some k) m = with_used m (m.core.used + width)
+saved_state None m = m
 
-abbrev pub saved_save : Answer → List ℕ → List ℕ
-saved_save (Stored at v) s = slice_set s at v
-saved_save NotStored s = s
+abbrev pub saved_save : Option Stored → List ℕ → List ℕ
+saved_save (Some k) s = slice_set s k.at k.value
+saved_save None s = s
 
-abbrev pub saved_log : Answer → ℕ → List ℕ → List ℕ
-saved_log (Stored at v) used l = appended l used at v
-saved_log NotStored used l = l
+abbrev pub saved_log : Option Stored → ℕ → List ℕ → List ℕ
+saved_log (Some k) used l = appended l used k.at k.value
+saved_log None used l = l
 
-abbrev pub saved : Answer → World → World
+abbrev pub saved : Option Stored → World → World
 saved a w =
     world (saved_state a w.state) w.vram w.wram (saved_save a w.save) (saved_log a w.state.core.used w.log)
 
 -- a byte to be stored has a place in a save of n bytes, and an address that a record can have
-abbrev pub Lands : Answer → ℕ → Type 0
-Lands a n = (at v : ℕ) → a ≡ Stored at v → (at < n) × (at < address_end)
+abbrev pub Lands : Option Stored → ℕ → Type 0
+Lands a n = (k : Stored) → a ≡ Some k → (k.at < n) × (k.at < address_end)
 
 -- the world with its state, its video memory or its work memory changed
 abbrev pub in_state : World → Memory → World

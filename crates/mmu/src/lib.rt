@@ -1,5 +1,6 @@
 // Reads and writes of the bus on lent memories, as the Rust's mmu/mod.rs: `read_byte`, `write_byte` and the transfers that a write starts.
 // These are the calls within: the state is in range and the lengths are right. The public ones, which see to that, are in the crates bus, write_calls and transfer_calls.
+// `Ready` and `Holds` (specs/Access.antt) stay clauses, and no invariant of a type: they tie the state to the lengths of slices that stand beside it.
 #![tactic(auto)]
 
 ghost use Rattle.std.specs.Prelude.{◌≡◌, ◌<◌, []};
@@ -30,21 +31,15 @@ pub fn read_byte(
 {
     let region = region_of(index);
     match region {
-        Region::Oam => {
-            let i = (index - memory::OAM_START) as usize;
-            memory.oam[i]
-        }
+        Region::Oam => memory.oam[(index - memory::OAM_START) as usize],
         Region::Page => registers::page::read(memory, sound, (index - memory::PAGE_START) as u8),
-        _ => {
-            let core = memory.core;
-            read_lent(core, rom, vram, wram, save, region, index)
-        }
+        _ => read_lent(memory.core, rom, vram, wram, save, region, index),
     }
 }
 
 // A byte write without the copying that it may start.
 pub fn put_byte(
-    memory: Memory,
+    mut memory: Memory,
     vram: &mut [u8],
     wram: &mut [u8],
     save: &mut [u8],
@@ -55,42 +50,37 @@ pub fn put_byte(
     requires { Holds (world memory vram.old wram.old save.old log.old) }
     ensures { world result vram.new wram.new save.new log.new ≡ put (world memory vram.old wram.old save.old log.old) index value }
 {
-    let banks = memory.core.banks;
     match region_of(index) {
         Region::Rom => put_mapper(memory, index, value),
         Region::Vram => {
-            write_cgb_lcd_ram(vram, banks.vram, index, value);
+            write_cgb_lcd_ram(vram, memory.core.banks.vram, index, value);
             memory
         }
         Region::Save => put_save(memory, save, log, index, value),
         Region::Wram => {
-            write_cgb_wram(wram, banks.wram, index, value);
+            write_cgb_wram(wram, memory.core.banks.wram, index, value);
             memory
         }
         Region::Oam => {
-            let i = (index - memory::OAM_START) as usize;
-            let mut next = memory;
-            next.oam[i] = value;
-            next
+            memory.oam[(index - memory::OAM_START) as usize] = value;
+            memory
         }
         Region::Page => registers::page::write(memory, (index - memory::PAGE_START) as u8, value),
     }
 }
 
 // Whether a byte write starts a transfer: of FF46 or FF55, above depth 0.
+#[tactic(auto, unfolding(crate::specs::Write::starting))]
 fn starting(depth: u8, index: u16) -> bool
     ensures { result ≡ starting depth index }
 {
-    if depth == 0 {
-        return false;
-    }
-    if index == 0xFF46 {
-        return true;
-    }
-    index == 0xFF55
+    depth != 0 && matches!(index, 0xFF46 | 0xFF55)
 }
 
 // A byte write. The writes of a transfer that it starts stand one lower; at depth 0 none is started.
+// What is lent stays a parameter each. Behind one `lent: &mut Lent` with a field for each slice the proof of a transfer does not close: after a read through
+// `lent.vram` no byte of it is known. Each function also needs a clause for each slice that its field refers to the same memory, and a C entry, which is
+// lent them one by one, would make the struct.
 #[cycle(do_dma_transfer_write_byte)]
 pub fn write_byte(
     depth: u8,
@@ -111,24 +101,22 @@ pub fn write_byte(
         return put_byte(memory, vram, wram, save, log, index, value);
     }
     let started = registers::transfers::start_transfer(memory, index, value);
-    let next = started.memory;
-    let copy = started.copy;
     do_dma_transfer(
         depth - 1,
-        next,
+        started.memory,
         rom,
         vram,
         wram,
         save,
         log,
         sound,
-        copy,
+        started.copy,
         value,
     )
 }
 
 // A transfer: its bytes in rising order, each by a byte write, so that later reads see earlier writes; then its registers. The source wraps.
-// Of a general transfer `value` says the length.
+// Of a general transfer `value` says the length. `Bounded` of the copy stays a clause, as in `registers::transfers::block_copy`.
 #[cycle(do_dma_transfer_write_byte)]
 pub fn do_dma_transfer(
     depth: u8,
@@ -146,9 +134,8 @@ pub fn do_dma_transfer(
     ensures { world result vram.new wram.new save.new log.new ≡ transferred (fixed rom.now sound.now) (write_at (fixed rom.now sound.now) depth) copy value (world memory vram.old wram.old save.old log.old) }
 {
     let mut next = memory;
-    let mut i: u16 = 0;
-    while i < copy.count {
-        let from = std::num::wrapping_add_u16(copy.source, i);
+    for i in 0..copy.count {
+        let from = copy.source.wrapping_add(i);
         let byte = read_byte(next, rom, vram, wram, save, sound, from);
         next = write_byte(
             depth,
@@ -162,10 +149,8 @@ pub fn do_dma_transfer(
             copy.destination + i,
             byte,
         );
-        i += 1;
     }
-    let finish = copy.finish;
-    registers::transfers::end_copy(next, finish, value)
+    registers::transfers::end_copy(next, copy.finish, value)
 }
 
 // Low byte first; FFFF is followed by 0000.
@@ -182,9 +167,9 @@ pub fn read_word(
     ensures { result ≡ read_word (fixed rom.now sound.now) memory vram.now wram.now save.now index }
 {
     let low = read_byte(memory, rom, vram, wram, save, sound, index);
-    let above = std::num::wrapping_add_u16(index, 1);
+    let above = index.wrapping_add(1);
     let high = read_byte(memory, rom, vram, wram, save, sound, above);
-    low as u16 + high as u16 * 256
+    u16::from_le_bytes([low, high])
 }
 
 // Two byte writes, low byte first.
@@ -202,10 +187,9 @@ pub fn write_word(
     requires { Ready (fixed rom.now sound.now) (world memory vram.old wram.old save.old log.old) }
     ensures { world result vram.new wram.new save.new log.new ≡ word_at (fixed rom.now sound.now) (world memory vram.old wram.old save.old log.old) index value }
 {
-    let low = (value % 256) as u8;
-    let high = (value / 256) as u8;
+    let [low, high] = value.to_le_bytes();
     let half = write_byte(2, memory, rom, vram, wram, save, log, sound, index, low);
-    let above = std::num::wrapping_add_u16(index, 1);
+    let above = index.wrapping_add(1);
     write_byte(2, half, rom, vram, wram, save, log, sound, above, high)
 }
 

@@ -8,18 +8,20 @@ ghost use Rattle.savelog.specs.Log.{width, log_limit};
 ghost use Rattle.mmu.specs.PanDocs.{echo, vram_at, wram_at};
 ghost use Rattle.mmu.specs.Access.{Reaches, read_byte, mapper_put, Lands, saved, save_put};
 
-use mbc::{Answer, Cartridge, Mapper};
+use mbc::{Cartridge, Mapper, Stored};
 use memory::{Core, Memory, Region};
 
 // E000..FDFF is the same byte as 2000 hex lower.
+#[tactic(auto, unfolding(crate::specs::PanDocs::echo))]
 fn lowered(index: u16) -> u16
     requires { wram_start ≤ index }
     ensures { (result ≡ echo index) × (wram_start ≤ result) }
 {
     if index < memory::ECHO_START {
-        return index;
+        index
+    } else {
+        index - 0x2000
     }
-    index - 0x2000
 }
 
 // Where an index of video memory lies.
@@ -38,47 +40,47 @@ fn banked(bank: u8, offset: u16) -> usize
 }
 
 // Where an index of work memory lies.
+#[tactic(auto, unfolding(crate::specs::PanDocs::wram_at))]
 pub fn wram_at(bank: u8, index: u16) -> usize
     requires { wram_start ≤ index }
     ensures { result ≡ wram_at bank index }
 {
     let at = lowered(index);
     if at < 0xD000 {
-        return banked(0, at - memory::WRAM_START);
+        banked(0, at - memory::WRAM_START)
+    } else {
+        banked(bank, at - 0xD000)
     }
-    banked(bank, at - 0xD000)
 }
 
+// Reads and writes of video and of work memory are one line each over the place (`vram_at`, `wram_at`): one function for both would take the place and its
+// bound from the caller, and be the index expression.
 pub fn read_cgb_lcd_ram(vram: &[u8], bank: u8, index: u16) -> u8
     requires { ((vram_start ≤ index) × (index < save_start)) × (bank * 0x2000 + 0x2000 ≤ length vram.now) }
     ensures { result ≡ slice_index vram.now (vram_at bank index) }
 {
-    let at = vram_at(bank, index);
-    vram[at]
+    vram[vram_at(bank, index)]
 }
 
 pub fn write_cgb_lcd_ram(vram: &mut [u8], bank: u8, index: u16, value: u8)
     requires { ((vram_start ≤ index) × (index < save_start)) × (bank * 0x2000 + 0x2000 ≤ length vram.old) }
     ensures { vram.new ≡ slice_set vram.old (vram_at bank index) value }
 {
-    let at = vram_at(bank, index);
-    vram[at] = value;
+    vram[vram_at(bank, index)] = value;
 }
 
 pub fn read_cgb_wram(wram: &[u8], bank: u8, index: u16) -> u8
     requires { ((wram_start ≤ index) × (index < oam_start)) × ((0x1000 ≤ length wram.now) × (bank * 0x1000 + 0x1000 ≤ length wram.now)) }
     ensures { result ≡ slice_index wram.now (wram_at bank index) }
 {
-    let at = wram_at(bank, index);
-    wram[at]
+    wram[wram_at(bank, index)]
 }
 
 pub fn write_cgb_wram(wram: &mut [u8], bank: u8, index: u16, value: u8)
     requires { ((wram_start ≤ index) × (index < oam_start)) × ((0x1000 ≤ length wram.old) × (bank * 0x1000 + 0x1000 ≤ length wram.old)) }
     ensures { wram.new ≡ slice_set wram.old (wram_at bank index) value }
 {
-    let at = wram_at(bank, index);
-    wram[at] = value;
+    wram[wram_at(bank, index)] = value;
 }
 
 // A read of what is lent: of the ROM, video memory, the save or work memory. It takes of the bus only what says where.
@@ -94,29 +96,25 @@ pub fn read_lent(
     requires { Reaches core rom.now vram.now wram.now save.now × ((region ≡ region_of index) × (index < oam_start)) }
     ensures { (m : Memory) (sound : List ℕ) → m.core ≡ core → result ≡ read_byte (fixed rom.now sound) m vram.now wram.now save.now index }
 {
-    let banks = core.banks;
     match region {
-        Region::Vram => read_cgb_lcd_ram(vram, banks.vram, index),
-        Region::Wram => read_cgb_wram(wram, banks.wram, index),
-        _ => {
-            let mapper = core.mapper;
-            let cartridge = core.cartridge;
-            mapper.read(cartridge, rom, save, index)
-        }
+        Region::Vram => read_cgb_lcd_ram(vram, core.banks.vram, index),
+        Region::Wram => read_cgb_wram(wram, core.banks.wram, index),
+        _ => core.mapper.read(core.cartridge, rom, save, index),
     }
 }
+
+// That the mapper is in range of the cartridge stays a `requires`, here and below, as in crate mbc: the definitions speak of any pair.
 
 // A write below 8000: the mapper's registers.
 pub fn put_mapper(memory: Memory, index: u16, value: u8) -> Memory
     requires { (index < vram_start) × (in_range memory.core.cartridge memory.core.mapper ≡ true) }
     ensures { result ≡ mapper_put memory index value }
 {
-    let core = memory.core;
-    let mapper = core.mapper;
-    let cartridge = core.cartridge;
-    let written = mapper.write(cartridge, index, value);
-    let after = written.mapper;
-    memory::with_mapper(memory, after)
+    let written = memory
+        .core
+        .mapper
+        .write(memory.core.cartridge, index, value);
+    memory::with_mapper(memory, written.mapper)
 }
 
 // What a write in A000..BFFF leaves of the bus: the mapper, and how many bytes of the log are used.
@@ -127,15 +125,15 @@ pub struct Mapping {
 }
 
 // Does what a mapper answered: a byte is stored in the save and recorded in the log. It gives the log's next use.
-pub fn store_answer(answer: Answer, used: u16, save: &mut [u8], log: &mut [u8]) -> u16
+pub fn store_answer(answer: Option<Stored>, used: u16, save: &mut [u8], log: &mut [u8]) -> u16
     requires { Lands answer (length save.old) × ((used + width ≤ length log.old) × (length log.old ≤ log_limit)) }
     ensures { (m : Memory) → m.core.used ≡ used → world (with_used m result) [] [] save.new log.new ≡ saved answer (world m [] [] save.old log.old) }
 {
-    let Answer::Stored { at, value } = answer else {
+    let Some(stored) = answer else {
         return used;
     };
-    save[at] = value;
-    savelog::append(log, used, at, value)
+    save[stored.at] = stored.value;
+    savelog::append(log, used, stored.at, stored.value)
 }
 
 // A write in A000..BFFF: the mapper answers, the bus stores the byte and records it. A log without room records nothing, and nothing is stored or changed.
@@ -153,17 +151,12 @@ pub fn store_save(
     ensures { (m : Memory) → m.core.cartridge ≡ cartridge → m.core.mapper ≡ mapper → m.core.used ≡ used → world (with_used (with_mapper m result.mapper) result.used) [] [] save.new log.new ≡ save_put (world m [] [] save.old log.old) index value }
 {
     if savelog::full(log.len(), used, 1) {
-        return Mapping {
-            mapper: mapper,
-            used: used,
-        };
+        return Mapping { mapper, used };
     }
     let written = mapper.write(cartridge, index, value);
-    let after = written.mapper;
-    let answer = written.answer;
-    let more = store_answer(answer, used, save, log);
+    let more = store_answer(written.answer, used, save, log);
     Mapping {
-        mapper: after,
+        mapper: written.mapper,
         used: more,
     }
 }
@@ -173,10 +166,14 @@ pub fn put_save(memory: Memory, save: &mut [u8], log: &mut [u8], index: u16, val
     ensures { world result [] [] save.new log.new ≡ save_put (world memory [] [] save.old log.old) index value }
 {
     let core = memory.core;
-    let cartridge = core.cartridge;
-    let mapper = core.mapper;
-    let mapping = store_save(cartridge, mapper, core.used, save, log, index, value);
-    let after = mapping.mapper;
-    let next = memory::with_mapper(memory, after);
-    memory::with_used(next, mapping.used)
+    let mapping = store_save(
+        core.cartridge,
+        core.mapper,
+        core.used,
+        save,
+        log,
+        index,
+        value,
+    );
+    memory::with_used(memory::with_mapper(memory, mapping.mapper), mapping.used)
 }

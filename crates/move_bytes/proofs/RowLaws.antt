@@ -1,6 +1,7 @@
 -- Bytes within 256 from a multiple of 256, of an image and of what is lent with it: those of one region stand in a row (crates/mmu/proofs/Rows.antt).
-use Rattle.std.proofs.Common.{◌≡◌, ℕ, ◌+◌, ◌-◌, ◌<◌, ◌≤◌, Bool, true, false, eqb, List, length, get_or, set, sym, refl, ap, ◌∙◌, arith, get_or-set_other, get_or-set_same, le-ltb, ne_eqb, eqb-true}
+use Rattle.std.proofs.Common.{◌≡◌, ℕ, ◌+◌, ◌-◌, ◌<◌, ◌≤◌, Bool, eqb, List, length, get_or, sym, refl, ap, ◌∙◌, arith, eqb-true}
 use borrow.Author.Tests.{eqb-false}
+use Rattle.std.proofs.lemmas.Grind.{common_steps}
 use Rattle.image.proofs.OpenLaws.{load_length}
 use Rattle.image.specs.Layout.{image_len}
 use Rattle.image.specs.Load.{registers_in, load_call}
@@ -20,26 +21,9 @@ use Rattle.registers.specs.Page.{plain_read, shown_as}
 use Rattle.rules.proofs.Tests.{by_cond}
 use Rattle.move_bytes.specs.Transfers.{Lent, Own, Row, Read}
 
--- a list that is filled from its first place on: one byte more
+-- a list that is filled from its first place on
 abbrev pub Filled : List ℕ → (ℕ → ℕ) → ℕ → Type 0
 Filled out g n = (k : ℕ) → k < n → get_or out k 0 ≡ g k
-
-pub filled_none : (out : List ℕ) (g : ℕ → ℕ) → Filled out g 0
-filled_none out g k h = absurd (omega arith)
-
-pub filled_more : (out : List ℕ) (g : ℕ → ℕ) (i v : ℕ) → i < length out → Filled out g i → v ≡ g i → Filled (set out i v) g (i + 1)
-filled_more out g i v l f e k h = by_place (eqb k i) refl
-  where
-    by_place : (b : Bool) → eqb k i ≡ b → get_or (set out i v) k 0 ≡ g k
-    by_place true q =
-        let p : k ≡ i = eqb-true k i q in
-        ap (λ (j : ℕ). get_or (set out i v) j 0) p ∙ get_or-set_same out i v 0 l ∙ e ∙ ap g (sym p)
-    by_place false q =
-        let p = eqb-false k i q in
-        get_or-set_other out i k v 0 p ∙ f k (omega (arith, p))
-
-pub filled_all : (out : List ℕ) (g : ℕ → ℕ) (i : ℕ) → length out ≤ i → Filled out g i → Filled out g (length out)
-filled_all out g i h f k l = f k (omega arith)
 
 -- The byte of an image
 
@@ -84,28 +68,7 @@ module _ {x : Fixed} {i : List ℕ} {c : Core} {v w s : List ℕ} (l : Lent x i 
 -- from FF80 on a byte of the page reads as it is
 shown_high : (byte : ℕ) (cgb : Bool) (line pad : ℕ) (sound : List ℕ) (at : ℕ) → 0x80 ≤ at → shown_as byte cgb line pad sound at ≡ byte
 unfolding shown_as plain_read
-shown_high byte cgb line pad sound at h =
-    let other : (k : ℕ) → k < 0x80 → eqb at k ≡ false = λ k l. ne_eqb at k (λ e. omega arith) in
-    rw (
-      other 0x00 (omega arith),
-      other 0x03 (omega arith),
-      other 0x07 (omega arith),
-      other 0x0E (omega arith),
-      other 0x0F (omega arith),
-      other 0x41 (omega arith),
-      other 0x44 (omega arith),
-      other 0x4C (omega arith),
-      other 0x4F (omega arith),
-      other 0x68 (omega arith),
-      other 0x69 (omega arith),
-      other 0x6A (omega arith),
-      other 0x6B (omega arith),
-      other 0x70 (omega arith),
-      other 0x76 (omega arith),
-      other 0x77 (omega arith),
-      le-ltb at 0x10 (omega arith),
-      le-ltb at 0x40 (omega arith),
-    )
+shown_high byte cgb line pad sound at h = grind (arith, common_steps)
 
 module _ {x : Fixed} {i : List ℕ} {v w s : List ℕ} (l : Own x i v w s) (source n : ℕ) (row : Row source n) where
   module _ (h : source < 0x8000) {bank at : ℕ} (a : bank ≡ (registers_in (fields i)).rom) (e : at ≡ rom_place bank source) where

@@ -1,5 +1,5 @@
 -- The writes of FF46 and FF55: the image after the byte is one that is taken, of the state after it, and the transfer starts from there.
-use Rattle.std.proofs.Common.{◌≡◌, ℕ, ◌-◌, ◌<◌, Bool, true, false, List, [], set, sym, refl, ap, ◌∙◌, subst, arith}
+use Rattle.std.proofs.Common.{◌≡◌, ℕ, ◌<◌, Bool, true, false, List, [], set, sym, refl, ap, ◌∙◌, subst, arith}
 use Rattle.hdma.proofs.Laws.{by_start}
 use Rattle.hdma.specs.Hdma.{starts, source_used, destination_used}
 use Rattle.hdma.specs.declared.Hdma.{Hdma}
@@ -12,7 +12,7 @@ use Rattle.in_place.proofs.Images.{kept_storable}
 use Rattle.image.specs.Laws.{Typed}
 use Rattle.image.specs.Layout.{image_of}
 use Rattle.image.specs.Load.{storable, load_call}
-use Rattle.image.specs.declared.Loaded.{Loaded}
+use Rattle.image.specs.Load.{Loaded}
 use Rattle.memory.proofs.Laws.{hdma_parts, parts_hdma, range_hdma, transfer_range}
 use Rattle.memory.specs.World.{world, Fixed}
 use Rattle.memory.specs.declared.Core.{Core}

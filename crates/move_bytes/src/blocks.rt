@@ -22,8 +22,7 @@ fn copy(
 {
     let mut bytes = [0u8; 16];
     rows::read(image, rom, vram, wram, save, sound, source, &mut bytes);
-    let banks = banks_at(image);
-    let at = mmu::regions::vram_at(banks.vram, destination);
+    let at = mmu::regions::vram_at(banks_at(image).vram, destination);
     packing::put(vram, at, &bytes);
 }
 
@@ -42,10 +41,8 @@ pub fn copy_all(
     requires { Own (fixed rom.now sound.now) image.now vram.old wram.now save.now × (((source % 16 ≡ 0) × (count % 16 ≡ 0)) × Lands destination count) }
     ensures { Copied (fixed rom.now sound.now) image.now vram.old wram.now save.now source destination count vram.new }
 {
-    let mut i: u16 = 0;
-    while i < count {
-        let from = std::num::wrapping_add_u16(source, i);
+    for i in (0..count).step_by(16) {
+        let from = source.wrapping_add(i);
         copy(image, rom, vram, wram, save, sound, from, destination + i);
-        i += 16;
     }
 }

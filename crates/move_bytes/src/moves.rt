@@ -21,8 +21,7 @@ pub fn put_ended(image: &mut [u8], ended: Ended)
     image[0x153] = ended.r53;
     image[0x154] = ended.r54;
     image[0x155] = ended.r55;
-    let hdma = ended.hdma;
-    image::put_hdma(image, hdma);
+    image::put_hdma(image, ended.hdma);
 }
 
 // OAM DMA. OAM is the first bytes of an image.

@@ -3,6 +3,7 @@
 #![tactic(auto)]
 
 ghost use Rattle.std.specs.Prelude.{◌≡◌, ◌<◌};
+ghost use Rattle.std.specs.List.{list_all};
 ghost use Rattle.palette.specs.PanDocs.{address_of, color_of, number_of, low_byte, high_byte, with_low, with_high, channels, byte_in, put_in, moves};
 ghost use Rattle.palette.specs.Palette.{
   write_index,
@@ -15,7 +16,7 @@ ghost use Rattle.palette.specs.Palette.{
 };
 
 // The Rust's CGBColor: each channel has 5 bits.
-#[derive(Clone, Copy)]
+#[derive(Clone, Copy, Debug, PartialEq, Eq)]
 pub struct Color {
     pub red: u8,
     pub green: u8,
@@ -23,7 +24,7 @@ pub struct Color {
 }
 
 // The index register, the data register, and the 32 colours, at palette * 4 + colour.
-#[derive(Clone, Copy)]
+#[derive(Clone, Copy, Debug, PartialEq, Eq)]
 pub struct Palette {
     pub index: u8,
     pub data: u8,
@@ -31,7 +32,7 @@ pub struct Palette {
 }
 
 // What a write of data leaves of the registers, and of the colour at the address.
-#[derive(Clone, Copy)]
+#[derive(Clone, Copy, Debug, PartialEq, Eq)]
 pub struct Written {
     pub index: u8,
     pub data: u8,
@@ -46,6 +47,8 @@ pub fn color_of(value: u8) -> usize
     let pal = value / 8 % 8;
     (pal * 4 + index) as usize
 }
+
+// The two bytes of a colour, and the colour once one of them is written: four formulas, each by the channels of its byte, and not one with another constant.
 
 // Red, and the low half of green.
 fn low_byte(c: Color) -> u8
@@ -83,6 +86,7 @@ fn with_high(c: Color, value: u8) -> Color
 }
 
 // The byte of a colour at the address in `value`.
+#[tactic(auto, using(crate::proofs::Bytes::half))]
 pub fn byte_of(c: Color, value: u8) -> u8
     ensures { result ≡ byte_in c (address_of value) }
 {
@@ -93,6 +97,7 @@ pub fn byte_of(c: Color, value: u8) -> u8
 }
 
 // A colour once the byte at the address in `index` is written.
+#[tactic(auto, using(crate::proofs::Bytes::half))]
 fn with_byte(c: Color, index: u8, value: u8) -> Color
     ensures { result ≡ put_in c (address_of index) value }
 {
@@ -110,6 +115,7 @@ fn moves(index: u8) -> bool
 }
 
 // The index register after a write of data; where the address moves, bit 6 becomes 0.
+#[tactic(auto, unfolding(crate::specs::Palette::next_index))]
 pub fn next_index(index: u8) -> u8
     ensures { result ≡ next_index index }
 {
@@ -121,6 +127,7 @@ pub fn next_index(index: u8) -> u8
 }
 
 // What the data register shows after a write of data: where the address moved, the byte there.
+#[tactic(auto, unfolding(crate::specs::Palette::shown_after))]
 fn shown(index: u8, next: Color, value: u8) -> u8
     ensures { result ≡ shown_after index next value }
 {
@@ -139,62 +146,57 @@ pub fn set_color_palette(index: u8, c: Color, next: Color, value: u8) -> Written
     Written {
         index: next_index(index),
         data: shown(index, next, value),
-        color: color,
+        color,
     }
 }
 
 // FF68 and FF6A on a colour machine: the data register shows the byte at the address.
+#[tactic(auto, unfolding(crate::specs::PanDocs::byte_at))]
 pub fn write_index(p: Palette, value: u8) -> Palette
     ensures { result ≡ write_index p value }
 {
-    let at = color_of(value);
-    let c = p.colors[at];
-    let mut n = p;
-    n.index = value;
-    n.data = byte_of(c, value);
-    n
+    let c = p.colors[color_of(value)];
+    Palette {
+        index: value,
+        data: byte_of(c, value),
+        ..p
+    }
 }
 
 // FF69 and FF6B on a colour machine.
+#[tactic(auto, using(crate::proofs::Bytes::data_parts))]
 pub fn write_data(p: Palette, value: u8) -> Palette
     ensures { result ≡ write_data p value }
 {
     let at = color_of(p.index);
     let to = color_of(next_index(p.index));
-    let c = p.colors[at];
-    let next = p.colors[to];
-    let w = set_color_palette(p.index, c, next, value);
-    let color = w.color;
-    let mut n = p;
-    n.index = w.index;
-    n.data = w.data;
-    n.colors[at] = color;
+    let w = set_color_palette(p.index, p.colors[at], p.colors[to], value);
+    let mut n = Palette {
+        index: w.index,
+        data: w.data,
+        ..p
+    };
+    n.colors[at] = w.color;
     n
 }
 
 // Whether every channel is below 32.
+#[tactic(auto, unfolding(crate::specs::Palette::in_range))]
 fn in_range(c: Color) -> bool
     ensures { result ≡ in_range c }
 {
-    if 31 < c.red {
-        return false;
-    }
-    if 31 < c.green {
-        return false;
-    }
-    c.blue < 32
+    c.red < 32 && c.green < 32 && c.blue < 32
 }
 
+fn all_in_range(colors: &[Color]) -> bool
+    ensures { result ≡ list_all in_range colors.now }
+{
+    colors.iter().all(|c| in_range(*c))
+}
+
+#[tactic(auto, using(crate::proofs::Bytes::all_in_range))]
 pub fn colors_in_range(colors: [Color; 32]) -> bool
     ensures { result ≡ colors_in_range colors }
 {
-    let mut i = 0;
-    while i < 32 {
-        let c = colors[i];
-        if !in_range(c) {
-            return false;
-        }
-        i += 1;
-    }
-    true
+    all_in_range(&colors)
 }

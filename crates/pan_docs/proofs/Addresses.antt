@@ -9,7 +9,7 @@ use lib.ListN.{length, set}
 use Rattle.hdma.specs.Hdma.{starts}
 use Rattle.joypad.specs.Joypad.{polled}
 use Rattle.interrupt.specs.Flags.{named, requested, removed}
-use Rattle.interrupt.specs.declared.Pending.TheVariants.{Some}
+use Rattle.std.specs.Prelude.{Some}
 use Rattle.lcd.specs.declared.Screen.{Screen}
 use Rattle.memory.specs.declared.Memory.{Memory}
 use Rattle.palette.specs.Palette.{write_index, write_data}

@@ -9,7 +9,7 @@ use Rattle.interrupt.specs.Flags.{requested, removed}
 use Rattle.interrupt.specs.PanDocs.{bit_of, waits, first_of}
 use Rattle.interrupt.specs.declared.Interrupt.{Interrupt}
 use Rattle.interrupt.specs.declared.Interrupt.TheVariants.{Vblank, Lcd, Timer, Serial, Joypad}
-use Rattle.interrupt.specs.declared.Pending.TheVariants.{Some, None}
+use Rattle.std.specs.Prelude.{Some, None}
 use Rattle.rules.proofs.Tests.{both_true}
 use Rattle.pan_docs.specs.Bits.{bit}
 use Rattle.pan_docs.specs.Interrupts.{interrupt_at, Both, InterruptBits}

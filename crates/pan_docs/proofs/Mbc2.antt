@@ -10,7 +10,7 @@ use borrow.Author.Tests.{eq-eqb, ne_eqb, lt-ltb, le-ltb}
 use Rattle.mbc.specs.Mbc.{ram_source, ram_len, answer, byte_of, enable2, select2, after2}
 use Rattle.mbc.specs.PanDocs.{mbc2_bank, ram_address, bit8}
 use Rattle.mbc.specs.declared.cartridge.Cartridge.{Cartridge}
-use Rattle.mbc.specs.declared.mbc.Answer.TheVariants.{Stored}
+use Rattle.mbc.specs.Answers.{stored_as}
 use Rattle.mbc.specs.declared.mbc.Mapper.TheVariants.{Mbc2}
 use Rattle.mbc.specs.declared.mbc.Source.TheVariants.{Half, Fixed}
 use Rattle.mbc.specs.declared.mbc2.Mbc2.{Mbc2 as Registers}
@@ -64,12 +64,12 @@ module _ (c : Cartridge) (m : Registers) (i : ℕ) (h : 0xA000 ≤ i) (l : i ≤
   unfolding ram_source
   off f = cond_true _ _ _ (lt-ltb i 0xA200 (omega arith)) ∙ cond_false m.enabled _ _ f
 
-  stored : (v : ℕ) → m.enabled ≡ true → answer c (Mbc2 m) i v ≡ Stored (low 9 i) (low 4 v)
+  stored : (v : ℕ) → m.enabled ≡ true → answer c (Mbc2 m) i v ≡ stored_as (low 9 i) (low 4 v)
   unfolding ram_len
   stored v t =
       ram_answer c (Mbc2 m) i v (omega arith) (half t)
       ∙ cond_true _ _ _ (lt-ltb (low 9 i) 512 (omega (arith, low_mod 9 i)))
-      ∙ ap (λ (x : ℕ). Stored (low 9 i) x) (sym (low_mod 4 v))
+      ∙ ap (λ (x : ℕ). stored_as (low 9 i) x) (sym (low_mod 4 v))
 
   read : (rom save : List ℕ) → m.enabled ≡ true → byte_of rom save (ram_source c (Mbc2 m) i) ≡ low 4 (get_or save (low 9 i) 0)
   read rom save t = rw (half t) (sym (low_mod 4 (get_or save (low 9 i) 0)))

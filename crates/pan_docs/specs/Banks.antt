@@ -2,7 +2,8 @@
 use Rattle.std.specs.Prelude.{Bool, cond, ◌&&◌, [], ◌∷◌, ◌≡◌, ℕ, ◌<◌, ◌≤◌, eqb, ltb, get_or}
 use Rattle.mbc.specs.Mbc.{ram_source, answer}
 use Rattle.mbc.specs.declared.cartridge.Cartridge.{Cartridge}
-use Rattle.mbc.specs.declared.mbc.Answer.TheVariants.{Stored, NotStored}
+use Rattle.mbc.specs.Answers.{stored_as}
+use Rattle.std.specs.Prelude.{None}
 use Rattle.mbc.specs.declared.mbc.Mapper.{Mapper}
 use Rattle.mbc.specs.declared.mbc.Source.TheVariants.{Save, Fixed}
 use Rattle.pan_docs.specs.Bits.{bit, low}
@@ -29,10 +30,10 @@ ram_size code = get_or (0 ∷ 0 ∷ 8192 ∷ 32768 ∷ 131072 ∷ []) code 0
 -- "not stored""
 pub record RamAt (c : Cartridge) (m : Mapper) (index v place : ℕ) : Type 0 where
   pub read : ram_source c m index ≡ Save place
-  pub stored : place < ram_size c.code → answer c m index v ≡ Stored place v
-  pub past : ram_size c.code ≤ place → answer c m index v ≡ NotStored
+  pub stored : place < ram_size c.code → answer c m index v ≡ stored_as place v
+  pub past : ram_size c.code ≤ place → answer c m index v ≡ None
 
 -- "RAM off reads FF, writes are ignored"
 pub record RamOff (c : Cartridge) (m : Mapper) (index v : ℕ) : Type 0 where
   pub read : ram_source c m index ≡ Fixed 0xFF
-  pub ignored : answer c m index v ≡ NotStored
+  pub ignored : answer c m index v ≡ None

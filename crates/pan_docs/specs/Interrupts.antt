@@ -5,7 +5,7 @@ use Rattle.interrupt.specs.Flags.{requested, removed}
 use Rattle.interrupt.specs.PanDocs.{first_of}
 use Rattle.interrupt.specs.declared.Interrupt.{Interrupt}
 use Rattle.interrupt.specs.declared.Interrupt.TheVariants.{Vblank, Lcd, Timer, Serial, Joypad}
-use Rattle.interrupt.specs.declared.Pending.TheVariants.{Some, None}
+use Rattle.std.specs.Prelude.{Some, None}
 use Rattle.pan_docs.specs.Bits.{bit}
 
 -- by their bits

@@ -4,7 +4,7 @@
 use Rattle.std.specs.Prelude.{true, false, cond, ◌≡◌, ℕ, ◌^◌, ◌≤◌, ltb, get_or, List}
 use Rattle.mbc.specs.Mbc.{rom_bank, after, ram_source, answer, byte_of, after2}
 use Rattle.mbc.specs.declared.cartridge.Cartridge.{Cartridge}
-use Rattle.mbc.specs.declared.mbc.Answer.TheVariants.{Stored}
+use Rattle.mbc.specs.Answers.{stored_as}
 use Rattle.mbc.specs.declared.mbc.Mapper.TheVariants.{Mbc2}
 use Rattle.mbc.specs.declared.mbc2.Mbc2.{Mbc2 as Registers}
 use Rattle.pan_docs.specs.Bits.{bit, low}
@@ -30,5 +30,5 @@ pub record Mbc2Rules : Type 0 where
   pub read : (c : Cartridge) (m : Registers) (rom save : List ℕ) (index : ℕ) → 0xA000 ≤ index → index ≤ 0xA1FF → m.enabled ≡ true
       → byte_of rom save (ram_source c (Mbc2 m) index) ≡ low 4 (get_or save (low 9 index) 0)
   pub stored : (c : Cartridge) (m : Registers) (index v : ℕ) → 0xA000 ≤ index → index ≤ 0xA1FF → m.enabled ≡ true
-      → answer c (Mbc2 m) index v ≡ Stored (low 9 index) (low 4 v)
+      → answer c (Mbc2 m) index v ≡ stored_as (low 9 index) (low 4 v)
   pub off : (c : Cartridge) (m : Registers) (index v : ℕ) → 0xA000 ≤ index → index ≤ 0xA1FF → m.enabled ≡ false → RamOff c (Mbc2 m) index v

@@ -2,16 +2,17 @@
 use mathlib.Core.Path.{◌≡◌, refl, sym, ap, subst, ◌∙◌}
 use mathlib.Core.List.{List, [], ◌∷◌, ◌++◌, append_assoc}
 use Prim.Native.Nat.{ℕ, zero, suc, ◌+◌, ◌-◌, ◌*◌, ◌/◌, ◌%◌, ◌^◌, ◌<◌, ◌≤◌}
-use native.Mathlib.Nat.{mod-lt, add_comm, add_assoc, mul_comm, add-zero, one-mul, add-mul, mul_assoc, add-suc, lt_of_lt_of_le}
-use native.Mathlib.Numerals.{add-one}
+use native.Mathlib.Nat.{mod-lt, add_comm, add_assoc, mul_comm, add-zero, add-mul, mul_assoc, lt_of_lt_of_le}
 use native.Mathlib.Omega.{arith}
 use lib.Arith.{digits_lt}
 use lib.ListN.{length, take, drop, get_or, set, length-append, length-drop, length-replicate, take-append-drop, replicate-append-replicate}
+use borrow.Rule.Slice.PartMut.{put_mid}
+use Rattle.std.proofs.lemmas.Slice.{put_mid-paste}
 use lib.Seq.{sets, sets-eq, length-sets, length-take-le, drop-drop}
 use lib.Pow.{split, shr_lt, shl_exact, pow_mono, pow_pos, pow-add, high, low, shr-shr, mod-pow-add, mod-mod-pow, field}
 use Rattle.packing.specs.Packing.{Below, bits, packed, unpacked, eights}
 use Rattle.packing.proofs.Laws.{packed_lt, bits_replicate, pack_append, below_fit, below_take, below_drop, unpack_mod, unpack_low, unpack_pack, unpack_length, pack_unpack}
-use Rattle.packing.proofs.Runs.{part_listed}
+use Rattle.packing.proofs.Runs.{pasted}
 use Rattle.places.specs.Places.{number, behind, field_at, fields_from, replaced, put_at}
 
 -- the fields of a layout that fills the bytes to their end are those at the places
@@ -109,13 +110,6 @@ module _ (l : List ℕ) (b : Below 256 l) (a k : ℕ) (h : a + k ≤ length l) w
       let f : behind l bit w ≡ 8 * (length l - (a + k)) + s = omega arith in
       rw (window_at, window (number l) (8 * (length l - (a + k))) (8 * k) s w t, f)
 
--- a shifted 1
-pub power : (w : ℕ) → w < 64 → 1 * 2 ^ w % 2 ^ 64 ≡ 2 ^ w
-power w h = shl_exact 1 w 64 (omega arith) (omega arith) ∙ one-mul (2 ^ w)
-
-pub power_le : (w k : ℕ) → w ≤ k → 2 ^ w ≤ 2 ^ k
-power_le w k h = pow_mono h
-
 -- A field that is put
 
 module _ (x k y : ℕ) where
@@ -198,24 +192,6 @@ replaced_set (w ∷ ws) n zero v b =
 replaced_set (w ∷ ws) n (suc k) v b =
     rw (replaced_above n (bits (drop (suc k) ws)) (get_or ws k 0) v (bits ws) (inside ws k) b, replaced_set ws n k v b)
 
--- bytes one by one
-module _ (l : List ℕ) (i : ℕ) where
-  pub two_listed : i + 2 ≤ length l → take 2 (drop i l) ≡ get_or l i 0 ∷ get_or l (i + 1) 0 ∷ []
-  two_listed h = rw add-zero at (part_listed 2 i 0 l 0 (omega arith))
-
-  pub three_listed : i + 3 ≤ length l → take 3 (drop i l) ≡ get_or l i 0 ∷ get_or l (i + 1) 0 ∷ get_or l (i + 2) 0 ∷ []
-  three_listed h = rw add-zero at (part_listed 3 i 0 l 0 (omega arith))
-
-module _ (out : List ℕ) (o : ℕ) where
-  one_more : (k : ℕ) → o + suc k ≡ suc (o + k)
-  one_more k = add-suc o k
-
-  pub two_stores : (n : ℕ) → set (set out o (n / 0x100 % 256)) (o + 1) (n / 1 % 256) ≡ sets out o (unpacked (eights 2) n)
-  two_stores n = rw (add-one o)
-
-  pub three_stores : (n : ℕ) → set (set (set out o (n / 0x10000 % 256)) (o + 1) (n / 0x100 % 256)) (o + 2) (n / 1 % 256) ≡ sets out o (unpacked (eights 3) n)
-  three_stores n = rw (one_more 1, add-one o)
-
 -- what the code of `replaced` computes does not wrap
 module _ (n s w v : ℕ) (hn : n < 2 ^ 64) (hw : w + s < 64) (hv : v < 2 ^ w) where
   high_lt : n / 2 ^ (w + s) < 2 ^ (64 - (w + s))
@@ -291,10 +267,26 @@ module _ (l : List ℕ) (b : Below 256 l) (a k : ℕ) (h : a + k ≤ length l) (
       ∙ sym (replaced_lift (number x * 2 ^ (8 * k) + packed (eights k) y) c (number z) s w v (number_lt z (below_drop (a + k) 256 l b)))
       ∙ sym (ap (λ (i : ℕ). replaced i (s + c) w v) q) ∙ sym (ap (λ (i : ℕ). replaced (number l) i w v) f)
 
-  pub put_window : (l' : List ℕ) → l' ≡ sets l a (unpacked (eights k) m) → Below 256 l' → l' ≡ put_at l bit w v
+  -- the window's bytes stored
+  pub stored : (l' : List ℕ) → l' ≡ sets l a (unpacked (eights k) m) → Below 256 l' → l' ≡ put_at l bit w v
   unfolding number put_at
-  put_window l' i d =
+  stored l' i d =
       let n : length l' ≡ length l = ap length i ∙ length-sets l a (unpacked (eights k) m) in
       sym (unpack_pack (eights (length l')) l' (below_fit (length l') 8 l' refl d))
       ∙ ap (λ (j : ℕ). unpacked (eights j) (number l')) n
       ∙ ap (unpacked (eights (length l))) (ap number i ∙ whole_number)
+
+-- the window as the code has it: the k bytes from a on, of which x is the number, made those of the number m
+pub put_window : (l : List ℕ) → Below 256 l → (a k : ℕ) → a + k ≤ length l → (s w bit v m j x : ℕ) (u : List ℕ) → s + w ≤ 8 * k
+    → bit + w + s ≡ 8 * (a + k) → v < 2 ^ w → j ≡ k
+    → x ≡ packed (eights (length (take j (drop a l)))) (take j (drop a l)) → m ≡ replaced x s w v → u ≡ unpacked (eights (length (take j (drop a l)))) m
+    → Below 256 (put_mid a j l u) → put_mid a j l u ≡ put_at l bit w v
+put_window l b a k h s w bit v m j x u t e hv jk ex em eu d =
+    let n : length (take k (drop a l)) ≡ k = length-take-le k (drop a l) (rw length-drop (omega arith)) in
+    let r : m ≡ replaced (packed (eights k) (take k (drop a l))) s w v = em ∙ ap (λ (y : ℕ). replaced y s w v) (rw (jk, n) at ex) in
+    let f : u ≡ unpacked (eights k) m = rw (jk, n) at eu in
+    let c : length u ≡ k = rw f (unpack_length (eights k) m ∙ length-replicate k 8) in
+    let g : a + length u ≤ length l = rw c h in
+    let i : put_mid a j l u ≡ sets l a (unpacked (eights k) m) =
+    put_mid-paste a j l u u (length u) refl (c ∙ sym jk) refl ∙ pasted l u a g ∙ ap (sets l a) f in
+    stored l b a k h s w bit v m t e hv r (put_mid a j l u) i d

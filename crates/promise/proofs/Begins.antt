@@ -12,7 +12,7 @@ use Rattle.rules.proofs.Tests.{both_true, or_cases, untrue, by_cond, cond_both, 
 use Rattle.mbc.specs.Cartridge.{codes}
 use Rattle.mbc.specs.Mbc as mbc
 use Rattle.mbc.specs.declared.cartridge.Cartridge.{Cartridge}
-use Rattle.mbc.specs.declared.mbc.Fresh.{Fresh}
+use Rattle.mbc.specs.Answers.{Fresh}
 use Rattle.memory.specs.Start.{started as startedWith}
 use Rattle.promise.specs.Described.{OneOf, to16, to128, to512, rams, rams_with4, Described, rom_only, mbc1, mbc2, mbc5}
 use Rattle.memory.specs.declared.Memory.{Memory}

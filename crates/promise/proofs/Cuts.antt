@@ -10,8 +10,8 @@ use Rattle.mbc.proofs.Laws.{by_ram_len, stored_within, ram_len_after}
 use Rattle.mbc.specs.Mbc.{ram_len, mapped, answer}
 use Rattle.mbc.specs.declared.cartridge.Cartridge.{Cartridge}
 use Rattle.mbc.specs.declared.mbc.Mapper.{Mapper}
-use Rattle.mbc.specs.declared.mbc.Answer.{Answer}
-use Rattle.mbc.specs.declared.mbc.Answer.TheVariants.{Stored, NotStored}
+use Rattle.mbc.specs.declared.mbc.Stored.{Stored}
+use Rattle.std.specs.Prelude.{Option, Some, None}
 use Rattle.memory.specs.World.{World}
 use Rattle.rules.proofs.Tests.{both_true, cond_both}
 use Rattle.savelog.proofs.Laws.{stored_sound, records_none}
@@ -59,9 +59,9 @@ fit_read ram h (r ∷ rs) f =
 
 -- what a mapper lets in fits, whatever was written before
 
-answered_fit : (c : Cartridge) (m : Mapper) (i v : ℕ) → v < 256 → (a : Answer) → answer c m i v ≡ a → Fit (ram_len c m) (answered a)
-answered_fit c m i v h (Stored at b) e = let s = stored_within c m i v at b h e in ((refl, s.0, s.1.1), tt)
-answered_fit c m i v h NotStored e = tt
+answered_fit : (c : Cartridge) (m : Mapper) (i v : ℕ) → v < 256 → (a : Option Stored) → answer c m i v ≡ a → Fit (ram_len c m) (answered a)
+answered_fit c m i v h (Some x) e = let s = stored_within c m i v x h e in ((refl, s.0, s.1.1), tt)
+answered_fit c m i v h None e = tt
 
 ram_after : (c : Cartridge) (m : Mapper) (b : ByteWrite) → ram_len c (mapper_after c m b) ≡ ram_len c m
 unfolding mapper_after

@@ -7,8 +7,8 @@ use lib.ListN.{set}
 use Rattle.rules.proofs.Tests.{cond_both}
 use Rattle.hdma.specs.Hdma.{destination_used}
 use Rattle.hdma.specs.declared.Hdma.{Hdma}
-use Rattle.mbc.specs.declared.mbc.Answer.{Answer}
-use Rattle.mbc.specs.declared.mbc.Answer.TheVariants.{Stored, NotStored}
+use Rattle.mbc.specs.declared.mbc.Stored.{Stored}
+use Rattle.std.specs.Prelude.{Option, Some, None}
 use Rattle.memory.proofs.Regions.{within}
 use Rattle.memory.specs.Region.{region_of}
 use Rattle.memory.specs.World.{World, Fixed}
@@ -31,9 +31,9 @@ SameMapper w u = u.state.core.mapper ≡ w.state.core.mapper
 -- one byte
 
 -- what the mapper answers is done on a mapper that was changed before
-pub saved_mapper : (w : World) (a : Answer) → SameMapper w (saved a w)
-saved_mapper w (Stored at v) = refl
-saved_mapper w NotStored = refl
+pub saved_mapper : (w : World) (a : Option Stored) → SameMapper w (saved a w)
+saved_mapper w (Some s) = refl
+saved_mapper w None = refl
 
 put_in_mapper : (w : World) (r : Region) (i v : ℕ) → (r ≡ Rom → ⊥) → (r ≡ Save → ⊥) → SameMapper w (put_in r w i v)
 put_in_mapper w Rom i v a b = absurd (a refl)

@@ -6,22 +6,19 @@ use lib.Dec.{eqb, ltb, leb}
 use Rattle.dispatch.specs.declared.StateCall.{StateCall}
 use Rattle.interrupt.specs.Flags.{named}
 use Rattle.interrupt.specs.declared.Interrupt.{Interrupt}
-use Rattle.interrupt.specs.declared.Pending.{Pending}
-use Rattle.interrupt.specs.declared.Pending.TheVariants as pending
+use Rattle.std.specs.Prelude.{Option, Some, None}
 use Rattle.joypad.specs.Joypad as joypad
 use Rattle.joypad.specs.declared.buttons.Button.{Button}
-use Rattle.joypad.specs.declared.buttons.Named.{Named}
-use Rattle.joypad.specs.declared.buttons.Named.TheVariants as button
 use Rattle.joypad.specs.declared.Controller.{Controller}
 use Rattle.memory.specs.Ranges.{vram_len}
 use Rattle.memory.specs.Region.{vram_start, save_start, page_start}
 use Rattle.memory.specs.World.{World}
 use Rattle.memory.specs.declared.Memory.{Memory}
 use Rattle.numbers.specs.Numbers.{done, owed, no_room, out_of_range, wrong_length, too_many_cycles, outside}
-use Rattle.refusals.specs.declared.Byte.{Byte}
-use Rattle.refusals.specs.declared.Flag.{Flag}
-use Rattle.refusals.specs.declared.Waiting.{Waiting}
-use Rattle.refusals.specs.declared.Word.{Word}
+use Rattle.refusals.specs.Answers.{Byte}
+use Rattle.refusals.specs.Answers.{Flag}
+use Rattle.refusals.specs.Answers.{Waiting}
+use Rattle.refusals.specs.Answers.{Word}
 use Rattle.rules.proofs.Tests.{cond_both}
 use Rattle.savelog.specs.Log.{full}
 use Rattle.registers.specs.State.{requested_in, removed_in}
@@ -80,7 +77,7 @@ flag_clear : (n : ℕ) (v : Bool) → Clear n → Clear (flag_given n v).number
 unfolding flag_given
 flag_clear n v a = cond_both (λ (b : Flag). Clear b.number) (eqb n done) refl a
 
-waiting_clear : (n : ℕ) (p : Pending) → Clear n → Clear (waiting_given n p).number
+waiting_clear : (n : ℕ) (p : Option Interrupt) → Clear n → Clear (waiting_given n p).number
 unfolding waiting_given
 waiting_clear n p a = cond_both (λ (b : Waiting). Clear b.number) (eqb n done) refl a
 
@@ -117,17 +114,17 @@ word_room_clear used log i = cond_clear (either_in_save i && full log used 2) no
 pub owed_clear : (b : Bool) → Clear (cond b owed done)
 owed_clear b = cond_clear b owed done refl refl
 
-button_clear : (f : Controller → Button → Controller) (c : Controller) (n : Named) → Clear (joypad.on_button f c n).number
-button_clear f c (button.Some b) = refl
-button_clear f c button.None = refl
+button_clear : (f : Controller → Button → Controller) (c : Controller) (n : Option Button) → Clear (joypad.on_button f c n).number
+button_clear f c (Some b) = refl
+button_clear f c None = refl
 
 module _ (m : Memory) (z : refused_state m ≡ done) where
   pub state_clear : Clear (refused_state m)
   state_clear = ap (λ (n : ℕ). eqb n out_of_range) z
 
-  line_clear : (f : Memory → Interrupt → Memory) (p : Pending) → Clear (on_interrupt m f p).number
-  line_clear f (pending.Some i) = changed_clear _ m _ state_clear
-  line_clear f pending.None = changed_clear _ m _ (or_clear _ _ state_clear refl)
+  line_clear : (f : Memory → Interrupt → Memory) (p : Option Interrupt) → Clear (on_interrupt m f p).number
+  line_clear f (Some i) = changed_clear _ m _ state_clear
+  line_clear f None = changed_clear _ m _ (or_clear _ _ state_clear refl)
 
   pub alone_clear : (c : StateCall) → Clear (state_step m c).number
   unfolding state_step

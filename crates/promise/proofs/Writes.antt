@@ -12,8 +12,8 @@ use Rattle.rules.proofs.Tests.{both_true, by_cond, or_cases, untrue}
 use Rattle.mbc.proofs.Laws.{mapped_rom, mapped_ram}
 use Rattle.mbc.specs.Mbc.{mapped, after, answer}
 use Rattle.mbc.specs.declared.mbc.Mapper.{Mapper}
-use Rattle.mbc.specs.declared.mbc.Answer.{Answer}
-use Rattle.mbc.specs.declared.mbc.Answer.TheVariants.{Stored, NotStored}
+use Rattle.mbc.specs.declared.mbc.Stored.{Stored}
+use Rattle.std.specs.Prelude.{Option, Some, None}
 use Rattle.memory.proofs.Regions.{within, region_at}
 use Rattle.memory.specs.Region.{region_of}
 use Rattle.memory.specs.World.{World, Fixed, with_mapper}
@@ -54,18 +54,18 @@ stores_none w u s =
     }
 
 -- whatever mapper is put before
-saved_stores : (w : World) (m : Mapper) (a : Answer) → w.state.core.used + width ≤ length w.log
+saved_stores : (w : World) (m : Mapper) (a : Option Stored) → w.state.core.used + width ≤ length w.log
     → Stores (answered a) w (saved a (in_state w (with_mapper w.state m)))
 unfolding apply_all records_of
-saved_stores w m (Stored at v) h =
+saved_stores w m (Some x) h =
     record {
       save = refl;
-      log = rw append-nil (used_more w.log w.state.core.used at v h);
+      log = rw append-nil (used_more w.log w.state.core.used x.at x.value h);
       grown = omega arith;
       used = omega arith;
-      same = appended_length w.log w.state.core.used at v h;
+      same = appended_length w.log w.state.core.used x.at x.value h;
     }
-saved_stores w m NotStored h = stores_none w _ (record { save = refl; log = refl; used = refl })
+saved_stores w m None h = stores_none w _ (record { save = refl; log = refl; used = refl })
 
 stores_spared : (rs : List Rec) (w u y : World) → Stores rs w u → Spares u y → Stores rs w y
 stores_spared rs w u y s p =
@@ -100,7 +100,7 @@ module _ (w : World) (i v : ℕ) where
   abbrev Room : Type 0
   Room = in_save i ≡ true → w.state.core.used + width ≤ length w.log
 
-  abbrev asked_for : Answer
+  abbrev asked_for : Option Stored
   asked_for = answer w.state.core.cartridge w.state.core.mapper i v
 
   abbrev turned : World

@@ -3,8 +3,8 @@ use Rattle.std.specs.Prelude.{cond, List, [], ◌∷◌, ◌++◌, ℕ}
 use Rattle.mbc.specs.Mbc.{mapped, after, answer}
 use Rattle.mbc.specs.declared.cartridge.Cartridge.{Cartridge}
 use Rattle.mbc.specs.declared.mbc.Mapper.{Mapper}
-use Rattle.mbc.specs.declared.mbc.Answer.{Answer}
-use Rattle.mbc.specs.declared.mbc.Answer.TheVariants.{Stored, NotStored}
+use Rattle.mbc.specs.declared.mbc.Stored.{Stored}
+use Rattle.std.specs.Prelude.{Option, Some, None}
 use Rattle.savelog.specs.Log.{stored, record_bytes}
 use Rattle.savelog.specs.declared.Form.TheVariants.{Four}
 use Rattle.savelog.specs.declared.Rec.{Rec}
@@ -25,9 +25,9 @@ mappers_after c m [] = m
 mappers_after c m (b ∷ bs) = mappers_after c (mapper_after c m b) bs
 
 -- "byte writes to A000..BFFF that the mapper's rules let in, each at the address and with the value that those rules give"
-abbrev pub answered : Answer → List Rec
-answered (Stored at v) = stored at v ∷ []
-answered NotStored = []
+abbrev pub answered : Option Stored → List Rec
+answered (Some s) = stored s.at s.value ∷ []
+answered None = []
 
 unfoldable pub let_in : Cartridge → Mapper → ByteWrite → List Rec
 let_in c m b = cond (in_save b.index) (answered (answer c m b.index b.value)) []

@@ -10,4 +10,4 @@ pub use Rattle.dispatch.specs.declared.Call.TheVariants as call
 pub use Rattle.dispatch.specs.declared.StateCall.TheVariants as on
 pub use Rattle.refusals.specs.Refusal.{next_index}
 unfoldable pub use Rattle.refusals.specs.Refusal.{in_save, in_sound, byte_owed, word_owed}
-pub use Rattle.refusals.specs.declared.Done.{Done}
+pub use Rattle.refusals.specs.Answers.{Done}

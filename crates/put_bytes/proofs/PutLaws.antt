@@ -14,7 +14,7 @@ use Rattle.image.specs.Laws.{Typed}
 use Rattle.image.specs.Layout.{image_len, image_of, field_widths, used_field}
 use Rattle.image.specs.Load.{registers_in, storable, load_call}
 use Rattle.image.specs.Patches.{fields, front, Mapped, Slim, used_put, mapping_put}
-use Rattle.image.specs.declared.Loaded.{Loaded}
+use Rattle.image.specs.Load.{Loaded}
 use Rattle.in_place.proofs.Fine.{typed_fine}
 use Rattle.in_place.proofs.Images.{core}
 use Rattle.in_place.specs.Held.{Held}

@@ -11,8 +11,8 @@ use Rattle.image.specs.Layout.{image_of}
 use Rattle.image.specs.Load.{storable}
 use Rattle.in_place.proofs.Fine.{typed_fine, fine_typed, write_fine}
 use Rattle.mbc.specs.Mbc.{after, answer}
-use Rattle.mbc.specs.declared.mbc.Answer.{Answer}
-use Rattle.mbc.specs.declared.mbc.Answer.TheVariants.{Stored, NotStored}
+use Rattle.mbc.specs.declared.mbc.Stored.{Stored}
+use Rattle.std.proofs.Common.{Option, Some, None}
 use Rattle.memory.proofs.Regions.{within}
 use Rattle.memory.specs.Ranges.{state_in_range}
 use Rattle.memory.specs.Region.{region_of}
@@ -38,11 +38,11 @@ module _ (w : World) (t : Typed w.state) (i v : ℕ) (hv : v < 256) where
       typed_with w.state t w.state.oam w.state.page w.state.core.joypad w.state.core.clock (after w.state.core.cartridge w.state.core.mapper i v)
       w.state.core.used t.oam t.page (joypad_bytes t).0 (joypad_bytes t).1 (div_byte t)
 
-  saved_typed : (a : Answer) → TypedIn (saved a (in_state w (mapper_put w.state i v)))
-  saved_typed (Stored at b) =
+  saved_typed : (a : Option Stored) → TypedIn (saved a (in_state w (mapper_put w.state i v)))
+  saved_typed (Some k) =
       typed_with w.state t w.state.oam w.state.page w.state.core.joypad w.state.core.clock (after w.state.core.cartridge w.state.core.mapper i v)
       (w.state.core.used + width) t.oam t.page (joypad_bytes t).0 (joypad_bytes t).1 (div_byte t)
-  saved_typed NotStored = mapper_typed
+  saved_typed None = mapper_typed
 
   save_typed : TypedIn (save_put w i v)
   unfolding save_put

@@ -12,8 +12,8 @@ use Rattle.joypad.specs.Joypad.{pad_read, directions_answer}
 use Rattle.mbc.proofs.Laws.{read_below, stored_within}
 use Rattle.mbc.specs.Mbc.{read_at, answer}
 use Rattle.mbc.specs.declared.cartridge.Cartridge.{Cartridge}
-use Rattle.mbc.specs.declared.mbc.Answer.{Answer}
-use Rattle.mbc.specs.declared.mbc.Answer.TheVariants.{Stored, NotStored}
+use Rattle.mbc.specs.declared.mbc.Stored.{Stored}
+use Rattle.std.proofs.Common.{Option, Some, None}
 use Rattle.mbc.specs.declared.mbc.Mapper.{Mapper}
 use Rattle.memory.specs.Region.{region_of}
 use Rattle.memory.specs.World.{World, Fixed}
@@ -94,17 +94,17 @@ module _ (w : World) (g : Whole w) (v : ℕ) (b : v < 256) where
   state_whole : {m : Memory} → Fine m → Whole (record { state = m; vram = w.vram; wram = w.wram; save = w.save; log = w.log })
   state_whole f = record { state = f; vram = g.vram; wram = g.wram; save = g.save }
 
-  saved_whole : (i : ℕ) (a : Answer) → answer w.state.core.cartridge w.state.core.mapper i v ≡ a
+  saved_whole : (i : ℕ) (a : Option Stored) → answer w.state.core.cartridge w.state.core.mapper i v ≡ a
       → Whole (saved a (in_state w (mapper_put w.state i v)))
-  saved_whole i (Stored at u) e =
-      let s = stored_within w.state.core.cartridge w.state.core.mapper i v at u b e in
+  saved_whole i (Some k) e =
+      let s = stored_within w.state.core.cartridge w.state.core.mapper i v k b e in
       record {
         state = used_fine (mapper_fine g.state _) (w.state.core.used + width);
         vram = g.vram;
         wram = g.wram;
-        save = below_set 256 w.save at u g.save s.1.1;
+        save = below_set 256 w.save k.at k.value g.save s.1.1;
       }
-  saved_whole i NotStored e = state_whole (mapper_fine g.state _)
+  saved_whole i None e = state_whole (mapper_fine g.state _)
 
   save_whole : (i : ℕ) → Whole (save_put w i v)
   unfolding save_put

@@ -1,5 +1,6 @@
 // A byte put into an image or what is lent beside it, by its region: a write that nothing refuses, without the copying that it may start. It takes of the
-// image what it needs, and changes it in place.
+// image what it needs, and changes it in place. What is lent stays a parameter each, as in
+// `mmu::write_byte`; that it fits (`Taken`) is a clause: C lends slices of any length, which the calls refuse.
 #![tactic(auto)]
 
 ghost use Rattle.std.specs.Prelude.{◌≡◌, ◌-◌, ◌/◌, ◌%◌, ◌<◌, ◌≤◌, length};
@@ -26,8 +27,7 @@ pub fn put_mapper(image: &mut [u8], at: u16, value: u8)
 {
     let cartridge = image::cartridge_at(image);
     let r = image::registers_at(image);
-    let next = r.after(cartridge, at, value);
-    image::put_registers(image, next);
+    image::put_registers(image, r.after(cartridge, at, value));
 }
 
 // A000..BFFF: the save, its log, the log's use, and the mapper where it does not keep its registers. A log without room records nothing, and nothing changes.
@@ -42,8 +42,8 @@ fn put_save(image: &mut [u8], save: &mut [u8], log: &mut [u8], at: u16, value: u
     let cartridge = image::cartridge_at(image);
     let mapper = image::mapper_at(image);
     let registers = image::registers_at(image);
-    let answer = registers.answer(cartridge, at, value);
-    let more = mmu::regions::store_answer(answer, used, save, log);
+    let stored = registers.answer(cartridge, at, value);
+    let more = mmu::regions::store_answer(stored, used, save, log);
     if mapper.keeps(at) {
         image::put_used(image, more);
         return;
@@ -57,8 +57,7 @@ fn put_own(image: &mut [u8], at: u16, value: u8)
     requires { (length image.old ≡ image_len) × (oam_start ≤ at) }
     ensures { image.new ≡ own_put image.old at value }
 {
-    let i = (at - memory::OAM_START) as usize;
-    image[i] = value;
+    image[(at - memory::OAM_START) as usize] = value;
 }
 
 // A register, on the image itself.
@@ -66,8 +65,7 @@ fn put_page(image: &mut [u8], at: u16, value: u8)
     requires { Held image.old × (page_start ≤ at) }
     ensures { image.new ≡ image_of (write_register (load_call image.old).state (at - page_start) value) }
 {
-    let i = (at - memory::PAGE_START) as u8;
-    in_place::page::write(image, i, value);
+    in_place::page::write(image, (at - memory::PAGE_START) as u8, value);
 }
 
 // A write that nothing refuses, without the copying that it may start.
@@ -86,13 +84,11 @@ pub fn put_byte(
     match memory::region_of(index) {
         Region::Rom => put_mapper(image, index, value),
         Region::Vram => {
-            let banks = image::banks_at(image);
-            mmu::regions::write_cgb_lcd_ram(vram, banks.vram, index, value);
+            mmu::regions::write_cgb_lcd_ram(vram, image::banks_at(image).vram, index, value);
         }
         Region::Save => put_save(image, save, log, index, value),
         Region::Wram => {
-            let banks = image::banks_at(image);
-            mmu::regions::write_cgb_wram(wram, banks.wram, index, value);
+            mmu::regions::write_cgb_wram(wram, image::banks_at(image).wram, index, value);
         }
         Region::Oam => put_own(image, index, value),
         Region::Page => put_page(image, index, value),
@@ -116,6 +112,8 @@ fn put_apart(
 }
 
 // As `put_byte`, and small enough to be put in place where it is called: a byte of video or work memory or of OAM, or for the mapper, goes there at once.
+// Both stay: tried, `put_byte` here takes 8 to 15 instructions more for each of these, over the budgets of these writes, and `put_here` in place of
+// `put_byte` 28 to 32 more for a register or a save byte.
 pub fn put_here(
     image: &mut [u8],
     vram: &mut [u8],
@@ -130,12 +128,10 @@ pub fn put_here(
 {
     match memory::region_of(index) {
         Region::Vram => {
-            let banks = image::banks_at(image);
-            mmu::regions::write_cgb_lcd_ram(vram, banks.vram, index, value);
+            mmu::regions::write_cgb_lcd_ram(vram, image::banks_at(image).vram, index, value);
         }
         Region::Wram => {
-            let banks = image::banks_at(image);
-            mmu::regions::write_cgb_wram(wram, banks.wram, index, value);
+            mmu::regions::write_cgb_wram(wram, image::banks_at(image).wram, index, value);
         }
         Region::Oam => put_own(image, index, value),
         Region::Rom => put_mapper(image, index, value),
@@ -156,8 +152,7 @@ pub fn put_both(
     requires { Taken image.old vram.old wram.old save.old log.old }
     ensures { left done 0 image.new vram.new wram.new save.new log.new ≡ left_by (put (put (world_of image.old vram.old wram.old save.old log.old) index (value % 256)) (next_index index) (value / 256)) }
 {
-    let low = (value % 256) as u8;
-    let high = (value / 256) as u8;
+    let [low, high] = value.to_le_bytes();
     let above = refusals::next_index(index);
     put_here(image, vram, wram, save, log, index, low);
     put_here(image, vram, wram, save, log, above, high);

@@ -1,5 +1,5 @@
 -- How a read answers: by its number, or by the byte or word.
-use Rattle.std.proofs.Common.{◌≡◌, ℕ, ◌+◌, ◌*◌, ◌<◌, ◌≤◌, eqb, List, [], length, get_or, sym, refl, ap, ◌∙◌, eqb-true}
+use Rattle.std.proofs.Common.{◌≡◌, ℕ, ◌+◌, ◌*◌, ◌<◌, ◌≤◌, eqb, List, [], length, get_or, sym, refl, ap, ◌∙◌, eqb-true, ne_eqb}
 use Rattle.bus.proofs.Passes.{read_passes, vram_passes}
 use Rattle.dispatch.specs.declared.Call.{Call}
 use Rattle.dispatch.specs.declared.Call.TheVariants as call
@@ -13,12 +13,34 @@ use Rattle.memory.specs.declared.Core.{Core}
 use Rattle.mmu.specs.Access.{Ready, read_byte, read_word}
 use Rattle.mmu.specs.PanDocs.{vram_at}
 use Rattle.packing.specs.Packing.{Below}
-use Rattle.refusals.proofs.Answers.{both_pass, refused_byte, refused_word, accepted_byte, accepted_word}
+use Rattle.refusals.proofs.Answers.{both_pass}
+use Rattle.refusals.specs.Answers.{byte_given, word_given}
 use Rattle.refusals.specs.Refusal.{or_else, state_refused, refused_state, refused_read, vram_length_refused, vram_refused}
 use Rattle.rules.proofs.Tests.{by_cond}
 use Rattle.take_bytes.proofs.ByteLaws.{surely_loaded, surely_passes}
 use Rattle.entry.specs.Entry.{given, read_entry}
 use Rattle.entry.proofs.Entries.{unloaded_read, byte_read, word_read, lcd_ram_read}
+
+-- how a byte or a word is given, by what its refusal is
+
+module _ {n k : ℕ} (e : n ≡ k) where
+  module _ (h : n ≡ 0 → ⊥) where
+    refused_byte : (v : ℕ) → record { number = n; value = 0 } ≡ byte_given k v
+    unfolding byte_given
+    refused_byte v = rw (← e, ne_eqb n 0 h)
+
+    refused_word : (v : ℕ) → record { number = n; value = 0 } ≡ word_given k v
+    unfolding word_given
+    refused_word v = rw (← e, ne_eqb n 0 h)
+
+  module _ (h : n ≡ 0) where
+    accepted_byte : {b a : ℕ} → b ≡ a → record { number = 0; value = b } ≡ byte_given k a
+    unfolding byte_given
+    accepted_byte f = rw (← e, h, f)
+
+    accepted_word : {b a : ℕ} → b ≡ a → record { number = 0; value = b } ≡ word_given k a
+    unfolding word_given
+    accepted_word f = rw (← e, h, f)
 
 -- the answer
 
@@ -62,6 +84,11 @@ module _ (x : Fixed) (i v w s : List ℕ) (b : Below 256 i)
     (p : MapperFits i (length x.rom) (length s)) (q : RestFits i (length v) (length w)) (h : length x.sound ≡ sound_len) where
   pub surely_ready : ((load_call i).number ≡ 0) × Ready x (world (load_call i).state v w s [])
   surely_ready = (surely_loaded x i v w s b p q h, read_ready x i v w s (surely_passes x i v w s b p q h) refl)
+
+-- the second of two refusals, where the first passes
+pub second_due : {n a b : ℕ} → 0 ≡ a → n ≡ b → n ≡ or_else a b
+unfolding or_else
+second_due f e = rw (← f, e)
 
 -- video memory by its bank
 

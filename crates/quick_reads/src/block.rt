@@ -5,11 +5,15 @@ ghost use Rattle.entry.specs.Host.{list_of, block_entry};
 ghost use Rattle.image.specs.Load.{load_call, stored};
 ghost use Rattle.memory.specs.World.{world, fixed};
 ghost use Rattle.mmu.specs.Access.{Ready, read_byte};
+ghost use Rattle.numbers.specs.Refusal.{number_given};
+ghost use Rattle.refusals.specs.Refusal.{or_else, read_refused};
+
+use numbers::Refusal;
 
 // The longest block: all there is to read.
 pub const BLOCK_LIMIT: usize = 65536;
 
-// FFFF is followed by 0000.
+// FFFF is followed by 0000: `at` wraps there, so it goes on beside the place.
 fn fill(
     image: &[u8],
     rom: &[u8],
@@ -24,12 +28,27 @@ fn fill(
     ensures { out.new ≡ list_of (λ (k : ℕ). read_byte (fixed rom.now sound.now) (load_call image.now).state vram.now wram.now save.now ((index + k) % 65536)) (length out.old) }
 {
     let mut at = index;
-    let mut i = 0;
-    while i < out.len() {
-        out[i] = take_bytes::byte_at(image, rom, vram, wram, save, sound, at);
-        at = std::num::wrapping_add_u16(at, 1);
-        i += 1;
+    for place in out.iter_mut() {
+        *place = take_bytes::byte_at(image, rom, vram, wram, save, sound, at);
+        at = at.wrapping_add(1);
     }
+}
+
+// As `take_bytes::taken`, with the image's tests in place: a block of no bytes keeps its budget so (bench/budgets.txt). An image whose mapper
+// `image::mapper_taken` does not know at once, as RomOnly, is asked for the rest a second time.
+fn taken_here(
+    image: &[u8],
+    rom: usize,
+    vram: usize,
+    wram: usize,
+    save: usize,
+    sound: usize,
+) -> Result<(), Refusal>
+    ensures { number_given result ≡ or_else (load_call image.now).number (read_refused (load_call image.now).state rom vram wram save sound) }
+{
+    image::mapper_taken(image)?;
+    image::rest_taken(image)?;
+    take_bytes::lengths_taken(image, rom, vram, wram, save, sound)
 }
 
 // From `index` on, as many bytes as `out` has. Refused as a read is, then by 4 if `out` is too long; it stays as it is then.
@@ -42,23 +61,20 @@ pub fn read_block(
     sound: &[u8],
     index: u16,
     out: &mut [u8],
-) -> u8
-    ensures { stored result out.new ≡ block_entry (fixed rom.now sound.now) image.now vram.now wram.now save.now out.old index }
+) -> Result<(), Refusal>
+    ensures { stored (number_given result) out.new ≡ block_entry (fixed rom.now sound.now) image.now vram.now wram.now save.now out.old index }
 {
-    let number = take_bytes::number(
+    taken_here(
         image,
         rom.len(),
         vram.len(),
         wram.len(),
         save.len(),
         sound.len(),
-    );
-    if number != numbers::DONE {
-        return number;
-    }
+    )?;
     if BLOCK_LIMIT < out.len() {
-        return numbers::WRONG_LENGTH;
+        return Err(Refusal::WrongLength);
     }
     fill(image, rom, vram, wram, save, sound, index, out);
-    numbers::DONE
+    Ok(())
 }

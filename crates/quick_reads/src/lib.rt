@@ -1,22 +1,15 @@
-// Byte and word reads of an image and what is lent (crate take_bytes), with every refusal.
+// Byte and word reads of an image and what is lent (crate take_bytes), with every refusal. What is lent stays a parameter each, as in `mmu::write_byte`.
 #![tactic(auto)]
 
-ghost use Rattle.std.specs.Prelude.{◌≡◌, ◌+◌, ◌*◌, []};
+ghost use Rattle.std.specs.Prelude.{◌≡◌, []};
 ghost use Rattle.dispatch.specs.declared.Call.TheVariants.{ReadByte, ReadWord, ReadCgbLcdRam};
 ghost use Rattle.memory.specs.World.{fixed};
-ghost use Rattle.entry.specs.Entry.{given, read_entry};
+ghost use Rattle.entry.specs.Entry.{given_of, read_entry};
 
 pub mod block;
 
-use refusals::{Byte, Word};
+use numbers::Refusal;
 use take_bytes::{byte_at, one_at};
-
-// Low byte first.
-fn joined(low: u8, high: u8) -> u16
-    ensures { result ≡ low + high * 256 }
-{
-    low as u16 + high as u16 * 256
-}
 
 // Every image, and every refusal.
 fn plain_byte(
@@ -27,28 +20,18 @@ fn plain_byte(
     save: &[u8],
     sound: &[u8],
     index: u16,
-) -> Byte
-    ensures { given result.number result.value ≡ read_entry (fixed rom.now sound.now) image.now vram.now wram.now save.now (ReadByte index) }
+) -> Result<u8, Refusal>
+    ensures { given_of result ≡ read_entry (fixed rom.now sound.now) image.now vram.now wram.now save.now (ReadByte index) }
 {
-    let number = take_bytes::number(
+    take_bytes::taken(
         image,
         rom.len(),
         vram.len(),
         wram.len(),
         save.len(),
         sound.len(),
-    );
-    if number != numbers::DONE {
-        return Byte {
-            number: number,
-            value: 0,
-        };
-    }
-    let byte = byte_at(image, rom, vram, wram, save, sound, index);
-    Byte {
-        number: numbers::DONE,
-        value: byte,
-    }
+    )?;
+    Ok(byte_at(image, rom, vram, wram, save, sound, index))
 }
 
 fn plain_word(
@@ -59,31 +42,21 @@ fn plain_word(
     save: &[u8],
     sound: &[u8],
     index: u16,
-) -> Word
-    ensures { given result.number result.value ≡ read_entry (fixed rom.now sound.now) image.now vram.now wram.now save.now (ReadWord index) }
+) -> Result<u16, Refusal>
+    ensures { given_of result ≡ read_entry (fixed rom.now sound.now) image.now vram.now wram.now save.now (ReadWord index) }
 {
-    let number = take_bytes::number(
+    take_bytes::taken(
         image,
         rom.len(),
         vram.len(),
         wram.len(),
         save.len(),
         sound.len(),
-    );
-    if number != numbers::DONE {
-        return Word {
-            number: number,
-            value: 0,
-        };
-    }
+    )?;
     let low = byte_at(image, rom, vram, wram, save, sound, index);
-    let above = std::num::wrapping_add_u16(index, 1);
+    let above = index.wrapping_add(1);
     let high = byte_at(image, rom, vram, wram, save, sound, above);
-    let word = joined(low, high);
-    Word {
-        number: numbers::DONE,
-        value: word,
-    }
+    Ok(u16::from_le_bytes([low, high]))
 }
 
 // Where the tests that are enough pass, nothing refuses; what fails one is read plainly.
@@ -95,17 +68,13 @@ pub fn read_byte(
     save: &[u8],
     sound: &[u8],
     index: u16,
-) -> Byte
-    ensures { given result.number result.value ≡ read_entry (fixed rom.now sound.now) image.now vram.now wram.now save.now (ReadByte index) }
+) -> Result<u8, Refusal>
+    ensures { given_of result ≡ read_entry (fixed rom.now sound.now) image.now vram.now wram.now save.now (ReadByte index) }
 {
     if image::mapper_surely_fits(image, rom.len(), save.len()) {
         if image::rest_surely_fits(image, vram.len(), wram.len()) {
             if sound.len() == memory::SOUND_LEN {
-                let byte = one_at(image, rom, vram, wram, save, sound, index);
-                return Byte {
-                    number: numbers::DONE,
-                    value: byte,
-                };
+                return Ok(one_at(image, rom, vram, wram, save, sound, index));
             }
         }
     }
@@ -121,20 +90,16 @@ pub fn read_word(
     save: &[u8],
     sound: &[u8],
     index: u16,
-) -> Word
-    ensures { given result.number result.value ≡ read_entry (fixed rom.now sound.now) image.now vram.now wram.now save.now (ReadWord index) }
+) -> Result<u16, Refusal>
+    ensures { given_of result ≡ read_entry (fixed rom.now sound.now) image.now vram.now wram.now save.now (ReadWord index) }
 {
     if image::mapper_surely_fits(image, rom.len(), save.len()) {
         if image::rest_surely_fits(image, vram.len(), wram.len()) {
             if sound.len() == memory::SOUND_LEN {
                 let low = byte_at(image, rom, vram, wram, save, sound, index);
-                let above = std::num::wrapping_add_u16(index, 1);
+                let above = index.wrapping_add(1);
                 let high = byte_at(image, rom, vram, wram, save, sound, above);
-                let word = joined(low, high);
-                return Word {
-                    number: numbers::DONE,
-                    value: word,
-                };
+                return Ok(u16::from_le_bytes([low, high]));
             }
         }
     }
@@ -142,28 +107,12 @@ pub fn read_word(
 }
 
 // Video memory by its bank.
-pub fn read_cgb_lcd_ram(image: &[u8], vram: &[u8], index: u16, bank: u8) -> Byte
-    ensures { given result.number result.value ≡ read_entry (fixed [] []) image.now vram.now [] [] (ReadCgbLcdRam index bank) }
+pub fn read_cgb_lcd_ram(image: &[u8], vram: &[u8], index: u16, bank: u8) -> Result<u8, Refusal>
+    ensures { given_of result ≡ read_entry (fixed [] []) image.now vram.now [] [] (ReadCgbLcdRam index bank) }
 {
-    let number = image::number(image);
-    if number != numbers::DONE {
-        return Byte {
-            number: number,
-            value: 0,
-        };
-    }
+    image::taken(image)?;
     let banks = image::banks_at(image);
-    let length = refusals::vram_length_refused(banks.colour, vram.len());
-    let refused = refusals::or_else(length, refusals::vram_refused(banks.colour, index, bank));
-    if refused != numbers::DONE {
-        return Byte {
-            number: refused,
-            value: 0,
-        };
-    }
-    let value = mmu::regions::read_cgb_lcd_ram(vram, bank, index);
-    Byte {
-        number: numbers::DONE,
-        value: value,
-    }
+    refusals::vram_length_refused(banks.colour, vram.len())?;
+    refusals::vram_refused(banks.colour, index, bank)?;
+    Ok(mmu::regions::read_cgb_lcd_ram(vram, bank, index))
 }

@@ -5,7 +5,6 @@ use mathlib.Core.List.{List, [], ◌∷◌}
 use mathlib.Core.Path.{◌≡◌, refl, sym, ap, ◌∙◌}
 use Prim.Native.Nat.{ℕ, ◌<◌}
 use native.Mathlib.Omega.{arith}
-use lib.IntN.{pos}
 use lib.ListN.{length, take}
 use lib.Seq.{paste, take_all, take-take, take-paste, length-paste, length-take-le}
 use mir.Facts.{Fits-of_z}
@@ -24,10 +23,9 @@ use Rattle.image.proofs.PatchLaws.{image_put}
 use Rattle.image.specs.Layout.{bit, complement, field_values, image_of}
 use Rattle.image.specs.Load.{stored, lcd_of, load_call}
 use Rattle.image.specs.Patches.{fields, put, Fits}
-use Rattle.image.specs.declared.Loaded.{Loaded}
+use Rattle.image.specs.Load.{Loaded}
 use Rattle.in_place.proofs.Images.{state, size, held, core}
 use Rattle.in_place.specs.Held.{Held}
-use Rattle.lcd.specs.Lcd.{numbers_of}
 use Rattle.lcd.specs.declared.Lcd.{Lcd}
 use Rattle.memory.specs.Start.{zeroed}
 use Rattle.memory.specs.declared.Core.{Core}
@@ -135,7 +133,6 @@ module _ (i : List ℕ) {n : ℕ} (e : n ≡ (load_call i).number) (h : n ≡ 0 
   unfolding oam_entry
   closed_oam l = rw (e, ne_eqb (load_call i).number 0 (λ k. h (e ∙ k)))
 
-  pub closed_numbers : {l : Lcd} → l ≡ numbers_of false 0 0 0 (pos 0) (pos 0) (pos 0) (pos 0) → shown_of n l ≡ numbers_entry i
-  unfolding zeroed
-  closed_numbers f =
-      ap (shown_of n) f ∙ ap (λ (x : ℕ). shown_of x zeroed.core.lcd) e ∙ ap (λ (d : Loaded). shown_of d.number d.state.core.lcd) (load_refused i (λ k. h (e ∙ k)))
+  pub closed_numbers : shown_of n zeroed.core.lcd ≡ numbers_entry i
+  closed_numbers =
+      ap (λ (x : ℕ). shown_of x zeroed.core.lcd) e ∙ ap (λ (d : Loaded). shown_of d.number d.state.core.lcd) (load_refused i (λ k. h (e ∙ k)))

@@ -22,20 +22,32 @@ use Rattle.input_calls.specs.Input.{button_call}
 use Rattle.interrupt.specs.Flags.{named}
 use Rattle.interrupt.specs.PanDocs.{first_of}
 use Rattle.interrupt.specs.declared.Interrupt.{Interrupt}
-use Rattle.interrupt.specs.declared.Pending.{Pending}
-use Rattle.interrupt.specs.declared.Pending.TheVariants.{Some, None}
 use Rattle.joypad.specs.Joypad as joypad
 use Rattle.joypad.specs.declared.Controller.{Controller}
-use Rattle.joypad.specs.declared.Pressed.{Pressed}
+use Rattle.joypad.specs.Joypad.{Pressed}
 use Rattle.joypad.specs.declared.buttons.Button.{Button}
-use Rattle.joypad.specs.declared.buttons.Named.{Named}
-use Rattle.joypad.specs.declared.buttons.Named.TheVariants as button
 use Rattle.memory.specs.declared.Memory.{Memory}
+use Rattle.numbers.proofs.Named.{name_of_ok, none_of_err}
+use Rattle.numbers.specs.Refusal.{refusal_number, number_given}
+use Rattle.numbers.specs.declared.Refusal.{Refusal}
+use Rattle.numbers.specs.declared.Refusal.TheVariants.{Outside}
 use Rattle.refusals.specs.Answers as answer
+use Rattle.std.specs.Option.{ok_or}
+use Rattle.std.specs.Prelude.{Option, Some, None, Ok, Err}
 use Rattle.refusals.specs.Refusal.{or_else, raw_refused, cycles_refused}
 use Rattle.registers.specs.State.{loaded, timer_of, with_timer, with_controller}
 use Rattle.state_calls.specs.State.{on_interrupt}
 use Rattle.timer.specs.Timer.{updated}
+
+-- a number that names nothing is refused by 7
+its_number : (x : Option Interrupt) {e : Refusal} → Err e ≡ ok_or x Outside → refusal_number e ≡ 7
+its_number None q = ap number_given q
+its_number (Some y) q = cc
+
+pub past_last : (n : ℕ) → 4 < n → Err Outside ≡ ok_or (named n) Outside
+unfolding named
+past_last n h =
+    rw (ne_eqb n 0 (λ e. omega (arith, h, e)), ne_eqb n 1 (λ e. omega (arith, h, e)), ne_eqb n 2 (λ e. omega (arith, h, e)), ne_eqb n 3 (λ e. omega (arith, h, e)), ne_eqb n 4 (λ e. omega (arith, h, e)))
 
 -- the numbers by which a call itself refuses are those of a refusal
 
@@ -59,9 +71,9 @@ module _ {k : ℕ} (h : k ≡ 0 → ⊥) where
   unfolding cycles_refused
   cycles_due n = second_due 5 (leb n 65536) (omega arith)
 
-  button_due : (f : Controller → Button → Controller) (c : Controller) (x : Named) → Refuses (joypad.on_button f c x).number
-  button_due f c (button.Some b) e = absurd (h e)
-  button_due f c button.None e = rw e (omega arith)
+  button_due : (f : Controller → Button → Controller) (c : Controller) (x : Option Button) → Refuses (joypad.on_button f c x).number
+  button_due f c (Some b) e = absurd (h e)
+  button_due f c None e = rw e (omega arith)
 
 module _ (i : List ℕ) (h : Held i) where
   -- a byte of the page, raw
@@ -77,7 +89,7 @@ module _ (i : List ℕ) (h : Held i) where
         asked i {d = load_call i} refl h.1 (on.Load x) {p = performed 0 v (state i h)} (rw (passes i h, ← e, z, ← g))
 
   -- a button
-  module _ (c : StateCall) (f : Controller → Button → Controller) {k : Controller} (x : Named)
+  module _ (c : StateCall) (f : Controller → Button → Controller) {k : Controller} (x : Option Button)
       (s : performed_done (button_call (state i h) (joypad.on_button f (state i h).core.joypad x)) ≡ state_step (state i h) c)
       (a : k ≡ (state i h).core.joypad) {p : Pressed} (e : p ≡ joypad.on_button f k x) where
     same : p ≡ joypad.on_button f (state i h).core.joypad x
@@ -94,19 +106,23 @@ module _ (i : List ℕ) (h : Held i) where
 
   -- Interrupts: which is served first; a request and a removal, each by what it makes of the state
 
-  pub pending_given : {p : Pending} → p ≡ first_of (loaded (state i h) 0xFF) (loaded (state i h) 0x0F) → {v : ℕ} → v ≡ pending_number p
+  pub pending_given : {p : Option Interrupt} → p ≡ first_of (loaded (state i h) 0xFF) (loaded (state i h) 0x0F) → {v : ℕ} → v ≡ pending_number p
       → given 0 v ≡ ask_entry i on.GetInterrupts
   unfolding state_step answer.waiting_given
   pending_given {p} e {v} f =
       asked i {d = load_call i} refl h.1 on.GetInterrupts {p = performed 0 v (state i h)} (rw (passes i h, ← e, f))
 
   module _ (f : Memory → Interrupt → Memory) (n : ℕ) (c : StateCall) (s : performed_done (on_interrupt (state i h) f (named n)) ≡ state_step (state i h) c)
-      {p : Pending} (e : p ≡ named n) where
-    pub unnamed : p ≡ None → changed 7 i ≡ state_entry i c
-    unnamed z = own_refused i h c (state i h) (ap (λ (x : Pending). performed_done (on_interrupt (state i h) f x)) (sym z ∙ e) ∙ s) refl (omega arith)
+    where
+      unnamed_is : None ≡ named n → changed 7 i ≡ state_entry i c
+      unnamed_is e = own_refused i h c (state i h) (ap (λ (x : Option Interrupt). performed_done (on_interrupt (state i h) f x)) e ∙ s) refl (omega arith)
 
-    pub flagged : {k : Interrupt} → p ≡ Some k → {j : List ℕ} → j ≡ image_of (f (state i h) k) → changed 0 j ≡ state_entry i c
-    flagged {k} z g = state_done i h c (f (state i h) k) (ap (λ (x : Pending). performed_done (on_interrupt (state i h) f x)) (sym z ∙ e) ∙ s) g
+      -- by what the number names, or by its refusal
+      pub unnamed : {e : Refusal} → Err e ≡ ok_or (named n) Outside → changed (refusal_number e) i ≡ state_entry i c
+      unnamed q = rw (its_number (named n) q) (unnamed_is (sym (none_of_err (named n) Outside q)))
+
+      pub flagged : {k : Interrupt} → Ok k ≡ ok_or (named n) Outside → {j : List ℕ} → j ≡ image_of (f (state i h) k) → changed 0 j ≡ state_entry i c
+      flagged {k} q g = state_done i h c (f (state i h) k) (ap (λ (x : Option Interrupt). performed_done (on_interrupt (state i h) f x)) (sym (name_of_ok (named n) Outside q)) ∙ s) g
 
   -- The timer
 

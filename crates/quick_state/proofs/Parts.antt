@@ -17,7 +17,7 @@ use Rattle.image.proofs.OpenLaws.{load_refused}
 use Rattle.image.specs.Layout.{image_of, used_field}
 use Rattle.image.specs.Load.{at, hdma_of, loaded, load_call}
 use Rattle.image.specs.Patches.{fields, used_put}
-use Rattle.image.specs.declared.Loaded.{Loaded}
+use Rattle.image.specs.Load.{Loaded}
 use Rattle.in_place.proofs.Images.{state, held, core}
 use Rattle.in_place.specs.Held.{Held}
 use Rattle.memory.specs.Start.{zeroed}

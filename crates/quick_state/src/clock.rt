@@ -1,56 +1,31 @@
 // The timer's calls.
-ghost use Rattle.std.specs.Prelude.{◌≡◌};
+ghost use Rattle.std.specs.Prelude.{◌≡◌, IfOk};
+ghost use Rattle.std.specs.Option.{is_some};
 ghost use Rattle.dispatch.specs.declared.StateCall.TheVariants.{UpdateTimer};
-ghost use Rattle.entry.specs.Entry.{changed, state_entry, given};
-ghost use Rattle.entry.specs.Host.{overflow_entry};
+ghost use Rattle.entry.specs.Entry.{changed, state_entry};
+ghost use Rattle.entry.specs.Host.{overflow_of, overflow_entry};
+ghost use Rattle.image.specs.Load.{load_call};
+ghost use Rattle.numbers.specs.Refusal.{number_given};
+ghost use Rattle.registers.specs.State.{timer_of};
+ghost use Rattle.timer.specs.PanDocs.{counting};
 
-// An image's number, and the cycles left until TIMA overflows.
-#[derive(Clone, Copy)]
-pub struct Left {
-    pub number: u8,
-    pub cycles: u32,
-}
+use crate::taken_here;
+use numbers::Refusal;
 
 // The Rust's Timer::update. Cycles over 65,536 are refused by 5, after the image.
-pub fn update_timer(image: &mut [u8], cycles: u32) -> u8
-    ensures { changed result image.new ≡ state_entry image.old (UpdateTimer cycles) }
+pub fn update_timer(image: &mut [u8], cycles: u32) -> Result<(), Refusal>
+    ensures { changed (number_given result) image.new ≡ state_entry image.old (UpdateTimer cycles) }
 {
-    let mapper = image::mapper_number(image);
-    if mapper != numbers::DONE {
-        return mapper;
-    }
-    let number = image::rest_number(image);
-    if number != numbers::DONE {
-        return number;
-    }
-    let own = refusals::cycles_refused(cycles);
-    if own != numbers::DONE {
-        return own;
-    }
+    taken_here(image)?;
+    refusals::cycles_refused(cycles)?;
     in_place::interrupts::update_timer(image, cycles);
-    numbers::DONE
+    Ok(())
 }
 
-// `timer::NEVER` where TIMA does not count; 0 for a refused image.
-pub fn cycles_to_overflow(image: &[u8]) -> Left
-    ensures { given result.number result.cycles ≡ overflow_entry image.now }
+// None where TIMA does not count.
+pub fn cycles_to_overflow(image: &[u8]) -> Result<Option<u32>, Refusal>
+    ensures { (overflow_of result ≡ overflow_entry image.now) × IfOk result (λ left. is_some left ≡ counting (timer_of (load_call image.now).state).tac) }
 {
-    let mapper = image::mapper_number(image);
-    if mapper != numbers::DONE {
-        return Left {
-            number: mapper,
-            cycles: 0,
-        };
-    }
-    let number = image::rest_number(image);
-    if number != numbers::DONE {
-        return Left {
-            number: number,
-            cycles: 0,
-        };
-    }
-    Left {
-        number: numbers::DONE,
-        cycles: in_place::interrupts::cycles_to_overflow(image),
-    }
+    taken_here(image)?;
+    Ok(in_place::interrupts::cycles_to_overflow(image))
 }

@@ -1,9 +1,11 @@
 // Byte and word writes of an image and what is lent, with every refusal. Where the tests that are enough pass and no transfer starts, a byte is put at once
-// (crate put_bytes); elsewhere the plain function does the whole call.
+// (crate put_bytes); elsewhere the plain function does the whole call. What is lent stays a parameter each, as in
+// `mmu::write_byte`; that it fits (`Taken`, `Own`) is a clause: C lends slices of any length, which the calls refuse.
 #![tactic(auto)]
 
 ghost use Rattle.std.specs.Prelude.{true, ◌≡◌, ◌/◌, ◌%◌, length};
 ghost use Rattle.numbers.specs.Numbers.{done};
+ghost use Rattle.numbers.specs.Refusal.{number_given};
 ghost use Rattle.dispatch.specs.declared.Call.TheVariants.{WriteByte, WriteWord};
 ghost use Rattle.entry.specs.Entry.{left, world_entry};
 ghost use Rattle.image.specs.Layout.{image_len};
@@ -15,6 +17,8 @@ ghost use Rattle.put_bytes.specs.Left.{world_of, left_by};
 ghost use Rattle.put_bytes.specs.Puts.{Taken};
 ghost use Rattle.refusals.specs.Refusal.{or_else, write_refused, next_index};
 ghost use Rattle.quick_writes.specs.Writes.{quick, LogFits};
+
+use numbers::Refusal;
 
 pub mod transfers;
 
@@ -48,8 +52,8 @@ fn log_fits(image: &[u8], sound: usize, log: usize) -> bool
     savelog::use_in_range(image::used_at(image), log)
 }
 
-// The number of the image, of the log's use, and of the lengths of what is lent.
-pub fn number(
+// What refuses the image, the log's use, and the lengths of what is lent, which come one by one as in `take_bytes::lengths_taken`.
+pub fn taken(
     image: &[u8],
     rom: usize,
     vram: usize,
@@ -57,17 +61,13 @@ pub fn number(
     save: usize,
     sound: usize,
     log: usize,
-) -> u8
-    ensures { result ≡ or_else (load_call image.now).number (write_refused (load_call image.now).state rom vram wram save sound log) }
+) -> Result<(), Refusal>
+    ensures { number_given result ≡ or_else (load_call image.now).number (write_refused (load_call image.now).state rom vram wram save sound log) }
 {
-    let number = image::number(image);
-    if number != numbers::DONE {
-        return number;
-    }
-    let used = refusals::use_refused(image::used_at(image), log);
-    let lengths = take_bytes::lengths(image, rom, vram, wram, save, sound);
-    let lent = refusals::or_else(lengths, refusals::log_refused(log));
-    refusals::or_else(used, lent)
+    image::taken(image)?;
+    refusals::use_refused(image::used_at(image), log)?;
+    take_bytes::lengths_taken(image, rom, vram, wram, save, sound)?;
+    refusals::log_refused(log)
 }
 
 // A write that nothing refuses, with the copying that it may start.
@@ -92,7 +92,8 @@ fn put_all(
     move_bytes::start(image, rom, vram, wram, save, sound, index, value);
 }
 
-// Every image, and every refusal.
+// Every image, and every refusal. It answers the number, and so does `plain_word`: as a Result a write that the state refuses takes three instructions more,
+// one over its budget (refused_write_state).
 fn plain_byte(
     image: &mut [u8],
     rom: &[u8],
@@ -106,7 +107,7 @@ fn plain_byte(
 ) -> u8
     ensures { left result 0 image.new vram.new wram.new save.new log.new ≡ world_entry (fixed rom.now sound.now) image.old vram.old wram.old save.old log.old (WriteByte index value) }
 {
-    let number = number(
+    match taken(
         image,
         rom.len(),
         vram.len(),
@@ -114,19 +115,20 @@ fn plain_byte(
         save.len(),
         sound.len(),
         log.len(),
-    );
-    if number != numbers::DONE {
-        return number;
+    ) {
+        Ok(()) => match refusals::byte_room(image::used_at(image), log.len(), index) {
+            Ok(()) => {
+                put_all(image, rom, vram, wram, save, log, sound, index, value);
+                refusals::byte_owed(index).number()
+            }
+            Err(refusal) => refusal.number(),
+        },
+        Err(refusal) => refusal.number(),
     }
-    let room = refusals::byte_room(image::used_at(image), log.len(), index);
-    if room != numbers::DONE {
-        return room;
-    }
-    put_all(image, rom, vram, wram, save, log, sound, index, value);
-    refusals::byte_owed(index)
 }
 
 // As the plain entry, which decodes and encodes the whole image. Where the tests that are enough pass, only a log without room refuses.
+// It answers the number: as a Result each write would take three instructions more.
 pub fn write_byte(
     image: &mut [u8],
     rom: &[u8],
@@ -144,11 +146,13 @@ pub fn write_byte(
         if image::mapper_surely_fits(image, rom.len(), save.len()) {
             if image::rest_surely_fits(image, vram.len(), wram.len()) {
                 if log_fits(image, sound.len(), log.len()) {
-                    let room = refusals::byte_room(image::used_at(image), log.len(), index);
-                    if room == numbers::DONE {
-                        put_bytes::put_here(image, vram, wram, save, log, index, value);
-                        return refusals::byte_owed(index);
-                    }
+                    return match refusals::byte_room(image::used_at(image), log.len(), index) {
+                        Ok(()) => {
+                            put_bytes::put_here(image, vram, wram, save, log, index, value);
+                            refusals::byte_owed(index).number()
+                        }
+                        Err(refusal) => refusal.number(),
+                    };
                 }
             }
         }
@@ -171,8 +175,7 @@ fn put_word(
     requires { Taken image.old vram.old wram.old save.old log.old × Own (fixed rom.now sound.now) image.old vram.old wram.old save.old }
     ensures { left done 0 image.new vram.new wram.new save.new log.new ≡ left_by (word_at (fixed rom.now sound.now) (world_of image.old vram.old wram.old save.old log.old) index value) }
 {
-    let low = (value % 256) as u8;
-    let high = (value / 256) as u8;
+    let [low, high] = value.to_le_bytes();
     let above = refusals::next_index(index);
     put_all(image, rom, vram, wram, save, log, sound, index, low);
     put_all(image, rom, vram, wram, save, log, sound, above, high);
@@ -191,7 +194,7 @@ fn plain_word(
 ) -> u8
     ensures { left result 0 image.new vram.new wram.new save.new log.new ≡ world_entry (fixed rom.now sound.now) image.old vram.old wram.old save.old log.old (WriteWord index value) }
 {
-    let number = number(
+    match taken(
         image,
         rom.len(),
         vram.len(),
@@ -199,16 +202,16 @@ fn plain_word(
         save.len(),
         sound.len(),
         log.len(),
-    );
-    if number != numbers::DONE {
-        return number;
+    ) {
+        Ok(()) => match refusals::word_room(image::used_at(image), log.len(), index) {
+            Ok(()) => {
+                put_word(image, rom, vram, wram, save, log, sound, index, value);
+                refusals::word_owed(index).number()
+            }
+            Err(refusal) => refusal.number(),
+        },
+        Err(refusal) => refusal.number(),
     }
-    let room = refusals::word_room(image::used_at(image), log.len(), index);
-    if room != numbers::DONE {
-        return room;
-    }
-    put_word(image, rom, vram, wram, save, log, sound, index, value);
-    refusals::word_owed(index)
 }
 
 // Whether both bytes of a word are quick.
@@ -221,7 +224,7 @@ fn both_quick(index: u16) -> bool
     false
 }
 
-// Low byte first; as the plain entry.
+// Low byte first; as the plain entry. It answers the number, as `write_byte` does.
 pub fn write_word(
     image: &mut [u8],
     rom: &[u8],
@@ -239,11 +242,13 @@ pub fn write_word(
         if image::mapper_surely_fits(image, rom.len(), save.len()) {
             if image::rest_surely_fits(image, vram.len(), wram.len()) {
                 if log_fits(image, sound.len(), log.len()) {
-                    let room = refusals::word_room(image::used_at(image), log.len(), index);
-                    if room == numbers::DONE {
-                        put_bytes::put_both(image, vram, wram, save, log, index, value);
-                        return refusals::word_owed(index);
-                    }
+                    return match refusals::word_room(image::used_at(image), log.len(), index) {
+                        Ok(()) => {
+                            put_bytes::put_both(image, vram, wram, save, log, index, value);
+                            refusals::word_owed(index).number()
+                        }
+                        Err(refusal) => refusal.number(),
+                    };
                 }
             }
         }

@@ -1,11 +1,13 @@
 // The transfers by call.
 ghost use Rattle.std.specs.Prelude.{◌≡◌};
+ghost use Rattle.std.specs.Result.{result_unwrap_or};
 ghost use Rattle.dispatch.specs.declared.Call.TheVariants.{DoDmaTransfer, DoHdma};
 ghost use Rattle.memory.specs.World.{fixed};
 ghost use Rattle.entry.specs.Entry.{left, world_entry};
+ghost use Rattle.numbers.specs.Refusal.{number_given};
 
-use crate::number;
-use entry::Given;
+use crate::taken;
+use numbers::Refusal;
 
 pub fn do_dma_transfer(
     image: &mut [u8],
@@ -16,10 +18,10 @@ pub fn do_dma_transfer(
     log: &mut [u8],
     sound: &[u8],
     page: u8,
-) -> u8
-    ensures { left result 0 image.new vram.new wram.new save.new log.new ≡ world_entry (fixed rom.now sound.now) image.old vram.old wram.old save.old log.old (DoDmaTransfer page) }
+) -> Result<(), Refusal>
+    ensures { left (number_given result) 0 image.new vram.new wram.new save.new log.new ≡ world_entry (fixed rom.now sound.now) image.old vram.old wram.old save.old log.old (DoDmaTransfer page) }
 {
-    let number = number(
+    taken(
         image,
         rom.len(),
         vram.len(),
@@ -27,12 +29,9 @@ pub fn do_dma_transfer(
         save.len(),
         sound.len(),
         log.len(),
-    );
-    if number != numbers::DONE {
-        return number;
-    }
+    )?;
     move_bytes::move_oam(image, rom, vram, wram, save, sound, page);
-    numbers::DONE
+    Ok(())
 }
 
 // One block of 16 bytes; its answer is 36, whether HDMA is on or off.
@@ -44,10 +43,10 @@ pub fn do_hdma(
     save: &mut [u8],
     log: &mut [u8],
     sound: &[u8],
-) -> Given
-    ensures { left result.number result.value image.new vram.new wram.new save.new log.new ≡ world_entry (fixed rom.now sound.now) image.old vram.old wram.old save.old log.old DoHdma }
+) -> Result<u16, Refusal>
+    ensures { left (number_given result) (result_unwrap_or result 0) image.new vram.new wram.new save.new log.new ≡ world_entry (fixed rom.now sound.now) image.old vram.old wram.old save.old log.old DoHdma }
 {
-    let number = number(
+    taken(
         image,
         rom.len(),
         vram.len(),
@@ -55,16 +54,7 @@ pub fn do_hdma(
         save.len(),
         sound.len(),
         log.len(),
-    );
-    if number != numbers::DONE {
-        return Given {
-            number: number,
-            value: 0,
-        };
-    }
+    )?;
     move_bytes::move_block(image, rom, vram, wram, save, sound);
-    Given {
-        number: numbers::DONE,
-        value: 36,
-    }
+    Ok(36)
 }

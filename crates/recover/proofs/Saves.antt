@@ -10,11 +10,8 @@ use borrow.Author.Tests.{eqb-true}
 use Rattle.rules.proofs.Tests.{untrue}
 use Rattle.savelog.specs.Log.{save_limit, save_lengths, one_of}
 use Rattle.recover_text.specs.Text.{numbered}
-use Rattle.recover_text.specs.Rows.{row_bytes, row_count, Rows}
-use Rattle.recover_text.specs.Speak.{heard_room}
+use Rattle.recover_text.specs.Rows.{row_bytes, Rows}
 use Rattle.recover_text.proofs.Heard.{parts}
-use Rattle.recover_text.proofs.Whole.{hex_length, heard_length}
-use Rattle.recover.specs.Show.{lines_of}
 
 one_case : (P : ℕ → Type 0) (n k : ℕ) (ks : List ℕ) → P k → (one_of n ks ≡ true → P n) → one_of n (k ∷ ks) ≡ true → P n
 unfolding one_of
@@ -51,11 +48,3 @@ module _ (f : ℕ → List ℕ) (from next : ℕ) (h : from ≤ next) where
 
   pub printed_more : (len n : ℕ) → len ≡ length (numbered f 0 from) → n ≡ 0 + length (numbered f from (next - from)) → len + n ≡ length (numbered f 0 next)
   printed_more len n a b = rw (joined, length-append (numbered f 0 from) (numbered f from (next - from))) (omega arith)
-
-  pub part_short : length (numbered f 0 from) ≤ length (numbered f 0 next)
-  part_short = rw (joined, length-append (numbered f 0 from) (numbered f from (next - from))) (omega arith)
-
--- all that is printed of one kind
-pub shown_length : (heard : Bool) (old new : List ℕ) → Rows old new 0 → length (numbered (lines_of heard old new) 0 (row_count old)) ≤ heard_room * row_count old
-shown_length true old new rows = heard_length old new rows
-shown_length false old new rows = omega (arith, hex_length old new rows)

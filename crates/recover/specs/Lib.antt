@@ -1,4 +1,3 @@
 -- What the contracts of recover cite.
 pub mod Files
 pub mod Begin
-pub mod Show

@@ -22,19 +22,16 @@ fn hold_one(rt: &impl Files<File = File>) {
 }
 
 pub fn hold_standard(rt: &impl Files<File = File>) {
-    hold_one(rt);
-    hold_one(rt);
-    hold_one(rt);
+    for _ in 0..3 {
+        hold_one(rt);
+    }
 }
 
 // A name as the system takes it: that name, and refused only where it is not UTF-8.
 pub fn text(name: &[u8]) -> Result<&str>
     ensures { MatchResult result (λ s. (s.now ≡ name.now) × IsUtf8 name.now) (λ e. IsUtf8 name.now → ⊥) }
 {
-    match std::str::from_utf8(name) {
-        Ok(text) => Ok(text),
-        Err(_) => Err(Error::from(ErrorKind::InvalidFilename)),
-    }
+    std::str::from_utf8(name).map_err(|_| Error::from(ErrorKind::InvalidFilename))
 }
 
 // To a place near the file's start.
@@ -46,7 +43,7 @@ pub fn again(file: &mut impl Seek, at: u16) -> Result<()> {
     Ok(())
 }
 
-// Reads on until `buf` is full or the file ends: how many bytes came.
+// Reads on until `buf` is full or the file ends: how many bytes came, which `read_exact` does not tell of a file that ends before.
 pub fn part(file: &mut impl Read, buf: &mut [u8]) -> Result<usize>
     ensures ok { IfOk result (λ n. IsPrefixLen n buf.new) }
     ensures err { OnErr result (length buf.new ≡ length buf.old) }
@@ -63,6 +60,7 @@ pub fn part(file: &mut impl Read, buf: &mut [u8]) -> Result<usize>
 }
 
 // Puts `text` into `out` from `at` on, as much of it as fits, and gives the place behind it. Where `out` is full then, it may not have been all.
+// A name has its length beside it, here and below, as nothing is on the heap: it lies in a buffer of fixed size that is lent.
 pub fn put(out: &mut [u8], at: usize, text: &[u8]) -> usize
     requires { at ≤ length out.old }
     ensures { IsPrefixLen result out.new }
@@ -93,20 +91,12 @@ pub fn name_of(rt: &impl Runtime, file: &impl AsRawFd, out: &mut [u8]) -> Result
     Ok(put(out, 0, name.as_str().as_bytes()))
 }
 
-// What stands under a name: nothing, something, or what the system does not tell.
-#[derive(Clone, Copy)]
-pub enum There {
-    Nothing,
-    Something,
-    Unknown(Error),
-}
-
-// A link counts as something, wherever it leads.
-pub fn look(rt: &impl Files, path: &[u8]) -> There {
+// Whether anything stands under a name. A link counts, wherever it leads.
+pub fn stands(rt: &impl Files, path: &[u8]) -> Result<bool> {
     match looked(rt, path) {
-        Ok(_) => There::Something,
-        Err(e) if e.kind() == ErrorKind::NotFound => There::Nothing,
-        Err(e) => There::Unknown(e),
+        Ok(_) => Ok(true),
+        Err(e) if e.kind() == ErrorKind::NotFound => Ok(false),
+        Err(e) => Err(e),
     }
 }
 
@@ -116,8 +106,5 @@ fn looked(rt: &impl Files, path: &[u8]) -> Result<Metadata> {
 
 // Whether the name is a link's, or the system does not tell.
 pub fn is_link(rt: &impl Files, path: &[u8]) -> bool {
-    match looked(rt, path) {
-        Ok(found) => found.is_symlink(),
-        Err(_) => true,
-    }
+    looked(rt, path).map_or(true, |found| found.is_symlink())
 }

@@ -16,259 +16,152 @@ mod words;
 
 ghost use Rattle.std.specs.Prelude.{true, ◌≡◌, ◌≤◌, length};
 ghost use Rattle.savelog.specs.Log.{save_limit, save_lengths, one_of};
-ghost use Rattle.recover_messages.specs.Journal.{Bounded, journal_limit};
 
-use journal::Log;
-use keep::Kept;
-use place::Place;
-use recover_messages::journal::{LIMIT, Scan};
+use journal::Scanned;
+use keep::Lost;
 use recover_messages::message::Why;
+use recover_text::parts::Saves;
+use say::Ended;
 use source::Source;
 use std::fs::File;
-use std::io::{Read, Seek};
 use std::random::RandomSource;
 use std::rt::Runtime;
 use told::Told;
 use words::Asked;
 
-// Both files that are read.
+// What is asked, and both files that are read.
 #[derive(Drop)]
-struct Sources<F> {
+struct Job<F> {
+    asked: Asked,
     save: Source<F>,
     log: Source<F>,
 }
 
+// Where the recovered save goes: the argument that names NEW, the name to write under, and what stands there, if anything does.
+#[derive(Clone, Copy)]
+struct Target<'a> {
+    argument: usize,
+    path: &'a [u8],
+    over: Option<Told>,
+}
+
 // The name was free, and is so no longer.
-fn taken(rt: &impl Runtime, asked: Asked, new: Told, len: usize) -> bool {
-    if !new.good {
-        return say::failed(rt, Why::Unwritten, asked.new, len);
+fn taken(rt: &impl Runtime, target: Target<'_>, len: usize) -> Ended {
+    match told::ask(rt, target.path) {
+        Ok(new) if new.regular => say::failed(rt, Why::Exists, target.argument, new.len),
+        Ok(_) => say::failed(rt, Why::Irregular, target.argument, 0),
+        Err(_) => say::failed(rt, Why::Unwritten, target.argument, len),
     }
-    if !new.regular {
-        return say::failed(rt, Why::Irregular, asked.new, 0);
-    }
-    say::failed(rt, Why::Exists, asked.new, new.len)
 }
 
 // Says how the writing of `len` bytes went; where it is done, by the last line.
 fn conclude(
     rt: &impl Runtime,
-    asked: Asked,
-    kept: Kept,
-    path: &[u8],
+    target: Target<'_>,
+    kept: Result<(), Lost>,
     len: usize,
-    log: Log,
-    scan: Scan,
-)
-    requires { Bounded scan × (scan.len ≤ journal_limit) }
-{
-    let form = log.form;
+    read: Scanned,
+) -> Result<(), Ended> {
     match kept {
-        Kept::Done => {
-            say::written(rt, form, scan, asked.new, len);
+        Ok(()) => {}
+        Err(Lost::Unflushed) => {
+            let _ = say::note(rt, Why::Unflushed, target.argument, len);
         }
-        Kept::Unflushed => {
-            say::note(rt, Why::Unflushed, asked.new, len);
-            say::written(rt, form, scan, asked.new, len);
-        }
-        Kept::Taken => {
-            taken(rt, asked, told::of(rt, path), len);
-        }
-        Kept::Failed => {
-            say::failed(rt, Why::Unwritten, asked.new, len);
-        }
+        Err(Lost::Taken) => return Err(taken(rt, target, len)),
+        Err(Lost::Failed) => return Err(say::failed(rt, Why::Unwritten, target.argument, len)),
     }
+    say::written(rt, read, target.argument, len)
 }
 
-// Whether SAVE and LOG are what was read, and NEW what was looked at. If not, it is told.
+// Whether SAVE and LOG are what was read, and NEW what was looked at, so not the log either. A NEW that is free is looked at as it is renamed.
 fn unchanged<R: Runtime>(
     rt: &R,
-    asked: Asked,
-    sources: &mut Sources<R::File>,
+    job: &mut Job<R::File>,
     old: &[u8],
-    path: &[u8],
-    place: Place,
-) -> bool {
-    if !source::stands(rt, sources.save.told, asked.save) {
-        return false;
+    target: Target<'_>,
+) -> Result<(), Ended> {
+    source::stands(rt, job.save.told, job.asked.save)?;
+    source::holds(rt, &mut job.save.file, job.asked.save, old)?;
+    source::stands(rt, job.log.told, job.asked.log)?;
+    match target.over {
+        Some(new) if !told::still(rt, new, target.path) => {
+            Err(say::failed(rt, Why::Changed, target.argument, new.len))
+        }
+        Some(_) | None => Ok(()),
     }
-    if !source::holds(rt, &mut sources.save.file, asked.save, old) {
-        return false;
-    }
-    if !source::stands(rt, sources.log.told, asked.log) {
-        return false;
-    }
-    place::stands(rt, place, asked.new, path)
 }
 
 // The recovered save is beside NEW: it takes the name, unless what was read is no longer so.
 fn settle<R: Runtime>(
     rt: &R,
-    asked: Asked,
-    sources: &mut Sources<R::File>,
+    job: &mut Job<R::File>,
     old: &[u8],
     beside: &[u8],
-    path: &[u8],
-    place: Place,
-    log: Log,
-    scan: Scan,
-)
-    requires { Bounded scan × (scan.len ≤ journal_limit) }
-{
-    if !unchanged(rt, asked, sources, old, path, place) {
+    target: Target<'_>,
+    read: Scanned,
+) -> Result<(), Ended> {
+    if let Err(ended) = unchanged(rt, job, old, target) {
         keep::unlink(rt, beside);
-        return;
+        return Err(ended);
     }
-    conclude(
-        rt,
-        asked,
-        keep::settle(rt, beside, path, place.free),
-        path,
-        old.len(),
-        log,
-        scan,
-    );
+    let kept = keep::settle(rt, beside, target.path, target.over.is_none());
+    conclude(rt, target, kept, old.len(), read)
 }
 
 // Writes the recovered save, where that is asked for, and only then tells success.
 fn finish<R: Runtime + RandomSource>(
     rt: &R,
-    asked: Asked,
-    sources: &mut Sources<R::File>,
+    job: &mut Job<R::File>,
     old: &[u8],
-    path: &[u8],
-    place: Place,
     save: &[u8],
-    log: Log,
-    scan: Scan,
-)
-    requires { Bounded scan × (scan.len ≤ journal_limit) }
-{
-    if path.len() == 0 {
-        let form = log.form;
-        say::shown(rt, form, scan);
-        return;
-    }
+    target: Option<Target<'_>>,
+    read: Scanned,
+) -> Result<(), Ended> {
+    let Some(target) = target else {
+        return say::shown(rt, read);
+    };
     let mut name = io::buffer();
-    let n = keep::beside(rt, path, save, &mut name);
-    if n == 0 {
-        say::failed(rt, Why::Unwritten, asked.new, save.len());
-        return;
-    }
-    settle(rt, asked, sources, old, &name[..n], path, place, log, scan);
-}
-
-// What is left out at the end of the log; all of it, where its mark is torn and nothing but zeros is behind.
-fn say_end(rt: &impl Runtime, log: Log, scan: Scan) -> bool
-    requires { Bounded scan × (scan.len ≤ journal_limit) }
-{
-    if log.torn {
-        if scan.end == 0 {
-            return say::torn_mark(rt, log.name, log.len);
-        }
-    }
-    let form = log.form;
-    say::end(rt, log.name, form, log.before as usize, scan)
+    let Some(n) = keep::beside(rt, target.path, save, &mut name) else {
+        return Err(say::failed(rt, Why::Unwritten, target.argument, save.len()));
+    };
+    settle(rt, job, old, &name[..n], target, read)
 }
 
 // Plays the log over the save and prints what came of it, then goes on to NEW.
 fn recover<R: Runtime + RandomSource>(
     rt: &R,
-    asked: Asked,
-    sources: &mut Sources<R::File>,
+    job: &mut Job<R::File>,
     save: &mut [u8],
     old: &mut [u8],
-    log: Log,
-    scan: Scan,
-    path: &[u8],
-    place: Place,
-)
-    requires { (one_of (length save.old) save_lengths ≡ true) × (Bounded scan × (scan.len ≤ journal_limit)) × (save_limit ≤ length old.old) }
+    target: Option<Target<'_>>,
+    read: Scanned,
+) -> Result<(), Ended>
+    requires { (one_of (length save.old) save_lengths ≡ true) × (save_limit ≤ length old.old) }
 {
-    if !show::changes(rt, &mut sources.log.file, log, scan, save, old) {
-        return;
-    }
-    if !say_end(rt, log, scan) {
-        return;
-    }
+    show::changes(rt, &mut job.log.file, read, save, old)?;
+    say::end(rt, read)?;
     let n = save.len();
-    let printed = show::report(rt, &old[..n], save, asked.speak);
-    if !printed.good {
-        return;
-    }
-    finish(rt, asked, sources, &old[..n], path, place, save, log, scan);
+    let saves = Saves {
+        old: &old[..n],
+        new: save,
+    };
+    show::report(rt, saves, job.asked.speak)?;
+    finish(rt, job, &old[..n], save, target, read)
 }
 
-// Whether the scan is of all the log's records, of which there are `len` bytes. If not, it is told.
-fn scan_holds(rt: &impl Runtime, file: &mut impl Read, log: Log, scan: Scan, len: usize) -> bool
-    ensures { result ≡ true → scan.len ≤ journal_limit }
-{
-    if scan.len < len {
-        return false;
-    }
-    if scan.len > len {
-        return say::failed_so(rt, Why::Changed, log.name, log.len);
-    }
-    if scan.len > LIMIT {
-        return say::failed_so(rt, Why::Unread, log.name, log.len);
-    }
-    say::ends(rt, file, log.name, log.len)
-}
-
-// To the log's records. If it cannot be, it is told.
-fn at_records(rt: &impl Runtime, file: &mut impl Seek, log: Log) -> bool {
-    match files::again(file, log.before) {
-        Ok(()) => true,
-        Err(e) => {
-            say::failed_call(rt, e, Why::Unread, log.name, log.len);
-            false
-        }
-    }
-}
-
-// Scans the log, all of it or none.
-fn with_scan<R: Runtime + RandomSource>(
+// Looks at what the log begins with, and scans it, all of it or none.
+fn with_job<R: Runtime + RandomSource>(
     rt: &R,
-    asked: Asked,
-    sources: &mut Sources<R::File>,
+    job: &mut Job<R::File>,
     save: &mut [u8],
-    log: Log,
-    path: &[u8],
-    place: Place,
-)
-    requires { (one_of (length save.old) save_lengths ≡ true) × (log.before ≤ log.len) }
-{
-    if !at_records(rt, &mut sources.log.file, log) {
-        return;
-    }
-    let len = log.len - log.before as usize;
-    let scan = journal::scan(rt, &mut sources.log.file, log, len);
-    if !scan_holds(rt, &mut sources.log.file, log, scan, len) {
-        return;
-    }
-    if !at_records(rt, &mut sources.log.file, log) {
-        return;
-    }
-    let mut old = [0u8; savelog::SAVE_LIMIT];
-    recover(rt, asked, sources, save, &mut old, log, scan, path, place);
-}
-
-// Looks at what the log begins with.
-fn with_begin<R: Runtime + RandomSource>(
-    rt: &R,
-    asked: Asked,
-    sources: &mut Sources<R::File>,
-    save: &mut [u8],
-    path: &[u8],
-    place: Place,
-)
+    target: Option<Target<'_>>,
+) -> Result<(), Ended>
     requires { one_of (length save.old) save_lengths ≡ true }
 {
-    let len = sources.log.told.len;
-    let log = begin::begin(rt, &mut sources.log.file, asked, len);
-    if !log.good {
-        return;
-    }
-    with_scan(rt, asked, sources, save, log, path, place);
+    let log = begin::begin(rt, &mut job.log.file, job.asked, job.log.told.len)?;
+    let read = journal::scan_all(rt, &mut job.log.file, log)?;
+    let mut old = [0u8; savelog::SAVE_LIMIT];
+    recover(rt, job, save, &mut old, target, read)
 }
 
 // Opens the log, and looks at NEW before anything is done.
@@ -277,20 +170,19 @@ fn with_log<R: Runtime<File = File> + RandomSource>(
     asked: Asked,
     save: Source<File>,
     bytes: &mut [u8],
-)
+) -> Result<(), Ended>
     requires { one_of (length bytes.old) save_lengths ≡ true }
 {
-    let Some(log) = source::open(rt, asked.log) else {
-        return;
-    };
+    let log = source::open(rt, asked.log)?;
     let mut path = io::buffer();
-    let place = place::choose(rt, asked, save.told, log.told, &mut path);
-    if !place.good {
-        return;
-    }
-    let n = place.len;
-    let mut sources = Sources { save, log };
-    with_begin(rt, asked, &mut sources, bytes, &path[..n], place);
+    let place = place::choose(rt, asked, save.told, log.told, &mut path)?;
+    let target = place.map(|place| Target {
+        argument: place.argument,
+        path: &path[..place.len],
+        over: place.over,
+    });
+    let mut job = Job { asked, save, log };
+    with_job(rt, &mut job, bytes, target)
 }
 
 // Takes the bytes of SAVE for the save, if they are as many as the system told. That a save has so many was asked before; here it is known.
@@ -299,42 +191,35 @@ fn with_bytes<R: Runtime<File = File> + RandomSource>(
     asked: Asked,
     save: Source<File>,
     bytes: &mut [u8],
-) {
+) -> Result<(), Ended> {
     let len = save.told.len;
-    if bytes.len() != len {
-        say::failed(rt, Why::Changed, asked.save, len);
-        return;
+    if bytes.len() != len || !place::is_save(bytes) {
+        return Err(say::failed(rt, Why::Changed, asked.save, len));
     }
-    if !place::is_save(bytes) {
-        say::failed(rt, Why::Changed, asked.save, len);
-        return;
-    }
-    with_log(rt, asked, save, bytes);
+    with_log(rt, asked, save, bytes)
 }
 
 // Reads the save, if its length is one, with room for one byte more than a save may have.
-fn with_save<R: Runtime<File = File> + RandomSource>(rt: &R, asked: Asked) {
-    let Some(mut save) = source::open(rt, asked.save) else {
-        return;
-    };
-    if !place::holds_save(rt, save.told, asked.save) {
-        return;
-    }
+fn with_save<R: Runtime<File = File> + RandomSource>(rt: &R, asked: Asked) -> Result<(), Ended> {
+    let mut save = source::open(rt, asked.save)?;
+    place::holds_save(rt, save.told, asked.save)?;
     let mut bytes = [0u8; savelog::SAVE_LIMIT + 1];
-    match files::part(&mut save.file, &mut bytes) {
-        Ok(n) => with_bytes(rt, asked, save, &mut bytes[..n]),
-        Err(e) => {
-            say::failed_call(rt, e, Why::Unread, asked.save, save.told.len);
-        }
-    }
+    let n = files::part(&mut save.file, &mut bytes).map_err(|e| say::failed_call(
+        rt,
+        e,
+        Why::Unread,
+        asked.save,
+        save.told.len,
+    ))?;
+    with_bytes(rt, asked, save, &mut bytes[..n])
 }
 
 fn main(rt: HostRuntime) {
     files::hold_standard(&rt);
-    let asked = words::given(&rt);
-    if !asked.good {
-        say::usage(&rt);
-        return;
+    match words::given(&rt) {
+        Ok(asked) => {
+            let _ = with_save(&rt, asked);
+        }
+        Err(_) => say::usage(&rt),
     }
-    with_save(&rt, asked);
 }

@@ -1,13 +1,16 @@
-// What is printed: the lines of crate recover_messages, each written whole. But for `usage`, every function tells whether it could be written.
-ghost use Rattle.std.specs.Prelude.{false, ◌≡◌, ◌≤◌, length};
+// What is printed: the lines of crate recover_messages, each written whole.
+ghost use Rattle.std.specs.Prelude.{◌≡◌, ◌+◌, ◌≤◌, length, take};
 ghost use Rattle.io.specs.Counts.{IsPrefixLen};
-ghost use Rattle.recover_messages.specs.Journal.{Bounded, journal_limit};
+ghost use Rattle.recover_messages.specs.Journal.{journal_limit};
+ghost use Rattle.recover_messages.specs.Messages.{room};
 
 use crate::files;
+use crate::journal::{Log, Scanned};
+use numbers::Refusal;
 use recover_messages::journal::Scan;
 use recover_messages::message;
 use recover_messages::message::Why;
-use savelog::Form;
+use recover_text::put::Page;
 use std::io::{Error, Read};
 use std::rt::{Env, Runtime};
 
@@ -32,42 +35,30 @@ pub fn fail(rt: &impl Runtime, what: &str, error: Error) {
     let _ = rt.eprintln(format_args!("{what}: {words}"));
 }
 
-// Prints the first n bytes.
-pub fn print(rt: &impl Runtime, line: &[u8], n: usize) -> bool {
-    if line.len() < n {
-        return false;
+// The program ends here: it is told why, or what it tells could not be printed.
+#[derive(Clone, Copy, Debug, PartialEq, Eq)]
+pub struct Ended;
+
+// What recovery refuses is told where it is asked.
+impl From<Refusal> for Ended {
+    fn from(_: Refusal) -> Ended {
+        Ended
     }
-    match rt.write_all(&line[..n]) {
-        Ok(()) => true,
-        Err(e) => {
-            fail(rt, "recover: standard output", e);
-            false
-        }
-    }
+}
+
+pub fn print(rt: &impl Runtime, text: &[u8]) -> Result<(), Ended> {
+    rt.write_all(text).map_err(|e| {
+        fail(rt, "recover: standard output", e);
+        Ended
+    })
 }
 
 // A byte of a name as it is shown: a question mark stands for a control character, so that a name is on one line, whatever it is.
 fn plain_byte(b: u8) -> u8 {
-    if b < 32 {
-        return b'?';
-    }
-    if b == 127 {
-        return b'?';
-    }
-    b
+    if b.is_ascii_control() { b'?' } else { b }
 }
 
-fn plain(name: &mut [u8], n: usize) -> usize
-    requires { n ≤ length name.old }
-    ensures { IsPrefixLen result name.new }
-{
-    for b in name[..n].iter_mut() {
-        *b = plain_byte(*b);
-    }
-    n
-}
-
-// The bytes of argument i; none, where there is no such argument or no path is as long.
+// The bytes of argument i; none, where there is no such argument or no path is as long. An empty argument is refused alike, so there is no Option.
 pub fn argument(rt: &impl Env, i: usize, out: &mut [u8]) -> usize
     ensures { IsPrefixLen result out.new }
 {
@@ -79,7 +70,10 @@ fn name_at(rt: &impl Env, i: usize, out: &mut [u8]) -> usize
     ensures { IsPrefixLen result out.new }
 {
     let n = argument(rt, i, out);
-    plain(out, n)
+    for b in out[..n].iter_mut() {
+        *b = plain_byte(*b);
+    }
+    n
 }
 
 pub fn usage(rt: &impl Runtime) {
@@ -87,116 +81,106 @@ pub fn usage(rt: &impl Runtime) {
     let _ = rt.write_all(b"failed: usage\n");
 }
 
-// A failure of the work on the file that argument i names, and its size.
-pub fn failed(rt: &impl Runtime, why: Why, i: usize, len: usize) -> bool {
+// One message on a page of its own, beside the name of the file that argument i names.
+fn tell<F: FnOnce(&mut Page<'_>, &[u8])>(
+    rt: &impl Runtime,
+    i: usize,
+    message: F,
+) -> Result<(), Ended>
+    requires fits { (p : _) (n : _) → p.now.end + length n.now + room ≤ length p.now.out.now → F.pre message p n }
+    requires ends { (p : _) (n : _) (q : _) → F.post message p n tt q → q.now.end ≤ length q.now.out.now }
+{
     let mut name = io::buffer();
     let n = name_at(rt, i, &mut name);
     let mut line = [0u8; LINE];
-    let m = message::failed(&mut line, why, &name[..n], len as u64);
-    print(rt, &line, m)
+    let mut page = Page::new(&mut line);
+    message(&mut page, &name[..n]);
+    let m = page.end;
+    print(rt, &page.out[..m])
 }
 
-// The same, for a caller that then says no.
-pub fn failed_so(rt: &impl Runtime, why: Why, i: usize, len: usize) -> bool
-    ensures { result ≡ false }
-{
-    failed(rt, why, i, len);
-    false
+// A failure of the work on the file that argument i names, and its size. `why, i, len` are said at once and kept nowhere: a struct would be made for each call.
+pub fn failed(rt: &impl Runtime, why: Why, i: usize, len: usize) -> Ended {
+    let _ = tell(
+        rt,
+        i,
+        |page, name| message::failed(page, why, name, len as u64),
+    );
+    Ended
 }
 
 // The same after a call that failed: what the system says of it goes to standard error.
-pub fn failed_call(rt: &impl Runtime, error: Error, why: Why, i: usize, len: usize) -> bool {
+pub fn failed_call(rt: &impl Runtime, error: Error, why: Why, i: usize, len: usize) -> Ended {
     fail(rt, "recover", error);
     failed(rt, why, i, len)
 }
 
-// Whether the open file ends here. If not, it is told.
-pub fn ends(rt: &impl Runtime, file: &mut impl Read, i: usize, len: usize) -> bool {
+// Whether the file that argument i names ends where it is read now. If not, it is told.
+pub fn ends(rt: &impl Runtime, file: &mut impl Read, i: usize, len: usize) -> Result<(), Ended> {
     let mut one = [0u8; 1];
     match file.read(&mut one) {
-        Ok(0) => true,
-        Ok(_) => {
-            failed(rt, Why::Changed, i, len);
-            false
-        }
-        Err(e) => {
-            failed_call(rt, e, Why::Unread, i, len);
-            false
-        }
+        Ok(0) => Ok(()),
+        Ok(_) => Err(failed(rt, Why::Changed, i, len)),
+        Err(e) => Err(failed_call(rt, e, Why::Unread, i, len)),
     }
 }
 
-pub fn note(rt: &impl Runtime, why: Why, i: usize, len: usize) -> bool {
-    let mut name = io::buffer();
-    let n = name_at(rt, i, &mut name);
-    let mut line = [0u8; LINE];
-    let m = message::note(&mut line, why, &name[..n], len as u64);
-    print(rt, &line, m)
+pub fn note(rt: &impl Runtime, why: Why, i: usize, len: usize) -> Result<(), Ended> {
+    tell(
+        rt,
+        i,
+        |page, name| message::note(page, why, name, len as u64),
+    )
 }
 
-pub fn wrong_length(rt: &impl Runtime, i: usize, len: usize) -> bool {
-    let mut name = io::buffer();
-    let n = name_at(rt, i, &mut name);
-    let mut line = [0u8; LINE];
-    let m = message::wrong_length(&mut line, &name[..n], len as u64);
-    print(rt, &line, m)
+pub fn wrong_length(rt: &impl Runtime, i: usize, len: usize) -> Ended {
+    let _ = tell(
+        rt,
+        i,
+        |page, name| message::wrong_length(page, name, len as u64),
+    );
+    Ended
 }
 
-// What is left out at the end of the log, which has so many bytes before its records.
-pub fn end(rt: &impl Runtime, i: usize, form: Form, before: usize, s: Scan) -> bool
-    requires { Bounded s × (s.len ≤ journal_limit) × (before ≤ journal_limit) }
-{
-    let mut name = io::buffer();
-    let n = name_at(rt, i, &mut name);
-    let mut line = [0u8; LINE];
-    let m = message::end(&mut line, &name[..n], form, before, s);
-    print(rt, &line, m)
+// What is left out at the end of the log; all of it, where its mark is torn and nothing but zeros is behind.
+pub fn end(rt: &impl Runtime, read: Scanned) -> Result<(), Ended> {
+    let log = read.log;
+    let journal = read.journal();
+    tell(rt, log.name, |page, name| {
+        if log.torn && journal.scan.end == 0 {
+            message::torn_mark(page, name, log.len as u64);
+        } else {
+            message::end(page, name, log.before as usize, journal);
+        }
+    })
 }
 
-// What is left out of a log of `len` bytes whose mark is torn.
-pub fn torn_mark(rt: &impl Runtime, i: usize, len: usize) -> bool {
-    let mut name = io::buffer();
-    let n = name_at(rt, i, &mut name);
-    let mut line = [0u8; LINE];
-    let m = message::torn_mark(&mut line, &name[..n], len as u64);
-    print(rt, &line, m)
-}
-
-// The first damaged record of a part of a log of `len` bytes; s is the scan before the part.
-pub fn damage(
-    rt: &impl Runtime,
-    i: usize,
-    form: Form,
-    len: usize,
-    s: Scan,
-    part: &[u8],
-    ram: usize,
-) -> bool
+// The first damaged record of a part of the log, for a save of `ram` bytes; s is the scan before the part.
+pub fn damage(rt: &impl Runtime, log: Log, s: Scan, part: &[u8], ram: usize) -> Ended
     requires { s.len ≤ journal_limit }
 {
-    let mut name = io::buffer();
-    let n = name_at(rt, i, &mut name);
-    let mut line = [0u8; LINE];
-    let m = message::damage(&mut line, &name[..n], form, len, s, part, ram);
-    print(rt, &line, m)
+    let _ = tell(rt, log.name, |page, name| {
+        message::damage(page, name, log.form, log.len, s, part, ram)
+    });
+    Ended
 }
 
 // The last line, where NEW is written with so many bytes.
-pub fn written(rt: &impl Runtime, form: Form, s: Scan, i: usize, len: usize) -> bool
-    requires { Bounded s × (s.len ≤ journal_limit) }
-{
-    let mut name = io::buffer();
-    let n = name_at(rt, i, &mut name);
-    let mut line = [0u8; LINE];
-    let m = message::written(&mut line, form, s, &name[..n], len as u64);
-    print(rt, &line, m)
+pub fn written(rt: &impl Runtime, read: Scanned, i: usize, len: usize) -> Result<(), Ended> {
+    let journal = read.journal();
+    tell(
+        rt,
+        i,
+        |page, name| message::written(page, journal, name, len as u64),
+    )
 }
 
-// The last line, where no NEW is named.
-pub fn shown(rt: &impl Runtime, form: Form, s: Scan) -> bool
-    requires { Bounded s × (s.len ≤ journal_limit) }
-{
+// The last line, where no NEW is named, beside no name. `tell` and this over one frame was tried: the frame's `ends` got no proof for `tell`'s closure, which calls
+// `message`.
+pub fn shown(rt: &impl Runtime, read: Scanned) -> Result<(), Ended> {
     let mut line = [0u8; LINE];
-    let m = message::shown(&mut line, form, s);
-    print(rt, &line, m)
+    let mut page = Page::new(&mut line);
+    message::shown(&mut page, read.journal());
+    let m = page.end;
+    print(rt, &line[..m])
 }

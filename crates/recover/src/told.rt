@@ -9,91 +9,67 @@ use std::io::Result;
 use std::os::unix::fs::MetadataExt;
 use std::rt::Files;
 
-// `good`: the system told it. A file is known by its device and its number there; it was last written at `seconds` and `nanoseconds`.
-#[derive(Clone, Copy)]
-pub struct Told {
-    pub good: bool,
-    pub regular: bool,
-    pub len: usize,
-    pub seconds: i64,
-    pub nanoseconds: i64,
+// What a file is known by: its device, and its number there.
+#[derive(Clone, Copy, PartialEq, Eq)]
+pub struct Id {
     pub device: u64,
     pub inode: u64,
 }
 
-pub fn untold() -> Told {
-    Told {
-        good: false,
-        regular: false,
-        len: 0,
-        seconds: 0,
-        nanoseconds: 0,
-        device: 0,
-        inode: 0,
-    }
+// When it was last written.
+#[derive(Clone, Copy, PartialEq, Eq)]
+pub struct Moment {
+    pub seconds: i64,
+    pub nanoseconds: i64,
 }
 
-fn read(found: &Metadata) -> Told {
-    Told {
-        good: true,
-        regular: found.is_file(),
-        len: found.len() as usize,
-        seconds: found.mtime(),
-        nanoseconds: found.mtime_nsec(),
-        device: found.dev(),
-        inode: found.ino(),
+#[derive(Clone, Copy)]
+pub struct Told {
+    pub regular: bool,
+    pub len: usize,
+    pub written: Moment,
+    pub id: Id,
+}
+
+impl From<&Metadata> for Told {
+    fn from(found: &Metadata) -> Told {
+        Told {
+            regular: found.is_file(),
+            len: found.len() as usize,
+            written: Moment {
+                seconds: found.mtime(),
+                nanoseconds: found.mtime_nsec(),
+            },
+            id: Id {
+                device: found.dev(),
+                inode: found.ino(),
+            },
+        }
     }
 }
 
 // Of a link, what it leads to. Nothing is opened, so a pipe is told as any other file.
 pub fn ask(rt: &impl Files, path: &[u8]) -> Result<Told> {
     let found = fs::metadata(rt, files::text(path)?)?;
-    Ok(read(&found))
-}
-
-// The same, where it does not matter why the system does not tell.
-pub fn of(rt: &impl Files, path: &[u8]) -> Told {
-    match ask(rt, path) {
-        Ok(told) => told,
-        Err(_) => untold(),
-    }
+    Ok(Told::from(&found))
 }
 
 // Whether two are of one file.
+#[tactic(auto, unfolding(crate::specs::Files::one_file))]
 pub fn same(a: Told, b: Told) -> bool
     ensures { result ≡ one_file a b }
 {
-    if !a.good {
-        return false;
-    }
-    if !b.good {
-        return false;
-    }
-    if a.device != b.device {
-        return false;
-    }
-    a.inode == b.inode
+    a.id == b.id
 }
 
-fn unwritten(a: Told, b: Told) -> bool {
-    if a.seconds != b.seconds {
-        return false;
-    }
-    a.nanoseconds == b.nanoseconds
-}
-
-// Whether it is the same file, as long as it was, and not written since.
+// Whether it is the same file, as long as it was, and not written since. `==` of two Tolds would ask that `a` is a regular file too.
 pub fn unchanged(a: Told, b: Told) -> bool
     ensures { result ≡ true → (one_file a b ≡ true) × ((b.regular ≡ true) × (a.len ≡ b.len)) }
 {
-    if !same(a, b) {
-        return false;
-    }
-    if !b.regular {
-        return false;
-    }
-    if a.len != b.len {
-        return false;
-    }
-    unwritten(a, b)
+    same(a, b) && b.regular && a.len == b.len && a.written == b.written
+}
+
+// Whether the path leads to that file still, as it was.
+pub fn still(rt: &impl Files, told: Told, path: &[u8]) -> bool {
+    ask(rt, path).is_ok_and(|now| unchanged(told, now))
 }

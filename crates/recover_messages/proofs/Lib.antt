@@ -1,3 +1,4 @@
 pub mod Scans
+pub mod Marks
 pub mod Choice
 pub mod Plays

@@ -1,6 +1,6 @@
 -- A journal played part by part is played as a whole. And recovery by old records is that of the converted log.
 use mathlib.Core.Bool.{Bool, true, false, cond}
-use mathlib.Core.Path.{◌≡◌, refl, sym, ap, ◌∙◌, subst}
+use mathlib.Core.Path.{◌≡◌, refl, sym, ap, ◌∙◌}
 use mathlib.Core.List.{List, [], ◌∷◌, ◌++◌, append-nil}
 use Prim.Native.Nat.{ℕ, ◌-◌, ◌%◌, ◌≤◌, ◌<◌}
 use native.Mathlib.Decide.{dec_lt}
@@ -21,7 +21,7 @@ use Rattle.savelog.proofs.Converts.{result, by_sound}
 use Rattle.savelog.proofs.ConvertLaws.{same_records, past_stays, old_lengths}
 use Rattle.savelog.proofs.Prefix.{take_append, records_append, length_apply_all, apply_all_append, all_sound_append}
 use Rattle.recover_messages.specs.declared.journal.Scan.{Scan}
-use Rattle.recover_messages.specs.Journal.{scan, unread, scanned, recovery_by, PresentLaw, OldLaw, part_limit, Played, PlayedPart}
+use Rattle.recover_messages.specs.Journal.{unread, scanned, recovery_by, PresentLaw, OldLaw, part_limit, Played, PlayedPart}
 use Rattle.recover_messages.proofs.Scans.{parts, whole}
 
 -- recovery that is done found every record sound, and applied them
@@ -71,11 +71,6 @@ played_more f kept s r s₀ s₁ s₂ p q =
       sound = rw t (all_sound_append (length s₀) (records_by f (take kept j)) (records_by f (take (kept - s.len) q.part)) p.sound (rw k at d.0));
       applied = d.1 ∙ rw (t, apply_all_append s₀ (records_by f (take kept j)) (records_by f (take (kept - s.len) q.part)), ← p.applied);
     }
-
--- a scan is its length and its end
-pub played_all : (f : Form) (kept : ℕ) (s first : Scan) (save save' : List ℕ) → s.len ≡ first.len → s.end ≡ first.end
-    → Played f kept s save save' → Played f kept first save save'
-played_all f kept s first save save' l e p = subst (λ (x : Scan). Played f kept x save save') (λ i. scan (l i) (e i)) p
 
 -- By the present form it is recovery: a log of at most 65,535 bytes has whole records of as many.
 log_length : (n : ℕ) → Dec (log_limit < n) → leb (length_by Four Four n) log_limit ≡ leb n log_limit

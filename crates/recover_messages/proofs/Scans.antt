@@ -16,7 +16,7 @@ use Rattle.savelog.specs.declared.Form.TheVariants.{Three, Four}
 use Rattle.savelog.proofs.Laws.{records_step, records_end}
 use Rattle.savelog.specs.declared.Rec.{Rec}
 use Rattle.recover_messages.specs.declared.journal.Scan.{Scan}
-use Rattle.recover_messages.specs.Journal.{end_of, scan, unread, byte_scanned, scanned, kept, PartsLaw, WholeLaw, ZerosLaw, KeptLaw, sound_first}
+use Rattle.recover_messages.specs.Journal.{end_of, scan, unread, byte_scanned, scanned, kept, PartsLaw, WholeLaw, ZerosLaw, KeptLaw, sound_first, journal_limit}
 
 -- one byte more, and none
 pub scan_next : (s : Scan) (p : List ℕ) (i : ℕ) → i < length p → scanned s (drop i p) ≡ scanned (byte_scanned s (get_or p i 0)) (drop (i + 1) p)
@@ -137,9 +137,34 @@ pub whole_less : (f : Form) (n : ℕ) → n / width_of f * width_of f ≤ n
 whole_less Three n = omega arith
 whole_less Four n = omega arith
 
+-- three bytes of each record, all bytes of the whole ones, and what is behind them
+pub threes : (f : Form) (n : ℕ) → n / width_of f * 3 ≤ n
+threes Three n = omega arith
+threes Four n = omega arith
+
+pub bytes_fit : (f : Form) (n : ℕ) → n < journal_limit → n * width_of f < 18446744073709551616
+bytes_fit Three n h = omega arith
+bytes_fit Four n h = omega arith
+
+pub rest_within : (f : Form) (n : ℕ) → n % width_of f ≤ n
+rest_within Three n = omega arith
+rest_within Four n = omega arith
+
 pub inside : (f : Form) (n len : ℕ) → n < len / width_of f → n * width_of f + width_of f ≤ len
 inside Three n len h = omega arith
 inside Four n len h = omega arith
+
+-- the record behind n of them, and none where they are all
+pub behind_next : (f : Form) (n : ℕ) → (n + 1) * width_of f ≡ n * width_of f + width_of f
+behind_next Three n = omega arith
+behind_next Four n = omega arith
+
+pub none_left : (f : Form) (n len : ℕ) → len / width_of f ≤ n → len - n * width_of f < width_of f
+none_left Three n len h = omega arith
+none_left Four n len h = omega arith
+
+pub first_here : (f : Form) (ram : ℕ) (l : List ℕ) → sound_first ram (records_by f l) ≡ 0 + sound_first ram (records_by f (drop (0 * width_of f) l))
+first_here f ram l = let z : 0 * width_of f ≡ 0 = omega arith in rw z (omega arith)
 
 -- what of a journal is kept
 kept_more : (f : Form) (len e : ℕ) (b : Bool) → ltb ((e + width_of f - 1) / width_of f * width_of f) len ≡ b → e ≤ len

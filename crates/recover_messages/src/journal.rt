@@ -1,18 +1,29 @@
 // The records of a journal, read in parts: how much of them was written, the first damaged one, and recovery by them. Journals of versions before 3.0
 // have records of three bytes.
 ghost use Rattle.std.specs.Prelude.{true, ◌≡◌, ◌+◌, ◌*◌, ◌/◌, ◌%◌, ◌≤◌, ◌<◌, length};
+ghost use Rattle.numbers.specs.Refusal.{number_given};
 ghost use Rattle.savelog.specs.Log.{width_of, records_by, save_lengths, one_of, outcome};
 ghost use Rattle.savelog.specs.declared.Form.TheVariants.{Three};
 ghost use Rattle.recover_messages.specs.Journal.{unread, scanned, Bounded, byte_scanned, kept_of, sound_first, journal_limit};
 ghost use Rattle.recover_messages.specs.Journal.{recovery_by, part_limit, PartsLaw, WholeLaw, ZerosLaw, KeptLaw, PresentLaw, OldLaw};
 
+use numbers::Refusal;
 use savelog::{Form, OLD_RECORD_LEN, RECORD_LEN};
 
-// Of the bytes so far: how many, and where the last one that is not 0 ends.
-#[derive(Clone, Copy)]
+// Of the bytes so far: how many, and where the last one that is not 0 ends. No fact is held of the two: specs/Journal.antt goes on from any two numbers
+// (`byte_scanned`), and `message::damage` asks only how many.
+#[derive(Clone, Copy, PartialEq, Eq)]
 pub struct Scan {
     pub len: usize,
     pub end: usize,
+}
+
+// A journal by the form of its records and the scan of all its bytes.
+#[derive(Clone, Copy)]
+pub struct Journal {
+    pub form: Form,
+    pub scan: Scan,
+    ghost within: { (scan.end ≤ scan.len) × (scan.len ≤ journal_limit) },
 }
 
 // The most bytes of a journal before its last part. No file has as many.
@@ -37,13 +48,8 @@ fn after(s: Scan, b: u8) -> Scan
     ensures { result ≡ byte_scanned s b }
 {
     let len = s.len + 1;
-    if b == 0 {
-        return Scan {
-            len: len,
-            end: s.end,
-        };
-    }
-    Scan { len: len, end: len }
+    let end = if b == 0 { s.end } else { len };
+    Scan { len, end }
 }
 
 // After one part more.
@@ -52,10 +58,8 @@ pub fn scanned(s: Scan, part: &[u8]) -> Scan
     ensures { (result ≡ scanned s part.now) × (Bounded result × (result.len ≡ s.len + length part.now)) }
 {
     let mut next = s;
-    let mut i = 0;
-    while i < part.len() {
-        next = after(next, part[i]);
-        i += 1;
+    for b in part {
+        next = after(next, *b);
     }
     next
 }
@@ -64,43 +68,38 @@ pub fn scanned(s: Scan, part: &[u8]) -> Scan
 pub fn records_in(form: Form, n: usize) -> usize
     ensures { (result ≡ n / width_of form) × (result * 3 ≤ n) }
 {
-    match form {
-        Form::Three => n / OLD_RECORD_LEN,
-        Form::Four => n / RECORD_LEN,
-    }
+    n / form.len()
 }
 
 pub fn bytes_of(form: Form, n: usize) -> usize
     requires { n < journal_limit }
     ensures { result ≡ n * width_of form }
 {
-    match form {
-        Form::Three => n * OLD_RECORD_LEN,
-        Form::Four => n * RECORD_LEN,
-    }
+    n * form.len()
 }
 
 pub fn rest_of(form: Form, n: usize) -> usize
     ensures { (result ≡ n % width_of form) × (result ≤ n) }
 {
-    match form {
-        Form::Three => n % OLD_RECORD_LEN,
-        Form::Four => n % RECORD_LEN,
-    }
+    n % form.len()
 }
 
-// How much of a journal was written. Zeros at the end, where a record would begin, are bytes that never arrived; and a record before them that ends in 0 may have
-// such bytes too.
-pub fn journal_len(form: Form, s: Scan) -> usize
-    requires { Bounded s × (s.len ≤ journal_limit) }
-    ensures { (result ≡ kept_of form s) × (result ≤ s.len) }
-{
-    let up = s.end + form.len() - 1;
-    let next = bytes_of(form, records_in(form, up));
-    if next < s.len {
-        return bytes_of(form, records_in(form, s.end));
+impl Journal {
+    // How much of it was written. Zeros at the end, where a record would begin, are bytes that never arrived; and a record before them that ends in 0 may have
+    // such bytes too.
+    pub fn kept(self) -> usize
+        ensures { (result ≡ kept_of self.form self.scan) × (result ≤ self.scan.len) }
+    {
+        let form = self.form;
+        let s = self.scan;
+        let up = s.end + form.len() - 1;
+        let next = bytes_of(form, records_in(form, up));
+        if next < s.len {
+            bytes_of(form, records_in(form, s.end))
+        } else {
+            s.len
+        }
     }
-    s.len
 }
 
 // How many records stand before the first damaged one; all of them, where none is.
@@ -108,37 +107,31 @@ pub fn sound_records(form: Form, part: &[u8], ram: usize) -> usize
     ensures { (result ≡ sound_first ram (records_by form part.now)) × (result ≤ length (records_by form part.now)) }
 {
     let len = form.len();
-    let mut n = 0;
-    let mut i = 0;
-    while part.len() - i >= len {
-        let rec = savelog::record_at(form, part, i);
+    let count = part.len() / len;
+    for n in 0..count {
+        let rec = savelog::record_at(form, part, n * len);
         if !savelog::sound_record(rec, ram) {
             return n;
         }
-        i += len;
-        n += 1;
     }
-    n
+    count
 }
 
 // Recovery by old records: they are converted, and what that gives is played. A refusal leaves the save.
-fn recover_old(save: &mut [u8], part: &[u8]) -> u8
+// That the save has a length that saves have is a fact of a lent slice: `savelog::recover` takes one, so a struct over it would be taken apart at each call.
+fn recover_old(save: &mut [u8], part: &[u8]) -> Result<(), Refusal>
     requires { (one_of (length save.old) save_lengths ≡ true) × (length part.now ≤ part_limit Three) }
-    ensures { outcome result save.new ≡ recovery_by Three save.old part.now }
+    ensures { outcome (number_given result) save.new ≡ recovery_by Three save.old part.now }
 {
     let mut new = [0u8; PART];
-    let converted = savelog::to_new(part, &mut new);
-    if converted.number != numbers::DONE {
-        return converted.number;
-    }
-    let len = converted.len as usize;
-    savelog::recover(save, &new[..len])
+    let len = savelog::to_new(part, &mut new)?;
+    savelog::recover(save, &new[..len as usize])
 }
 
 // Recovery by the records of a form.
-pub fn recover(form: Form, save: &mut [u8], part: &[u8]) -> u8
+pub fn recover(form: Form, save: &mut [u8], part: &[u8]) -> Result<(), Refusal>
     requires { (one_of (length save.old) save_lengths ≡ true) × (length part.now ≤ part_limit form) }
-    ensures { outcome result save.new ≡ recovery_by form save.old part.now }
+    ensures { outcome (number_given result) save.new ≡ recovery_by form save.old part.now }
 {
     match form {
         Form::Three => recover_old(save, part),

@@ -5,32 +5,28 @@ ghost use Rattle.recover_messages.specs.Mark.{mark_of};
 // Its length.
 pub const MARK_LEN: usize = 4;
 
+// Some of it, and zeros.
+const TORN: [[u8; MARK_LEN]; 4] = [*b"PL4\0", *b"PL\0\0", *b"P\0\0\0", *b"\0\0\0\0"];
+
 // What a file begins with: the mark; some of it, and zeros; anything else.
-#[derive(Clone, Copy)]
+#[derive(Clone, Copy, Debug, PartialEq, Eq)]
 pub enum Mark {
     Whole,
     Torn,
     Missing,
 }
 
-// Of a file's first bytes, with zeros where it has fewer.
-pub fn mark_of(first: &[u8; MARK_LEN]) -> Mark
-    ensures { result ≡ mark_of first.now }
-{
-    if check::same(first, b"PL4\n") {
-        return Mark::Whole;
+// Of a file's first bytes, with zeros where it has fewer. Tests by `==`: a `match` over patterns of bytes leaves a proof no fact to cite.
+impl From<[u8; MARK_LEN]> for Mark {
+    ghost from_gives = { λ first mark. mark ≡ mark_of first };
+
+    fn from(first: [u8; MARK_LEN]) -> Mark {
+        if first == *b"PL4\n" {
+            Mark::Whole
+        } else if TORN.contains(&first) {
+            Mark::Torn
+        } else {
+            Mark::Missing
+        }
     }
-    if check::same(first, b"PL4\0") {
-        return Mark::Torn;
-    }
-    if check::same(first, b"PL\0\0") {
-        return Mark::Torn;
-    }
-    if check::same(first, b"P\0\0\0") {
-        return Mark::Torn;
-    }
-    if check::same(first, b"\0\0\0\0") {
-        return Mark::Torn;
-    }
-    Mark::Missing
 }

@@ -10,12 +10,8 @@ use lib.Dec.{ltb, eqb}
 use lib.ListN.{length, length-append}
 use lib.Pow.{pow-add}
 use borrow.Author.Tests.{lt-ltb, le-ltb, eq-eqb, ne_eqb}
-use Rattle.io.specs.Digits.{last_digits, hex_digit_ascii, IsDigitCount}
+use Rattle.io.specs.Digits.{last_digits, IsDigitCount}
 use Rattle.recover_text.specs.Text.{decimal_within, decimal, counted, spaced, shown}
-
--- a digit below 10
-glyph_of : (d : ℕ) → d < 10 → hex_digit_ascii d ≡ 48 + d
-glyph_of d h = rw (lt-ltb d 10 h)
 
 ten_pow : (j : ℕ) → 0 < 10 ^ j
 ten_pow zero = omega (arith, pow-zero 10)

@@ -1,19 +1,24 @@
 -- What is said of a row: its words one byte further, its lines and how long they are, and which lines a test picks.
 use mathlib.Core.Bool.{Bool, true, false, cond}
+use mathlib.Core.Logic.{◌⊎◌, inl, inr}
 use mathlib.Core.Path.{◌≡◌, refl, sym, ap, ◌∙◌}
 use mathlib.Core.List.{List, [], ◌∷◌, ◌++◌, append_assoc, append-nil}
 use Prim.Native.Nat.{ℕ, zero, suc, ◌+◌, ◌*◌, ◌≤◌, ◌<◌}
 use native.Mathlib.Numerals.{add-one}
 use native.Mathlib.Omega.{arith}
 use lib.Dec.{eqb}
-use lib.ListN.{length, take, get_or, length-append}
-use lib.Seq.{take-suc}
+use lib.ListN.{length, take, drop, get_or, length-append, length-drop}
+use lib.Pointwise.{pointwise}
+use lib.Seq.{take-suc, drop-cons}
 use borrow.Author.Tests.{eq-eqb, ne_eqb}
 use Rattle.recover_text.specs.Text.{numbered, address_text}
-use Rattle.recover_text.specs.Rows.{row_bytes}
+use Rattle.recover_text.specs.Rows.{row_bytes, same_bytes}
 use Rattle.recover_text.specs.Speak.{in_word, step_text, step_place, words, said, nothing, becomes, or_nothing, place, text_line, byte_line, tells, byte_heard, byte_lines, heard}
+use Rattle.recover_text.specs.Place.{place_number}
+use Rattle.recover_text.specs.declared.speak.Place.{Place}
+use Rattle.recover_text.specs.declared.speak.Place.TheVariants.{Before, Inside, Behind}
 use Rattle.recover_text.proofs.Lines.{address_length}
-use Rattle.recover_text.proofs.Same.{told_same, told_other}
+use Rattle.recover_text.proofs.Same.{told_pointwise}
 
 -- a byte that is no character of a word, before the first word and behind one; one that is, behind a word and elsewhere
 pub gap_text : (p b : ℕ) → in_word b ≡ false → [] ≡ step_text p b
@@ -39,6 +44,15 @@ word_text p b e z = rw (e, ne_eqb p 2 z)
 pub word_behind : (p b : ℕ) → in_word b ≡ true → p ≡ 2 → 32 ∷ b ∷ [] ≡ step_text p b
 unfolding step_text
 word_behind p b e z = rw (e, eq-eqb p 2 z)
+
+-- the places by their numbers
+pub not_before : (p : Place) → (p ≡ Inside) ⊎ (p ≡ Behind) → place_number p ≡ 0 → ⊥
+not_before p (inl e) z = let w = ap place_number e in omega arith
+not_before p (inr e) z = let w = ap place_number e in omega arith
+
+pub not_behind : (p : Place) → (p ≡ Before) ⊎ (p ≡ Inside) → place_number p ≡ 2 → ⊥
+not_behind p (inl e) z = let w = ap place_number e in omega arith
+not_behind p (inr e) z = let w = ap place_number e in omega arith
 
 -- where the byte behind some bytes stands
 unfoldable pub place_after : ℕ → List ℕ → ℕ
@@ -100,6 +114,16 @@ unfolding or_nothing
 said_length [] h = omega arith
 said_length (x ∷ t) h = h
 
+-- what is left of a list from a place on: a byte and what stands behind it, or none
+pub left_next : (l : List ℕ) (k x : ℕ) (t : List ℕ) → x ∷ t ≡ drop k l → (k < length l) × (x ≡ get_or l k 0) × (t ≡ drop (k + 1) l)
+left_next l k x t e =
+    let h : k < length l = omega (arith, length-drop k l, ap length e) in
+    let f : x ∷ t ≡ get_or l k 0 ∷ drop (suc k) l = e ∙ drop-cons l k 0 h in
+    (h, cc, rw (add-one k) cc)
+
+pub left_none : (l r : List ℕ) (k : ℕ) → r ≡ drop k l → length r ≡ 0 → length l ≤ k
+left_none l r k e z = omega (arith, length-drop k l, ap length e)
+
 -- the lines of bytes
 pub heard_line : (every : Bool) (at o n : ℕ) → tells every o n ≡ true → byte_line at o n ≡ byte_heard every at o n
 unfolding byte_heard
@@ -139,14 +163,17 @@ text_length at a b h k =
     omega (arith, place_length at, said_length a h, said_length b k)
 
 -- a row, of which a and b are the texts
-module _ (at : ℕ) (old new a b : List ℕ) (e : a ≡ said old) (f : b ≡ said new) where
-  pub by_bytes : a ≡ b → byte_lines true at old new ≡ heard at old new
-  unfolding heard
-  by_bytes g = rw (told_same (said old) (said new) (sym e ∙ g ∙ f))
+module _ (at : ℕ) (old new a b : List ℕ) (r : Bool) (e : a ≡ said old) (f : b ≡ said new) (g : r ≡ pointwise eqb a b) where
+  told : same_bytes (said old) (said new) ≡ r
+  told = rw (← e, ← f, g) (told_pointwise a b)
 
-  pub by_text : {r : Bool} → (a ≡ b → r ≡ true) → r ≡ false → text_line at a b ++ byte_lines false at old new ≡ heard at old new
+  pub by_bytes : r ≡ true → byte_lines true at old new ≡ heard at old new
   unfolding heard
-  by_text g h = rw (told_other (said old) (said new) (λ q. g (e ∙ q ∙ sym f)) h, e, f)
+  by_bytes h = rw (told, h)
+
+  pub by_text : r ≡ false → text_line at a b ++ byte_lines false at old new ≡ heard at old new
+  unfolding heard
+  by_text h = rw (told, h, e, f)
 
 pub lines_all : (every : Bool) (at : ℕ) (old new : List ℕ) (i : ℕ) → i ≡ row_bytes
     → numbered (λ j. byte_heard every (at + j) (get_or old j 0) (get_or new j 0)) 0 i ≡ byte_lines every at old new

@@ -2,7 +2,7 @@ pub mod Pieces
 pub mod Digits
 pub mod Same
 pub mod Lines
-pub mod Parts
+pub mod Turns
 pub mod Hearing
 pub mod Heard
 pub mod Whole

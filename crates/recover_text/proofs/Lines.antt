@@ -4,16 +4,16 @@ use mathlib.Core.Path.{◌≡◌}
 use mathlib.Core.List.{List, [], ◌∷◌, ◌++◌}
 use Prim.Native.Nat.{ℕ, ◌+◌, ◌-◌, ◌*◌, ◌/◌, ◌%◌, ◌≤◌, ◌<◌}
 use native.Mathlib.Omega.{arith}
-use lib.Dec.{ltb}
-use lib.ListN.{length, take, drop, length-append, length-drop}
-use lib.Seq.{length-take-le}
+use lib.Dec.{ltb, eqb}
+use lib.ListN.{length, length-append}
+use lib.Pointwise.{pointwise}
 use borrow.Author.Tests.{lt-ltb, le-ltb}
 use Rattle.lines.specs.Text.{hex_digit, index_text}
 use Rattle.recover_text.specs.Text.{address_text, hexes, shown_all, spaced, shown}
 use Rattle.recover_text.specs.Rows.{row_bytes, row_line, changed_lines}
 use Rattle.recover_text.proofs.Pieces.{texts_length}
 use Rattle.recover_text.proofs.Digits.{spaced_length, shown_length}
-use Rattle.recover_text.proofs.Same.{told_same, told_other}
+use Rattle.recover_text.proofs.Same.{told_pointwise}
 
 -- which digits, and how many
 pub four_digits : (at : ℕ) → at < 65536 → index_text at ≡ address_text at
@@ -33,14 +33,13 @@ address_length at = pick (ltb at 65536)
     pick true = (omega arith, omega arith)
     pick false = (omega arith, omega arith)
 
-pub unchanged_lines : (at : ℕ) (old new : List ℕ) → old ≡ new → [] ≡ changed_lines at old new
+pub unchanged_lines : (at : ℕ) (old new : List ℕ) → pointwise eqb old new ≡ true → [] ≡ changed_lines at old new
 unfolding changed_lines
-unchanged_lines at old new e = rw (told_same old new e)
+unchanged_lines at old new h = rw (told_pointwise old new, h)
 
-pub changed_lines_law : (at : ℕ) (old new : List ℕ) {r : Bool} → (old ≡ new → r ≡ true) → r ≡ false
-    → row_line 45 at old ++ row_line 43 at new ≡ changed_lines at old new
+pub changed_lines_law : (at : ℕ) (old new : List ℕ) → pointwise eqb old new ≡ false → row_line 45 at old ++ row_line 43 at new ≡ changed_lines at old new
 unfolding changed_lines
-changed_lines_law at old new f h = rw (told_other old new f h)
+changed_lines_law at old new h = rw (told_pointwise old new, h)
 
 pub line_length : (sign at : ℕ) (row : List ℕ) → length row ≡ row_bytes → length (row_line sign at row) ≤ 75
 line_length sign at row e =
@@ -55,9 +54,3 @@ line_length sign at row e =
 -- the bytes of row k
 pub row_bytes_law : (k : ℕ) → k * row_bytes + row_bytes - k * row_bytes ≡ row_bytes
 row_bytes_law k = omega arith
-
-pub row_length : (k : ℕ) (s : List ℕ) → k * row_bytes + row_bytes ≤ length s
-    → length (take (k * row_bytes + row_bytes - k * row_bytes) (drop (k * row_bytes) s)) ≡ row_bytes
-row_length k s h =
-    let d = length-drop (k * row_bytes) s in
-    rw (row_bytes_law k) (length-take-le row_bytes (drop (k * row_bytes) s) (omega arith))

@@ -5,17 +5,15 @@ use Prim.Native.Nat.{ℕ, suc, ◌+◌, ◌-◌, ◌*◌, ◌≤◌, ◌<◌}
 use native.Mathlib.Nat.{mul-suc, mul-zero}
 use native.Mathlib.Numerals.{add-one}
 use native.Mathlib.Omega.{arith}
-use lib.ListN.{length, take, drop, get_or, set, length-append, length-drop, take-append-drop}
-use lib.Seq.{length-take-le, take_at, take-suc, drop_at, drop-drop, set_split}
+use lib.ListN.{length, take, drop, get_or, length-append, length-drop, take-append-drop}
+use lib.Seq.{length-take-le, take_at, take-suc, drop_at, drop-drop}
 use Rattle.recover_text.specs.Text.{Put, texts, numbered}
+use Rattle.recover_text.specs.Page.{Puts}
+use Rattle.recover_text.specs.declared.put.Page.{Page}
 
 -- no text
 pub put_none : (o : List ℕ) (at : ℕ) → at ≤ length o → Put o at [] o at
 put_none o at h = record { fits = omega arith; ends = omega arith; bytes = sym (take-append-drop at o) }
-
--- one byte
-pub put_byte : (o : List ℕ) (at b : ℕ) → at < length o → Put o at (b ∷ []) (set o at b) (at + 1)
-put_byte o at b h = record { fits = omega arith; ends = omega arith; bytes = rw (add-one at) (set_split o at b h) }
 
 -- the same text by another name
 pub named : {o t t' o' : List ℕ} {at end : ℕ} → t ≡ t' → Put o at t o' end → Put o at t' o' end
@@ -109,3 +107,30 @@ numbered_more f n = let z : 0 + n ≡ n = omega arith in rw (add-one n, z)
 pub numbered_zero : (f : ℕ → List ℕ) (from : ℕ) → numbered f from 0 ≡ []
 unfolding numbered
 numbered_zero f from = refl
+
+-- the same of pages
+pub puts_none : (p : Page) → p.end ≤ length p.out.now → Puts p [] p
+puts_none p h = record { same_reference = refl; text = put_none p.out.now p.end h }
+
+pub puts_as : {p p' : Page} {t t' : List ℕ} → t ≡ t' → Puts p t p' → Puts p t' p'
+puts_as e q = record { same_reference = q.same_reference; text = named e q.text }
+
+pub puts_from : {q p p' : Page} {t : List ℕ} → q ≡ p → Puts q t p' → Puts p t p'
+puts_from e r = rw (← e) r
+
+pub puts_to : {p p' q : Page} {t : List ℕ} → q ≡ p' → Puts p t p' → Puts p t q
+puts_to e r = rw e r
+
+pub puts_then : {p p' p'' : Page} {a b : List ℕ} → Puts p a p' → Puts p' b p'' → Puts p (a ++ b) p''
+puts_then q r = record { same_reference = r.same_reference ∙ q.same_reference; text = and_then q.text r.text }
+
+-- where the text ends, and how long the buffer is
+pub puts_ends : {p p' : Page} {t : List ℕ} → Puts p t p' → p'.end ≡ p.end + length t
+puts_ends q = q.text.ends
+
+pub puts_length : {p p' : Page} {t : List ℕ} → Puts p t p' → length p'.out.now ≡ length p.out.now
+puts_length q = kept_length q.text
+
+-- of a page that began with no text
+pub puts_whole : {o t : List ℕ} {p p' : Page} → (p.out.now ≡ o) × (p.end ≡ 0) → Puts p t p' → Put o 0 t p'.out.now p'.end
+puts_whole e q = rw (e.0, e.1) at q.text

@@ -1,7 +1,7 @@
 -- The rows that recovery changed, in hex.
 use Rattle.std.specs.Prelude.{Bool, true, false, cond, ◌&&◌, List, [], ◌∷◌, ◌++◌, ◌≡◌, ℕ, ◌+◌, ◌-◌, ◌*◌, ◌/◌, ◌≤◌, ◌<◌, eqb, length, take, drop}
 use Rattle.recover_text.specs.Text.{Put, numbered, address_text, hexes, shown_all}
-use Rattle.recover_text.specs.declared.rows.Part.{Part}
+use Rattle.recover_text.specs.declared.parts.Part.{Part}
 
 abbrev pub row_bytes : ℕ
 row_bytes = 16
@@ -12,6 +12,10 @@ row k s = take row_bytes (drop (k * row_bytes) s)
 
 abbrev pub row_count : List ℕ → ℕ
 row_count s = length s / row_bytes
+
+-- what is shown of row k of two saves, where f says it of a row's address, and of the row before and now
+abbrev pub by_row : (ℕ → List ℕ → List ℕ → List ℕ) → List ℕ → List ℕ → ℕ → List ℕ
+by_row f old new k = f (k * row_bytes) (row k old) (row k new)
 
 -- `- 0010  4C 55 ..  LU..`: a sign, the address, the bytes in hex and as text
 abbrev pub head : ℕ → ℕ → List ℕ

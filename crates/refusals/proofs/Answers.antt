@@ -1,31 +1,28 @@
--- How a call answers, by what its refusal is: for a byte or a word that is read, one law for the refused and one for the done.
-use Rattle.std.proofs.Common.{◌≡◌, ℕ, Bool, true, false, cond, eqb, sym, refl, arith, ne_eqb, eqb-true}
+-- How a call answers, by what its refusal is: `?` gives the first refusal that is due, and where there is none the call goes on.
+use Rattle.std.proofs.Common.{◌≡◌, ℕ, Bool, true, false, cond, eqb, sym, refl, ap, arith, eqb-true, Result, Ok, Err, IsErrAnd}
 use borrow.Author.Tests.{eqb-false}
 use Rattle.memory.specs.Ranges.{in_range, state_in_range}
 use Rattle.memory.specs.declared.Memory.{Memory}
-use Rattle.refusals.specs.Answers.{changed, byte_given, word_given}
+use Rattle.numbers.specs.Refusal.{number_given, refusal_number}
+use Rattle.numbers.specs.declared.Refusal.{Refusal}
+use Rattle.numbers.specs.declared.Refusal.TheVariants.{NoRoom, OutOfRange, WrongLength, TooManyCycles, Damaged, Outside}
+use Rattle.refusals.specs.Answers.{Done, changed}
 use Rattle.refusals.specs.Refusal.{or_else, state_refused}
-use Rattle.refusals.specs.declared.Done.{Done}
 use Rattle.rules.proofs.Tests.{both_true, passes}
 
-module _ {n k : ℕ} (e : n ≡ k) where
-  module _ (h : n ≡ 0 → ⊥) where
-    pub refused_byte : (v : ℕ) → record { number = n; value = 0 } ≡ byte_given k v
-    unfolding byte_given
-    refused_byte v = rw (← e, ne_eqb n 0 h)
+-- a refusal's number is not that of a call that is done
+pub refuses : (e : Refusal) → eqb (refusal_number e) 0 ≡ false
+refuses NoRoom = refl
+refuses OutOfRange = refl
+refuses WrongLength = refl
+refuses TooManyCycles = refl
+refuses Damaged = refl
+refuses Outside = refl
 
-    pub refused_word : (v : ℕ) → record { number = n; value = 0 } ≡ word_given k v
-    unfolding word_given
-    refused_word v = rw (← e, ne_eqb n 0 h)
-
-  module _ (h : n ≡ 0) where
-    pub accepted_byte : {b a : ℕ} → b ≡ a → record { number = 0; value = b } ≡ byte_given k a
-    unfolding byte_given
-    accepted_byte f = rw (← e, h, f)
-
-    pub accepted_word : {b a : ℕ} → b ≡ a → record { number = 0; value = b } ≡ word_given k a
-    unfolding word_given
-    accepted_word f = rw (← e, h, f)
+-- what a call that goes out by `?` answers
+pub exit : {T : Type 0} (r : Result T Refusal) (e : Refusal) → IsErrAnd r (λ y. y ≡ e) → r ≡ Err e
+exit (Ok x) e h = absurd h
+exit (Err y) e h = ap Err h
 
 -- what a call would give counts only where nothing refuses it
 pub where_done : (n : ℕ) (m a b : Memory) → (n ≡ 0 → a ≡ b) → changed n m a ≡ changed n m b

@@ -1,7 +1,5 @@
 -- The save's window: an index is in it where its region is the save's.
-use Rattle.std.proofs.Common.{◌≡◌, ℕ, true, false, [], ◌∷◌, refl, ap, arith}
-use denote.Enum.Declared.{tag_of}
-use Rattle.memory.specs.contracts.region.Region.{the_type}
+use Rattle.std.proofs.Common.{◌≡◌, ℕ, true, false, refl, ap, arith}
 use Rattle.memory.specs.Region.{region_of}
 use Rattle.memory.specs.declared.region.Region.{Region}
 use Rattle.memory.specs.declared.region.Region.TheVariants.{Rom, Vram, Save, Wram, Oam, Page}

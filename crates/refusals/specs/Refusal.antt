@@ -1,5 +1,5 @@
 -- When a call is refused, and by which number (document 01, "Numbers a call gives back"; the order 3, 4, 5, 7, 6, 2).
-use Rattle.std.specs.Prelude.{ℕ, ◌+◌, ◌%◌, Bool, true, false, cond, ◌&&◌, ◌||◌, length, ◌==◌, nat_le, nat_lt}
+use Rattle.std.specs.Prelude.{ℕ, ◌+◌, ◌%◌, Bool, true, false, cond, ◌&&◌, ◌||◌, List, length, ◌==◌, nat_le, nat_lt}
 use Rattle.mbc.specs.Mbc.{rom_len, ram_len}
 use Rattle.mbc.specs.declared.cartridge.Cartridge.{Cartridge}
 use Rattle.mbc.specs.declared.mbc.Mapper.{Mapper}
@@ -11,6 +11,7 @@ use Rattle.memory.specs.declared.Memory.{Memory}
 use Rattle.memory.specs.declared.region.Region.{Region}
 use Rattle.memory.specs.declared.region.Region.TheVariants.{Rom, Vram, Save, Wram, Oam, Page}
 use Rattle.numbers.specs.Numbers.{done, owed, no_room, out_of_range, wrong_length, too_many_cycles, outside}
+use Rattle.refusals.specs.declared.Lengths.{Lengths}
 use Rattle.savelog.specs.Log.{log_limit, full, use_in_range}
 
 -- the first refusal of two that is due; 0 where none is
@@ -28,6 +29,11 @@ refused_state m = state_refused m log_limit
 -- 3 by the log's use alone, where all else is known to be in range
 unfoldable pub use_refused : ℕ → ℕ → ℕ
 use_refused used log = cond (use_in_range used log) done out_of_range
+
+-- the lengths of what is lent, but for the log
+abbrev pub lengths_of : List ℕ → List ℕ → List ℕ → List ℕ → List ℕ → Lengths
+lengths_of rom vram wram save sound =
+    record { rom = length rom; vram = length vram; wram = length wram; save = length save; sound = length sound }
 
 -- 4: a lent length other than the state asks for, by the machine's kind, the cartridge and its mapper
 abbrev pub lengths_are : Bool → Cartridge → Mapper → ℕ → ℕ → ℕ → ℕ → ℕ → Bool

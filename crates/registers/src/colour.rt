@@ -1,147 +1,154 @@
-// The registers that only a colour machine has: monochrome just stores them.
-ghost use Rattle.std.specs.Prelude.{◌≡◌};
+// The registers that only a colour machine has: monochrome just stores them. Each function has that test, as `in_colour` of specs/Colour.antt is; with the
+// colour machine's change as a closure each would be as long.
+#![tactic(auto, unfolding(crate::specs::Colour::speed_put, crate::specs::Colour::vram_bank_put, crate::specs::Colour::wram_bank_put))]
+
+ghost use Rattle.std.specs.Prelude.{◌≡◌, ◌<◌, set};
 ghost use Rattle.memory.specs.World.{with_banks};
-ghost use Rattle.registers.specs.Colour.{speed_put, vram_bank_put, wram_bank_put, background_of, with_background_palette, sprites_of, with_sprite_palette, background_index_put, background_data_put, sprite_index_put, sprite_data_put};
+ghost use Rattle.palette.specs.declared.Palette.{Palette};
+ghost use Rattle.registers.specs.Colour.{in_colour, speed_put, vram_bank_put, wram_bank_put, index_at, palette_of, with_palette, index_put, data_put};
 
 use crate::{load, store};
 use memory::{Banks, Memory};
 use palette::Palette;
 use selects::{speed, vram_bank, wram_bank};
 
-fn with_banks(mut memory: Memory, banks: Banks) -> Memory
-    ensures { result ≡ with_banks memory banks memory.page }
-{
-    let mut core = memory.core;
-    core.banks = banks;
-    memory.core = core;
-    memory
-}
-
 // FF4D.
 pub fn write_speed(memory: Memory, value: u8) -> Memory
     ensures { result ≡ speed_put memory value }
 {
-    let banks = memory.core.banks;
-    if banks.colour {
-        return store(memory, 0x4D, speed(load(memory, 0x4D), value));
+    if memory.core.banks.colour {
+        store(memory, 0x4D, speed(load(memory, 0x4D), value))
+    } else {
+        store(memory, 0x4D, value)
     }
-    store(memory, 0x4D, value)
+}
+
+// A bank's register, of which a colour machine keeps `kept`, and selects by it.
+fn put_bank(memory: Memory, at: u8, value: u8, kept: u8, banks: Banks) -> Memory
+    ensures { result ≡ in_colour memory at value (with_banks memory banks (set memory.page at kept)) }
+{
+    if memory.core.banks.colour {
+        let mut next = store(memory, at, kept);
+        next.core.banks = banks;
+        next
+    } else {
+        store(memory, at, value)
+    }
 }
 
 // FF4F.
 pub fn write_vram_bank(memory: Memory, value: u8) -> Memory
     ensures { result ≡ vram_bank_put memory value }
 {
-    let mut banks = memory.core.banks;
-    if banks.colour {
-        banks.vram = vram_bank(value);
-        return with_banks(store(memory, 0x4F, value % 2), banks);
-    }
-    store(memory, 0x4F, value)
+    let banks = Banks {
+        vram: vram_bank(value),
+        ..memory.core.banks
+    };
+    put_bank(memory, 0x4F, value, value % 2, banks)
 }
 
 // FF70.
 pub fn write_wram_bank(memory: Memory, value: u8) -> Memory
     ensures { result ≡ wram_bank_put memory value }
 {
-    let mut banks = memory.core.banks;
-    if banks.colour {
-        banks.wram = wram_bank(value);
-        return with_banks(store(memory, 0x70, value % 8), banks);
-    }
-    store(memory, 0x70, value)
+    let banks = Banks {
+        wram: wram_bank(value),
+        ..memory.core.banks
+    };
+    put_bank(memory, 0x70, value, value % 8, banks)
 }
 
-fn background_of(memory: Memory) -> Palette
-    ensures { result ≡ background_of memory }
+// Whose palette.
+#[derive(Clone, Copy)]
+pub enum Plane {
+    // FF68, FF69.
+    Background,
+    // FF6A, FF6B.
+    Sprites,
+}
+
+impl Plane {
+    // The index register; the data register is the next one.
+    pub fn at(self) -> u8
+        ensures { (result ≡ index_at self) × (result < 0x80) }
+    {
+        match self {
+            Plane::Background => 0x68,
+            Plane::Sprites => 0x6A,
+        }
+    }
+}
+
+fn palette_of(memory: Memory, plane: Plane) -> Palette
+    ensures { result ≡ palette_of plane memory }
 {
-    let colors = memory.background;
     Palette {
-        index: load(memory, 0x68),
-        data: load(memory, 0x69),
-        colors: colors,
+        index: load(memory, plane.at()),
+        data: load(memory, plane.at() + 1),
+        colors: match plane {
+            Plane::Background => memory.background,
+            Plane::Sprites => memory.sprites,
+        },
     }
 }
 
-fn with_background(mut memory: Memory, palette: Palette) -> Memory
-    ensures { result ≡ with_background_palette memory palette }
+fn with_palette(mut memory: Memory, plane: Plane, palette: Palette) -> Memory
+    ensures { result ≡ with_palette plane memory palette }
 {
+    let at = plane.at() as usize;
+    memory.page[at] = palette.index;
+    memory.page[at + 1] = palette.data;
     let colors = palette.colors;
-    memory.page[0x68] = palette.index;
-    memory.page[0x69] = palette.data;
-    memory.background = colors;
+    match plane {
+        Plane::Background => memory.background = colors,
+        Plane::Sprites => memory.sprites = colors,
+    }
     memory
 }
 
-fn sprites_of(memory: Memory) -> Palette
-    ensures { result ≡ sprites_of memory }
+// A palette's register: monochrome just stores it, and asks for no change.
+fn put_palette<F: FnOnce(Palette) -> Palette>(
+    memory: Memory,
+    plane: Plane,
+    at: u8,
+    value: u8,
+    change: F,
+) -> Memory
+    requires { F.IsAlwaysCallable change }
+    ensures { (next : Palette) → ((p : Palette) → F.post change (palette_of plane memory) p → p ≡ next)
+        → result ≡ in_colour memory at value (with_palette plane memory next) }
 {
-    let colors = memory.sprites;
-    Palette {
-        index: load(memory, 0x6A),
-        data: load(memory, 0x6B),
-        colors: colors,
+    if memory.core.banks.colour {
+        with_palette(memory, plane, change(palette_of(memory, plane)))
+    } else {
+        store(memory, at, value)
     }
 }
 
-fn with_sprites(mut memory: Memory, palette: Palette) -> Memory
-    ensures { result ≡ with_sprite_palette memory palette }
+// FF68, FF6A.
+pub fn write_index(memory: Memory, plane: Plane, value: u8) -> Memory
+    ensures { result ≡ index_put plane memory value }
 {
-    let colors = palette.colors;
-    memory.page[0x6A] = palette.index;
-    memory.page[0x6B] = palette.data;
-    memory.sprites = colors;
-    memory
+    let at = plane.at();
+    put_palette(
+        memory,
+        plane,
+        at,
+        value,
+        |palette| palette::write_index(palette, value),
+    )
 }
 
-// FF68.
-pub fn write_background_index(memory: Memory, value: u8) -> Memory
-    ensures { result ≡ background_index_put memory value }
+// FF69, FF6B.
+pub fn write_data(memory: Memory, plane: Plane, value: u8) -> Memory
+    ensures { result ≡ data_put plane memory value }
 {
-    let banks = memory.core.banks;
-    if banks.colour {
-        let palette = background_of(memory);
-        let next = palette::write_index(palette, value);
-        return with_background(memory, next);
-    }
-    store(memory, 0x68, value)
-}
-
-// FF69.
-pub fn write_background_data(memory: Memory, value: u8) -> Memory
-    ensures { result ≡ background_data_put memory value }
-{
-    let banks = memory.core.banks;
-    if banks.colour {
-        let palette = background_of(memory);
-        let next = palette::write_data(palette, value);
-        return with_background(memory, next);
-    }
-    store(memory, 0x69, value)
-}
-
-// FF6A.
-pub fn write_sprite_index(memory: Memory, value: u8) -> Memory
-    ensures { result ≡ sprite_index_put memory value }
-{
-    let banks = memory.core.banks;
-    if banks.colour {
-        let palette = sprites_of(memory);
-        let next = palette::write_index(palette, value);
-        return with_sprites(memory, next);
-    }
-    store(memory, 0x6A, value)
-}
-
-// FF6B.
-pub fn write_sprite_data(memory: Memory, value: u8) -> Memory
-    ensures { result ≡ sprite_data_put memory value }
-{
-    let banks = memory.core.banks;
-    if banks.colour {
-        let palette = sprites_of(memory);
-        let next = palette::write_data(palette, value);
-        return with_sprites(memory, next);
-    }
-    store(memory, 0x6B, value)
+    let at = plane.at() + 1;
+    put_palette(
+        memory,
+        plane,
+        at,
+        value,
+        |palette| palette::write_data(palette, value),
+    )
 }

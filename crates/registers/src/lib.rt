@@ -19,14 +19,12 @@ pub use register::{Register, byte_as, register_of};
 pub fn load(memory: Memory, at: u8) -> u8
     ensures { result ≡ loaded memory at }
 {
-    let i = at as usize;
-    memory.page[i]
+    memory.page[at as usize]
 }
 
 pub fn store(mut memory: Memory, at: u8, value: u8) -> Memory
     ensures { result ≡ stored memory at value }
 {
-    let i = at as usize;
-    memory.page[i] = value;
+    memory.page[at as usize] = value;
     memory
 }

@@ -1,8 +1,11 @@
 // The page dispatch: what FF00 + at reads, and what a byte write stores there, without the copying that FF46 and FF55 start.
+#![tactic(auto, unfolding(crate::specs::Page::by_kind, crate::specs::Page::line_read, crate::specs::Page::shown_as, crate::specs::Page::plain_read, crate::specs::Page::read_register))]
+
 ghost use Rattle.std.specs.Prelude.{Bool, List, ◌≡◌, ℕ, ◌≤◌, length};
 ghost use Rattle.registers.specs.Page.{InPart, by_kind, line_read, shown_as, read_register, write_register};
 ghost use Rattle.registers.specs.declared.page.Part.TheVariants as part;
 
+use crate::colour::Plane;
 use crate::register::{Register, byte_as, register_of};
 use crate::{colour, load, screen, store, transfers};
 use lcd::Lcd;
@@ -12,20 +15,14 @@ use memory::Memory;
 fn by_kind(cgb: bool, colour: u8, monochrome: u8) -> u8
     ensures { result ≡ by_kind cgb colour monochrome }
 {
-    if cgb {
-        return colour;
-    }
-    monochrome
+    if cgb { colour } else { monochrome }
 }
 
 // FF44: the scan line, or 0 with the screen disabled.
 pub fn read_line(lcd: Lcd) -> u8
     ensures { result ≡ line_read lcd }
 {
-    if lcd.disabled {
-        return 0;
-    }
-    lcd.line
+    if lcd.disabled { 0 } else { lcd.line }
 }
 
 // The parts of the page that a read tells apart: each asks for one thing beside the byte, or for none.
@@ -43,25 +40,21 @@ pub enum Part {
     Colour,
 }
 
+// In the order of how often a part is read: high memory lies from FF50 on.
 pub fn part_of(at: u8) -> Part
     ensures { InPart result at }
 {
-    if at < 0x10 {
-        return Part::Low;
+    match at {
+        0x00..=0x0F => Part::Low,
+        0x50..=0xFF => Part::Colour,
+        0x44 => Part::Line,
+        0x10..=0x3F => Part::Sound,
+        _ => Part::Screen,
     }
-    if 0x50 <= at {
-        return Part::Colour;
-    }
-    if at == 0x44 {
-        return Part::Line;
-    }
-    if at < 0x40 {
-        return Part::Sound;
-    }
-    Part::Screen
 }
 
-// What each part reads, where the page holds `byte`. Each is small, so that the compiler puts it in place.
+// What each part reads, where the page holds `byte`. Each is small, so that the compiler puts it in place. A sound window is a slice of any length, as C
+// lends it, so that it has 48 bytes is a clause.
 
 pub fn shown_low(byte: u8, pad: u8, at: u8) -> u8
     requires { InPart part.Low at }
@@ -69,9 +62,8 @@ pub fn shown_low(byte: u8, pad: u8, at: u8) -> u8
 {
     match at {
         0x00 => joypad::read(byte, pad),
-        0x03 => 0xFF,
+        0x03 | 0x0E => 0xFF,
         0x07 => byte | 0xF8,
-        0x0E => 0xFF,
         0x0F => interrupt::read(byte),
         _ => byte,
     }
@@ -81,8 +73,7 @@ pub fn shown_sound(sound: &[u8], at: u8) -> u8
     requires { InPart part.Sound at × (48 ≤ length sound.now) }
     ensures { (byte : ℕ) (cgb : Bool) (line pad : ℕ) → result ≡ shown_as byte cgb line pad sound.now at }
 {
-    let i = (at - 0x10) as usize;
-    sound[i]
+    sound[(at - 0x10) as usize]
 }
 
 pub fn shown_screen(byte: u8, at: u8) -> u8
@@ -101,6 +92,7 @@ pub fn shown_colour(byte: u8, cgb: bool, at: u8) -> u8
     requires { InPart part.Colour at }
     ensures { (line pad : ℕ) (sound : List ℕ) → result ≡ shown_as byte cgb line pad sound at }
 {
+    // An arm each: of joined ones the compiler makes three instructions more of a read of high memory (bench/budgets.txt).
     match at {
         0x68 => by_kind(cgb, byte | 0x40, 0xC0),
         0x69 => by_kind(cgb, byte | 0xF8, 0xFF),
@@ -131,14 +123,18 @@ pub fn read(memory: Memory, sound: &[u8], at: u8) -> u8
     requires { 48 ≤ length sound.now }
     ensures { result ≡ read_register memory sound.now at }
 {
-    let byte = load(memory, at);
-    let banks = memory.core.banks;
-    let lcd = memory.core.lcd;
-    let line = read_line(lcd);
-    let controller = memory.core.joypad;
-    shown(byte, banks.colour, line, controller.state, sound, at)
+    let core = memory.core;
+    shown(
+        load(memory, at),
+        core.banks.colour,
+        read_line(core.lcd),
+        core.joypad.state,
+        sound,
+        at,
+    )
 }
 
+#[tactic(auto, unfolding(crate::specs::Colour::background_index_put, crate::specs::Colour::background_data_put, crate::specs::Colour::sprite_index_put, crate::specs::Colour::sprite_data_put))]
 pub fn write(memory: Memory, at: u8, value: u8) -> Memory
     ensures { result ≡ write_register memory at value }
 {
@@ -155,10 +151,10 @@ pub fn write(memory: Memory, at: u8, value: u8) -> Memory
         Register::DestinationHigh => transfers::write_destination_high(memory, value),
         Register::DestinationLow => transfers::write_destination_low(memory, value),
         Register::Start => transfers::write_start(memory, value),
-        Register::BackgroundIndex => colour::write_background_index(memory, value),
-        Register::BackgroundData => colour::write_background_data(memory, value),
-        Register::SpriteIndex => colour::write_sprite_index(memory, value),
-        Register::SpriteData => colour::write_sprite_data(memory, value),
+        Register::BackgroundIndex => colour::write_index(memory, Plane::Background, value),
+        Register::BackgroundData => colour::write_data(memory, Plane::Background, value),
+        Register::SpriteIndex => colour::write_index(memory, Plane::Sprites, value),
+        Register::SpriteData => colour::write_data(memory, Plane::Sprites, value),
         Register::WramBank => colour::write_wram_bank(memory, value),
         Register::Byte => store(memory, at, byte_as(at, value)),
     }

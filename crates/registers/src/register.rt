@@ -31,6 +31,7 @@ pub enum Register {
     Byte,
 }
 
+#[tactic(auto, unfolding(crate::specs::Register::register_of))]
 pub fn register_of(at: u8) -> Register
     ensures { result ≡ register_of at }
 {
@@ -62,6 +63,7 @@ pub fn register_of(at: u8) -> Register
 }
 
 // What a write of a byte that is stored stores.
+#[tactic(auto, unfolding(crate::specs::Register::byte_as))]
 pub fn byte_as(at: u8, value: u8) -> u8
     ensures { result ≡ byte_as at value }
 {

@@ -1,14 +1,8 @@
 // The letters W and R: a mapper's write, and its read over the contents of lines::pattern.
-use lines::answer::{Ours, refused};
-use lines::number::{high, low, word};
+use lines::answer::{Ours, padded};
 use lines::pattern;
-use mbc::{Answer, Cartridge, Mapper, Registers, Source};
-
-#[derive(Clone, Copy)]
-pub enum Made {
-    Some(Mapper),
-    None,
-}
+use mbc::{Cartridge, Mapper, Registers, Source, Stored};
+use numbers::Refusal;
 
 fn cartridge_of(given: &[u8; 12]) -> Cartridge {
     Cartridge {
@@ -18,65 +12,60 @@ fn cartridge_of(given: &[u8; 12]) -> Cartridge {
 }
 
 // The mapper of a line, which says no more than the mapper holds.
-fn mapper_of(given: &[u8; 12]) -> Made {
+fn mapper_of(given: &[u8; 12]) -> Result<Mapper, Refusal> {
     let held = Registers {
         kind: given[0],
-        rom: word(given[3], given[4]),
+        rom: u16::from_be_bytes([given[3], given[4]]),
         ram: given[5],
         mode: given[6],
         enabled: given[7],
         high: given[8],
     };
     if held.is_sound() {
-        return Made::Some(Mapper::from_registers(held));
+        Ok(Mapper::from(held))
+    } else {
+        Err(Refusal::Outside)
     }
-    Made::None
 }
 
-// What a write asks of the save, behind the mapper's six bytes.
-fn with_answer(number: u8, registers: [u8; 12], answer: Answer) -> Ours {
-    let mut bytes = registers;
-    let Answer::Stored { at, value } = answer else {
-        return Ours {
-            number: number,
-            bytes: bytes,
-        };
+fn index_of(given: &[u8; 12]) -> u16 {
+    u16::from_be_bytes([given[9], given[10]])
+}
+
+// What a write asks of the save: whether it stores, where, and what.
+fn asked(answer: Option<Stored>) -> Result<[u8; 5], Refusal> {
+    let Some(Stored { at, value }) = answer else {
+        return Ok([0; 5]);
     };
     if 16777215 < at {
-        return refused();
+        return Err(Refusal::Outside);
     }
-    bytes[6] = 1;
-    bytes[7] = (at / 65536) as u8;
-    bytes[8] = (at / 256 % 256) as u8;
-    bytes[9] = (at % 256) as u8;
-    bytes[10] = value;
-    Ours {
-        number: number,
-        bytes: bytes,
-    }
+    let [_, a, b, c] = (at as u32).to_be_bytes();
+    Ok([1, a, b, c, value])
 }
 
 pub fn write(given: &[u8; 12]) -> Ours {
-    let made = mapper_of(given);
-    let Made::Some(mapper) = made else {
-        return refused();
-    };
-    let index = word(given[9], given[10]);
-    let wrote = mapper.write_byte(cartridge_of(given), index, given[11]);
-    let next = wrote.mapper;
-    let after = next.registers();
+    let mapper = mapper_of(given)?;
+    let wrote = mapper.write_byte(cartridge_of(given), index_of(given), given[11])?;
+    let after = Registers::from(wrote.mapper);
     if after.kind != given[0] {
-        return refused();
+        return Err(Refusal::Outside);
     }
-    let mut bytes = [0u8; 12];
-    bytes[0] = high(after.rom);
-    bytes[1] = low(after.rom);
-    bytes[2] = after.ram;
-    bytes[3] = after.mode;
-    bytes[4] = after.enabled;
-    bytes[5] = after.high;
-    let answer = wrote.answer;
-    with_answer(wrote.number, bytes, answer)
+    let [high, low] = after.rom.to_be_bytes();
+    let [stored, a, b, c, value] = asked(wrote.answer)?;
+    Ok(padded(&[
+        high,
+        low,
+        after.ram,
+        after.mode,
+        after.enabled,
+        after.high,
+        stored,
+        a,
+        b,
+        c,
+        value,
+    ]))
 }
 
 // The byte at a place.
@@ -106,34 +95,19 @@ fn reads(
     if save.len() < saved {
         return false;
     }
-    let read = mapper.read_byte(cartridge, &rom[..banked], &save[..saved], index);
-    if read.number != numbers::DONE {
-        return false;
-    }
-    read.value == byte
+    mapper.read_byte(cartridge, &rom[..banked], &save[..saved], index) == Ok(byte)
 }
 
 pub fn read(given: &[u8; 12], rom: &[u8], save: &[u8]) -> Ours {
-    let made = mapper_of(given);
-    let Made::Some(mapper) = made else {
-        return refused();
-    };
+    let mapper = mapper_of(given)?;
     let cartridge = cartridge_of(given);
-    let index = word(given[9], given[10]);
-    if !mapper.in_range(cartridge) {
-        return refused();
-    }
-    if !mbc::is_mapped(index) {
-        return refused();
+    let index = index_of(given);
+    if !mapper.in_range(cartridge) || !mbc::is_mapped(index) {
+        return Err(Refusal::Outside);
     }
     let byte = byte_at(mapper.source(cartridge, index));
     if !reads(mapper, cartridge, rom, save, index, byte) {
-        return refused();
+        return Err(Refusal::Outside);
     }
-    let mut bytes = [0u8; 12];
-    bytes[0] = byte;
-    Ours {
-        number: numbers::DONE,
-        bytes: bytes,
-    }
+    Ok(padded(&[byte]))
 }

@@ -12,14 +12,7 @@ use Rattle.numbers.specs.Numbers.{done, wrong_length, damaged}
 use Rattle.rules.proofs.Tests.{both_true}
 use Rattle.savelog.specs.Log.{Form, Three, Four, Rec, width_of, end_of, log_limit, bytes_of, record_number, record_bytes, record_of, records_by, sound_record, all_sound}
 use Rattle.savelog.specs.Convert.{undamaged, below, bytes_by, length_by, room, converted, conversion}
-use Rattle.savelog.proofs.Laws.{placed, length_bytes, records_end, turn}
-
--- the other form's length: bounded, with a record more, with none
-pub length_bound : (f t : Form) (n : ℕ) → n ≤ log_limit → length_by f t n ≤ 87380
-length_bound Three Three n h = omega arith
-length_bound Three Four n h = omega arith
-length_bound Four Three n h = omega arith
-length_bound Four Four n h = omega arith
+use Rattle.savelog.proofs.Laws.{placed, length_bytes, records_none, turn}
 
 pub length_more : (f t : Form) (n : ℕ) → width_of f ≤ n → length_by f t n ≡ width_of t + length_by f t (n - width_of f)
 length_more Three Three n h = omega arith
@@ -34,15 +27,16 @@ length_none Four Three n h = omega arith
 length_none Four Four n h = omega arith
 
 -- where the next record goes, and that nothing is left at the end
-pub room_step : (f t : Form) (n i o end : ℕ) → i + width_of f ≤ n → o + length_by f t (n - i) ≡ end
-    → (o + width_of t ≤ end) × ((o + width_of t) + length_by f t (n - (i + width_of f)) ≡ end)
-room_step f t n i o end h e =
-    let m : n - (i + width_of f) ≡ (n - i) - width_of f = omega arith in
-    let g = length_more f t (n - i) (omega arith) in
-    (omega (arith, e, g), rw m (omega (arith, e, g)))
+module _ (f t : Form) {l : List ℕ} (b m : List ℕ) (s : l ≡ b ++ m) (n : length b ≡ width_of f) where
+  pub room_step : (o end : ℕ) → o + length_by f t (length l) ≡ end → (o + width_of t ≤ end) × ((o + width_of t) + length_by f t (length m) ≡ end)
+  room_step o end e =
+      let k : length l ≡ width_of f + length m = rw (s, length-append, n) in
+      let q : length l - width_of f ≡ length m = omega (arith, k) in
+      let g = rw q at (length_more f t (length l) (omega (arith, k))) in
+      (omega (arith, e, g), omega (arith, e, g))
 
-pub room_end : (f t : Form) (n i o end : ℕ) → n - i < width_of f → o + length_by f t (n - i) ≡ end → o ≡ end
-room_end f t n i o end h e = omega (arith, e, length_none f t (n - i) h)
+pub room_end : (f t : Form) (n o end : ℕ) → n < width_of f → o + length_by f t n ≡ end → o ≡ end
+room_end f t n o end h e = omega (arith, e, length_none f t n h)
 
 -- what the room says
 pub record Roomy (f t : Form) (s u : ℕ) : Type 0 where
@@ -76,24 +70,24 @@ pub placed_length : (l : List ℕ) (i k n : ℕ) → i + k ≤ length l → leng
 placed_length l i k n h = rw (length-append, length-append, length-take-le i l (omega arith), length_bytes k n, length-drop) (omega arith)
 
 -- The target so far: what is put, what the rest of the source will be, and what stays behind it all.
-abbrev pub so_far : Form → Form → List ℕ → ℕ → ℕ → ℕ → List ℕ → List ℕ
-so_far f t s i o end l = take o l ++ bytes_by t (records_by f (drop i s)) ++ drop end l
+abbrev pub so_far : Form → Form → List ℕ → ℕ → ℕ → List ℕ → List ℕ
+so_far f t rest o end l = take o l ++ bytes_by t (records_by f rest) ++ drop end l
 
-pub so_far_step : (f t : Form) (s l : List ℕ) (i o end : ℕ) → i + width_of f ≤ length s → o ≤ length l → o + width_of t ≤ end
-    → {r : Rec} → r ≡ record_of f (take (width_of f) (drop i s))
-    → so_far f t s i o end l ≡ so_far f t s (i + width_of f) (o + width_of t) end (placed l o (width_of t) (record_number t r.address r.value))
+pub so_far_step : (f t : Form) {s : List ℕ} (b m : List ℕ) {r : Rec} → s ≡ b ++ m → length b ≡ width_of f → r ≡ record_of f b
+    → (l : List ℕ) (o end : ℕ) → o ≤ length l → o + width_of t ≤ end
+    → so_far f t s o end l ≡ so_far f t m (o + width_of t) end (placed l o (width_of t) (record_number t r.address r.value))
 unfolding bytes_by record_bytes
-so_far_step f t s l i o end h k m {r} e =
+so_far_step f t b m {r} p n e l o end k h =
     rw (
-      turn f s i h e,
+      turn f b m p n e,
       placed_take l o (width_of t) (record_number t r.address r.value) k,
-      placed_drop l o (width_of t) (record_number t r.address r.value) end k m,
+      placed_drop l o (width_of t) (record_number t r.address r.value) end k h,
     )
     (simp append_assoc)
 
-pub so_far_end : (f t : Form) (s l : List ℕ) (i o end : ℕ) → length s - i < width_of f → o ≡ end → so_far f t s i o end l ≡ l
+pub so_far_end : (f t : Form) (s l : List ℕ) (o end : ℕ) → length s < width_of f → o ≡ end → so_far f t s o end l ≡ l
 unfolding bytes_by
-so_far_end f t s l i o end h e = rw (records_end f s i h, e, append-nil (take end l)) (take-append-drop end l)
+so_far_end f t s l o end h e = rw (records_none f s h, e, append-nil (take end l)) (take-append-drop end l)
 
 -- Undamaged, and every address below an end: sound for a save of that length.
 exchange : (m s l u b : Bool) → ((m && (s && l)) && (u && b)) ≡ (((m && s) && u) && (l && b))

@@ -3,14 +3,15 @@
 use mathlib.Core.Bool.{Bool, true, false, ◌&&◌}
 use mathlib.Core.Logic.{◌⊎◌, inl, inr}
 use mathlib.Core.Path.{◌≡◌, refl, ap, sym, ◌∙◌}
-use mathlib.Core.List.{List, [], ◌∷◌, ◌++◌, append_assoc, append-nil}
+use mathlib.Core.List.{List, [], ◌∷◌, ◌++◌, append_assoc}
 use Prim.Native.Nat.{ℕ, zero, suc, ◌+◌, ◌-◌, ◌*◌, ◌/◌, ◌%◌, ◌≤◌, ◌<◌}
 use native.Mathlib.Decide.{dec_lt}
 use native.Mathlib.Omega.{arith}
 use lib.Arith.{digits_div, digits_mod}
 use lib.Dec.{eqb}
-use lib.ListN.{length, get_or, take, drop, set, length-append, length-drop, length-set, take-append-drop}
-use lib.Seq.{drop-cons, drop-drop, take-set-le, drop-set-lt, get_or-set_same}
+use lib.ListN.{length, get_or, take, drop, set, length-append, length-drop}
+use Rattle.std.specs.Int.{from_be_bytes, to_be_bytes, w32}
+use lib.Seq.{take_at, drop_at, drop-drop, length-take-le}
 use borrow.Author.Tests.{lt-ltb, ltb-true, ne_eqb}
 use Rattle.rules.proofs.Tests.{both_true}
 use Rattle.savelog.specs.Log.{Form, Three, Four, Rec, address_end, width_of, end_of, spare_of, bytes_of, number_from, record_number, record_bytes, fields_of, record_of, stored, first_records, records_by, sound_record, all_sound, apply_all, one_of, save_lengths, save_limit}
@@ -20,56 +21,41 @@ abbrev pub bytes_end : ℕ → ℕ
 bytes_end zero = 1
 bytes_end (suc k) = bytes_end k * 256
 
-pub end_grows : (n j b : ℕ) → n < bytes_end j → b < 256 → n * 256 + b < bytes_end (j + 1)
-end_grows n j b h k = let e : j + 1 ≡ suc j = omega arith in rw e (omega arith)
-
-pub end_fits : (n j : ℕ) → n < bytes_end j → j < 4 → n < 16777216
-end_fits n zero h k = omega arith
-end_fits n (suc zero) h k = omega arith
-end_fits n (suc (suc zero)) h k = omega arith
-end_fits n (suc (suc (suc zero))) h k = omega arith
-end_fits n (suc (suc (suc (suc j)))) h k = absurd (omega arith)
-
--- one byte more, and none
-pub number_step : (l : List ℕ) (i j k n : ℕ) → j < k → i + j < length l
-    → number_from n (take (k - j) (drop (i + j) l)) ≡ number_from (n * 256 + get_or l (i + j) 0) (take (k - (j + 1)) (drop (i + (j + 1)) l))
+-- the number that a record's bytes make
+pub three_bytes : (l : List ℕ) → length l ≡ 3 → from_be_bytes w32 (0 ∷ get_or l 0 0 ∷ get_or l 1 0 ∷ get_or l 2 0 ∷ []) ≡ number_from 0 l
 unfolding number_from
-number_step l i j k n h m =
-    let e : k - j ≡ suc (k - (j + 1)) = omega arith in
-    let f : suc (i + j) ≡ i + (j + 1) = omega arith in
-    rw (drop-cons l (i + j) 0 m, e, f)
+three_bytes (a ∷ b ∷ d ∷ []) e = omega arith
+three_bytes l e = absurd (omega arith)
 
-pub number_end : (l : List ℕ) (i j k n : ℕ) → k ≤ j → number_from n (take (k - j) (drop (i + j) l)) ≡ n
+pub four_bytes : (l : List ℕ) → length l ≡ 4 → from_be_bytes w32 (get_or l 0 0 ∷ get_or l 1 0 ∷ get_or l 2 0 ∷ get_or l 3 0 ∷ []) ≡ number_from 0 l
 unfolding number_from
-number_end l i j k n h = let e : k - j ≡ 0 = omega arith in rw e
+four_bytes (a ∷ b ∷ d ∷ f ∷ []) e = omega arith
+four_bytes l e = absurd (omega arith)
 
--- a number's bytes in their place: one store more, and none
+-- a number's bytes are the last of its four
+pub last_bytes : (k n : ℕ) → k ≤ 4 → drop (4 - k) (to_be_bytes w32 n) ≡ bytes_of k n
+unfolding bytes_of
+last_bytes zero n h = refl
+last_bytes (suc zero) n h = refl
+last_bytes (suc (suc zero)) n h = refl
+last_bytes (suc (suc (suc zero))) n h = let e : n / 256 / 256 ≡ n / 65536 = omega arith in rw e
+last_bytes (suc (suc (suc (suc zero)))) n h =
+    let e : n / 256 / 256 ≡ n / 65536 = omega arith in
+    let f : n / 65536 / 256 ≡ n / 16777216 = omega arith in
+    rw (e, f)
+last_bytes (suc (suc (suc (suc (suc k))))) n h = absurd (omega arith)
+
+-- a number's bytes in their place
 abbrev pub placed : List ℕ → ℕ → ℕ → ℕ → List ℕ
 placed l i k n = take i l ++ bytes_of k n ++ drop (i + k) l
 
-pub placed_step : (l : List ℕ) (i j n : ℕ) → 0 < j → i + j ≤ length l → placed l i j n ≡ placed (set l (i + (j - 1)) (n % 256)) i (j - 1) (n / 256)
-unfolding bytes_of
-placed_step l i zero n h m = absurd (omega arith)
-placed_step l i (suc j) n h m =
-    let e : suc j - 1 ≡ j = omega arith in
-    let f : i + suc j ≡ suc (i + j) = omega arith in
-    let g : i + j < length (set l (i + j) (n % 256)) = rw length-set (omega arith) in
-    rw (
-      e,
-      f,
-      take-set-le i l (i + j) (n % 256) (omega arith),
-      drop-cons (set l (i + j) (n % 256)) (i + j) 0 g,
-      get_or-set_same l (i + j) (n % 256) 0 (omega arith),
-      drop-set-lt (suc (i + j)) l (i + j) (n % 256) (omega arith),
-    )
-    (simp append_assoc)
-
-pub placed_end : (l : List ℕ) (i j n : ℕ) → j ≤ 0 → placed l i j n ≡ l
-unfolding bytes_of
-placed_end l i j n h =
-    let e : j ≡ 0 = omega arith in
-    let f : i + 0 ≡ i = omega arith in
-    rw (e, f, append-nil (take i l)) (take-append-drop i l)
+pub put_place : (l : List ℕ) (o w n : ℕ) {p : List ℕ} → o + w ≤ length l → p ≡ bytes_of (length (take (o + w - o) (drop o l))) n
+    → take o l ++ (p ++ drop (o + w - o) (drop o l)) ≡ placed l o w n
+put_place l o w n {p} h e =
+    let k : o + w - o ≡ w = omega arith in
+    let j : length (take w (drop o l)) ≡ w = length-take-le w (drop o l) (rw length-drop (omega (arith, h))) in
+    let q : p ≡ bytes_of w n = rw (k, j) at e in
+    rw (k, q, drop-drop w o l) (sym (append_assoc (take o l) (bytes_of w n) (drop (o + w) l)))
 
 pub length_bytes : (k n : ℕ) → length (bytes_of k n) ≡ k
 unfolding bytes_of
@@ -128,6 +114,10 @@ pub some_width : (f : Form) → 0 < width_of f
 some_width Three = omega arith
 some_width Four = omega arith
 
+pub width_most : (f : Form) → width_of f ≤ 4
+width_most Three = omega arith
+width_most Four = omega arith
+
 -- how many whole records there are: one more with one more, none in less than one
 pub wholes_more : (f : Form) (n : ℕ) → width_of f ≤ n → n / width_of f ≡ suc ((n - width_of f) / width_of f)
 wholes_more Three n h = omega arith
@@ -158,41 +148,46 @@ records_step f l i h =
 pub records_end : (f : Form) (l : List ℕ) (i : ℕ) → length l - i < width_of f → records_by f (drop i l) ≡ []
 records_end f l i h = records_none f (drop i l) (rw length-drop h)
 
-pub all_sound_end : (f : Form) (ram : ℕ) (l : List ℕ) (i : ℕ) → length l - i < width_of f → all_sound ram (records_by f (drop i l)) ≡ true
-unfolding all_sound
-all_sound_end f ram l i h = ap (all_sound ram) (records_end f l i h)
+-- a log that goes on after its first record
+module _ (f : Form) {r : Rec} {l : List ℕ} (b m : List ℕ) (s : l ≡ b ++ m) (n : length b ≡ width_of f) (e : r ≡ record_of f b) where
+  pub turn : records_by f l ≡ r ∷ records_by f m
+  turn =
+      let h : width_of f ≤ length (b ++ m) = rw length-append (omega (arith, n)) in
+      ap (records_by f) s
+      ∙ records_cons f (b ++ m) h
+      ∙ rw (take_at b m (width_of f) n, drop_at b m (width_of f) n, e)
 
-pub apply_all_end : (f : Form) (s l : List ℕ) (i : ℕ) → length l - i < width_of f → apply_all s (records_by f (drop i l)) ≡ s
-unfolding apply_all
-apply_all_end f s l i h = ap (apply_all s) (records_end f l i h)
-
--- one turn over the record at i
-module _ (f : Form) (l : List ℕ) (i : ℕ) (h : i + width_of f ≤ length l) {r : Rec} (e : r ≡ record_of f (take (width_of f) (drop i l))) where
-  pub turn : records_by f (drop i l) ≡ r ∷ records_by f (drop (i + width_of f) l)
-  turn = records_step f l i h ∙ ap (λ (q : Rec). q ∷ records_by f (drop (i + width_of f) l)) (sym e)
-
-  sound_turn : (ram : ℕ) → all_sound ram (records_by f (drop i l)) ≡ (sound_record ram r && all_sound ram (records_by f (drop (i + width_of f) l)))
+  sound_turn : (ram : ℕ) → all_sound ram (records_by f l) ≡ (sound_record ram r && all_sound ram (records_by f m))
   unfolding all_sound
   sound_turn ram = ap (all_sound ram) turn
 
   -- the test stops at a damaged record, and goes on past a sound one
-  pub stops : (ram : ℕ) {t : Bool} → t ≡ sound_record ram r → t ≡ false → false ≡ all_sound ram (records_by f (drop i l))
+  pub stops : (ram : ℕ) {t : Bool} → t ≡ sound_record ram r → t ≡ false → false ≡ all_sound ram (records_by f l)
   stops ram q n = rw (sound_turn ram, ← q, n)
 
-  pub goes : (ram : ℕ) {t : Bool} → t ≡ sound_record ram r → t ≡ true → all_sound ram (records_by f (drop i l)) ≡ all_sound ram (records_by f (drop (i + width_of f) l))
+  pub goes : (ram : ℕ) {t : Bool} → t ≡ sound_record ram r → t ≡ true → all_sound ram (records_by f l) ≡ all_sound ram (records_by f m)
   goes ram q n = rw (sound_turn ram, ← q, n)
 
   -- one record of a sound log: its address is in the save, and the rest is sound
-  pub sound_next : (ram : ℕ) → all_sound ram (records_by f (drop i l)) ≡ true → (r.address < ram) × (all_sound ram (records_by f (drop (i + width_of f) l)) ≡ true)
+  pub sound_next : (ram : ℕ) → all_sound ram (records_by f l) ≡ true → (r.address < ram) × (all_sound ram (records_by f m) ≡ true)
   sound_next ram q =
       let t = both_true (sound_record ram r) _ (sym (sound_turn ram) ∙ q) in
       let u = both_true (eqb r.mark 1) _ t.0 in
       let w = both_true (eqb r.spare 0) _ u.1 in
       (ltb-true _ ram w.1, t.1)
 
-  pub applied : (s : List ℕ) → apply_all s (records_by f (drop i l)) ≡ apply_all (set s r.address r.value) (records_by f (drop (i + width_of f) l))
+  pub applied : (s : List ℕ) → apply_all s (records_by f l) ≡ apply_all (set s r.address r.value) (records_by f m)
   unfolding apply_all
   applied s = ap (apply_all s) turn
+
+-- and one that doesn't
+pub all_sound_end : (f : Form) (ram : ℕ) (l : List ℕ) → length l < width_of f → all_sound ram (records_by f l) ≡ true
+unfolding all_sound
+all_sound_end f ram l h = ap (all_sound ram) (records_none f l h)
+
+pub apply_all_end : (f : Form) (s l : List ℕ) → length l < width_of f → apply_all s (records_by f l) ≡ s
+unfolding apply_all
+apply_all_end f s l h = ap (apply_all s) (records_none f l h)
 
 -- a `match` on the lengths, as the list of them has it
 pub one_of_law : (n : ℕ) → (n ≡ 0) ⊎ ((n ≡ 512) ⊎ ((n ≡ 8192) ⊎ ((n ≡ 32768) ⊎ (n ≡ save_limit)))) → one_of n save_lengths ≡ true

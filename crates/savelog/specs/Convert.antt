@@ -1,7 +1,9 @@
 -- The converters (document 02, wish 3: "Players have old logs, so we need a converter to the new form and one back"): from one form of a record to the other.
-use Rattle.std.specs.Prelude.{Bool, true, cond, ◌&&◌, List, [], ◌∷◌, ◌++◌, ◌≡◌, ℕ, ◌*◌, ◌/◌, leb, ltb, eqb, length, drop}
+use Rattle.std.specs.Prelude.{Bool, true, cond, ◌&&◌, List, [], ◌∷◌, ◌++◌, ◌≡◌, ℕ, Result, ◌*◌, ◌/◌, leb, ltb, eqb, length, drop}
 use Rattle.numbers.specs.Numbers.{done, wrong_length, damaged}
-use Rattle.savelog.specs.declared.convert.Converted.{Converted}
+use Rattle.numbers.specs.Refusal.{number_given}
+use Rattle.numbers.specs.declared.Refusal.{Refusal}
+use Rattle.std.specs.Result.{result_unwrap_or}
 use Rattle.savelog.specs.Log.{Form, Three, Rec, width_of, end_of, log_limit, record_bytes, records_by, all_sound, apply_all, one_of, Outcome, outcome}
 
 -- A record is damaged by its own bits: "which tests no RAM length".
@@ -47,6 +49,14 @@ conversion from to source target =
     (converted damaged 0 target))
     (converted damaged 0 target))
     (converted wrong_length 0 target)
+
+-- Document 01's number and value for each case of a converter's answer: how many bytes of the target are the new log; a refusal gives 0
+pub record Converted : Type 0 where
+  pub number : ℕ
+  pub len : ℕ
+
+abbrev pub converted_of : Result ℕ Refusal → Converted
+converted_of r = record { number = number_given r; len = result_unwrap_or r 0 }
 
 -- what is promised of a converter: of its result, and of the target as it leaves that
 abbrev pub Converts : Form → Form → List ℕ → List ℕ → Converted → List ℕ → Type 0

@@ -1,9 +1,10 @@
 -- What is promised of the converters beside their contracts: document 02, wish 3, sentence by sentence. `converters_hold` has these as its contract.
-use Rattle.std.specs.Prelude.{true, ◌≡◌, List, [], ◌∷◌, ◌++◌, ℕ, ◌*◌, ◌/◌, ◌≤◌, ◌<◌, length, take, drop}
+use Rattle.std.specs.Prelude.{true, ◌≡◌, List, [], ◌∷◌, ◌++◌, ℕ, Result, ◌*◌, ◌/◌, ◌≤◌, ◌<◌, length, take, drop}
 use Rattle.numbers.specs.Numbers.{done}
 use Rattle.numbers.specs.One.{OnlyOne}
+use Rattle.numbers.specs.declared.Refusal.{Refusal}
 use Rattle.savelog.specs.Log.{Form, Three, Four, width_of, log_limit, save_limit, records_by, recovery}
-use Rattle.savelog.specs.Convert.{undamaged, below, length_by, converted, conversion, Converts, old_recovery}
+use Rattle.savelog.specs.Convert.{undamaged, below, length_by, converted, conversion, Converts, converted_of, old_recovery}
 
 -- a log's bytes are bytes
 pub data Bytes : List ℕ → Type 0 where
@@ -81,3 +82,7 @@ RecoversAsBefore =
 -- no second outcome fits
 abbrev pub OneConversion : Type 0
 OneConversion = (f t : Form) (log target : List ℕ) → OnlyOne (Converts f t log target)
+
+-- nor a second answer, as the converters give it
+abbrev pub OneConverted : Type 0
+OneConverted = (f t : Form) (log target : List ℕ) → OnlyOne (λ (r : Result ℕ Refusal). Converts f t log target (converted_of r))

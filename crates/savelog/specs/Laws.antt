@@ -1,7 +1,9 @@
 -- What is promised of the save log beside the contracts of its calls: `laws_hold` has these as its contract.
-use Rattle.std.specs.Prelude.{true, ◌≡◌, List, [], ◌∷◌, ◌++◌, ℕ, ◌+◌, ◌*◌, ◌/◌, ◌%◌, ◌≤◌, ◌<◌, length, take}
+use Rattle.std.specs.Prelude.{true, ◌≡◌, List, [], ◌∷◌, ◌++◌, ℕ, Result, ◌+◌, ◌*◌, ◌/◌, ◌%◌, ◌≤◌, ◌<◌, length, take}
 use Rattle.numbers.specs.Numbers.{done}
 use Rattle.numbers.specs.One.{OnlyOne}
+use Rattle.numbers.specs.Refusal.{number_given}
+use Rattle.numbers.specs.declared.Refusal.{Refusal}
 use Rattle.savelog.specs.Log.{Four, width, address_end, record_bytes, stored, records, all_sound, apply_all, save_lengths, log_limit, one_of, outcome, recovery, Recovers, appended, Appends, recover_all, joined, cut_copies}
 
 -- Document 01, corner 12, as document 02 has it: address 1234, value 56 gives the bytes 84 8D 15 80.
@@ -53,6 +55,10 @@ CopiesLaw =
 -- no second outcome fits
 abbrev pub OneRecovery : Type 0
 OneRecovery = (save log : List ℕ) → OnlyOne (Recovers save log)
+
+-- nor a second answer, as `recover` gives it
+abbrev pub OneRecovered : Type 0
+OneRecovered = (save log : List ℕ) → OnlyOne (λ (r : Result (Unit {0}) Refusal). Recovers save log (number_given r))
 
 abbrev pub OneAppend : Type 0
 OneAppend = (log : List ℕ) (used address value : ℕ) → OnlyOne (Appends log used address value)

@@ -3,9 +3,8 @@ use Rattle.std.specs.Prelude.{ℕ}
 use Rattle.lcd.specs.declared.Lcd.{Lcd}
 use Rattle.lcd.specs.Lcd.{screen_enabled, screen_disabled, window_line_reset, ly_compared, scanline_written, lyc_written, control_written, status_written}
 use Rattle.memory.specs.declared.Memory.{Memory}
-use Rattle.refusals.specs.Answers.{changed}
+use Rattle.refusals.specs.Answers.{Done, changed}
 use Rattle.refusals.specs.Refusal.{refused_state}
-use Rattle.refusals.specs.declared.Done.{Done}
 use Rattle.registers.specs.State.{on_screen, hosted}
 
 abbrev pub control_call : Memory → ℕ → Done

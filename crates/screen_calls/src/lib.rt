@@ -2,99 +2,76 @@
 #![tactic(auto)]
 
 ghost use Rattle.std.specs.Prelude.{◌≡◌};
+ghost use Rattle.refusals.specs.Answers.{done_of};
 ghost use Rattle.screen_calls.specs.Screen.{control_call, status_call, scanline_call, lyc_call, compare_call, enable_call, disable_call, window_call, host_call};
 
 use lcd::Lcd;
 use memory::Memory;
-use refusals::Done;
+use numbers::Refusal;
 
-pub fn do_lcd_control_write(memory: Memory, value: u8) -> Done
-    ensures { result ≡ control_call memory value }
+pub fn do_lcd_control_write(memory: Memory, value: u8) -> Result<Memory, Refusal>
+    ensures { done_of memory result ≡ control_call memory value }
 {
-    refusals::changed(
-        refusals::refused(memory),
+    refusals::on_state(
         memory,
-        registers::screen::do_lcd_control_write(memory, value),
+        |memory| registers::screen::do_lcd_control_write(memory, value),
     )
 }
 
-pub fn do_lcd_status_write(memory: Memory, value: u8) -> Done
-    ensures { result ≡ status_call memory value }
+pub fn do_lcd_status_write(memory: Memory, value: u8) -> Result<Memory, Refusal>
+    ensures { done_of memory result ≡ status_call memory value }
 {
-    refusals::changed(
-        refusals::refused(memory),
+    refusals::on_state(
         memory,
-        registers::screen::do_lcd_status_write(memory, value),
+        |memory| registers::screen::do_lcd_status_write(memory, value),
     )
 }
 
-pub fn do_scanline_write(memory: Memory, value: u8) -> Done
-    ensures { result ≡ scanline_call memory value }
+pub fn do_scanline_write(memory: Memory, value: u8) -> Result<Memory, Refusal>
+    ensures { done_of memory result ≡ scanline_call memory value }
 {
-    refusals::changed(
-        refusals::refused(memory),
+    refusals::on_state(
         memory,
-        registers::screen::do_scanline_write(memory, value),
+        |memory| registers::screen::do_scanline_write(memory, value),
     )
 }
 
-pub fn do_lyc_write(memory: Memory, value: u8) -> Done
-    ensures { result ≡ lyc_call memory value }
+pub fn do_lyc_write(memory: Memory, value: u8) -> Result<Memory, Refusal>
+    ensures { done_of memory result ≡ lyc_call memory value }
 {
-    refusals::changed(
-        refusals::refused(memory),
+    refusals::on_state(
         memory,
-        registers::screen::do_lyc_write(memory, value),
+        |memory| registers::screen::do_lyc_write(memory, value),
     )
 }
 
-pub fn compare_ly_to_lyc(memory: Memory) -> Done
-    ensures { result ≡ compare_call memory }
+pub fn compare_ly_to_lyc(memory: Memory) -> Result<Memory, Refusal>
+    ensures { done_of memory result ≡ compare_call memory }
 {
-    refusals::changed(
-        refusals::refused(memory),
-        memory,
-        registers::screen::compare_ly_to_lyc(memory),
-    )
+    refusals::on_state(memory, registers::screen::compare_ly_to_lyc)
 }
 
-pub fn enable_screen(memory: Memory) -> Done
-    ensures { result ≡ enable_call memory }
+pub fn enable_screen(memory: Memory) -> Result<Memory, Refusal>
+    ensures { done_of memory result ≡ enable_call memory }
 {
-    refusals::changed(
-        refusals::refused(memory),
-        memory,
-        registers::screen::enable_screen(memory),
-    )
+    refusals::on_state(memory, registers::screen::enable_screen)
 }
 
-pub fn disable_screen(memory: Memory) -> Done
-    ensures { result ≡ disable_call memory }
+pub fn disable_screen(memory: Memory) -> Result<Memory, Refusal>
+    ensures { done_of memory result ≡ disable_call memory }
 {
-    refusals::changed(
-        refusals::refused(memory),
-        memory,
-        registers::screen::disable_screen(memory),
-    )
+    refusals::on_state(memory, registers::screen::disable_screen)
 }
 
-pub fn reset_window_line(memory: Memory) -> Done
-    ensures { result ≡ window_call memory }
+pub fn reset_window_line(memory: Memory) -> Result<Memory, Refusal>
+    ensures { done_of memory result ≡ window_call memory }
 {
-    refusals::changed(
-        refusals::refused(memory),
-        memory,
-        registers::screen::reset_window_line(memory),
-    )
+    refusals::on_state(memory, registers::screen::reset_window_line)
 }
 
 // The host sets the eight numbers of the screen, to any values.
-pub fn host(memory: Memory, lcd: Lcd) -> Done
-    ensures { result ≡ host_call memory lcd }
+pub fn host(memory: Memory, lcd: Lcd) -> Result<Memory, Refusal>
+    ensures { done_of memory result ≡ host_call memory lcd }
 {
-    refusals::changed(
-        refusals::refused(memory),
-        memory,
-        registers::screen::host(memory, lcd),
-    )
+    refusals::on_state(memory, |memory| registers::screen::host(memory, lcd))
 }

@@ -19,12 +19,10 @@ pub fn vram_bank(value: u8) -> u8
 }
 
 // The bank of work memory that FF70 selects: 0 selects 1.
+#[tactic(auto, unfolding(crate::specs::PanDocs::wram_bank_of))]
 pub fn wram_bank(value: u8) -> u8
     ensures { result ≡ wram_bank_of value }
 {
     let bank = value % 8;
-    if bank == 0 {
-        return 1;
-    }
-    bank
+    bank.max(1)
 }

@@ -1,19 +1,13 @@
 -- Raw load and store, interrupts, HDMA's flag, the log's clearing, each whole: number, answer, next state (document 01, "Numbers a call gives back").
-use Rattle.std.specs.Prelude.{ℕ, ◌%◌}
+use Rattle.std.specs.Prelude.{ℕ, ◌%◌, Option, Some, None}
 use Rattle.interrupt.specs.PanDocs.{first_of}
 use Rattle.interrupt.specs.Flags.{named}
 use Rattle.interrupt.specs.declared.Interrupt.{Interrupt}
-use Rattle.interrupt.specs.declared.Pending.{Pending}
-use Rattle.interrupt.specs.declared.Pending.TheVariants.{Some, None}
 use Rattle.memory.specs.World.{with_used}
 use Rattle.memory.specs.declared.Memory.{Memory}
 use Rattle.numbers.specs.Numbers.{outside}
-use Rattle.refusals.specs.Answers.{changed, byte_given, flag_given, waiting_given}
+use Rattle.refusals.specs.Answers.{Byte, Done, Flag, Waiting, changed, byte_given, flag_given, waiting_given}
 use Rattle.refusals.specs.Refusal.{or_else, refused_state, raw_refused}
-use Rattle.refusals.specs.declared.Byte.{Byte}
-use Rattle.refusals.specs.declared.Done.{Done}
-use Rattle.refusals.specs.declared.Flag.{Flag}
-use Rattle.refusals.specs.declared.Waiting.{Waiting}
 use Rattle.registers.specs.State.{loaded, stored, requested_in, removed_in}
 use Rattle.savelog.specs.Log.{cleared_use}
 
@@ -28,7 +22,7 @@ abbrev pub get_interrupts_call : Memory → Waiting
 get_interrupts_call m = waiting_given (refused_state m) (first_of (loaded m 0xFF) (loaded m 0x0F))
 
 -- 3, then 7 for an interrupt over 4
-abbrev pub on_interrupt : Memory → (Memory → Interrupt → Memory) → Pending → Done
+abbrev pub on_interrupt : Memory → (Memory → Interrupt → Memory) → Option Interrupt → Done
 on_interrupt m f (Some i) = changed (refused_state m) m (f m i)
 on_interrupt m f None = changed (or_else (refused_state m) outside) m m
 

@@ -1,12 +1,12 @@
 -- A byte read on the image itself: it is in a lent memory or in the image. And the number: the image's or, of an image that is taken, the lengths'.
 use mathlib.Core.Bool.{Bool, true, cond}
 use mathlib.Core.Logic.{◌⊎◌, inl, inr}
-use mathlib.Core.List.{List, [], ◌∷◌}
+use mathlib.Core.List.{List, []}
 use mathlib.Core.Path.{◌≡◌, refl, sym, ap, subst, ◌∙◌}
 use Prim.Native.Nat.{ℕ, ◌+◌, ◌*◌, ◌-◌, ◌<◌, ◌≤◌}
 use native.Mathlib.Omega.{arith}
 use lib.ListN.{length, get_or}
-use borrow.Author.Tests.{eq-eqb, ne_eqb}
+use borrow.Author.Tests.{eq-eqb}
 use Rattle.image.proofs.FieldLaws.{fields_in}
 use Rattle.image.proofs.GroupPatches.{loaded_core}
 use Rattle.image.proofs.LoadLaws.{surely_loads}
@@ -44,10 +44,6 @@ use Rattle.take_bytes.specs.Bytes.{Lent, Others, Reached, Near}
 module _ (i : List ℕ) {n : ℕ} (e : n ≡ (load_call i).number) (rom vram wram save sound : ℕ) where
   abbrev Number : ℕ → Type 0
   Number k = k ≡ or_else (load_call i).number (read_refused (load_call i).state rom vram wram save sound)
-
-  pub number_closed : (n ≡ 0 → ⊥) → Number n
-  unfolding or_else
-  number_closed h = e ∙ rw (ne_eqb (load_call i).number 0 (λ z. h (e ∙ z)))
 
   pub number_lengths : n ≡ 0 → Below 256 i → {k : ℕ} → k ≡ lengths_refused (load_call i).state.core rom vram wram save sound → Number k
   unfolding or_else

@@ -1,9 +1,11 @@
 // A byte of an image and what is lent beside it. Of the state only what says where the byte is, is decoded; a byte of OAM or of the page is taken from the
-// image itself.
-#![tactic(auto)]
+// image itself. What is lent stays a parameter each, as in `mmu::write_byte`; that it fits
+// (`Ready`) is a clause: C lends slices of any length, which the calls refuse.
+#![tactic(auto, using(image::proofs::OpenLaws::load_length))]
 
 ghost use Rattle.std.specs.Prelude.{List, [], ◌≡◌, ℕ, ◌≤◌, length};
 ghost use Rattle.numbers.specs.Numbers.{done};
+ghost use Rattle.numbers.specs.Refusal.{number_given};
 ghost use Rattle.image.specs.Load.{load_call};
 ghost use Rattle.memory.specs.Ranges.{sound_len};
 ghost use Rattle.memory.specs.Region.{oam_start, region_of};
@@ -12,42 +14,57 @@ ghost use Rattle.mmu.specs.Access.{Ready, read_byte};
 ghost use Rattle.refusals.specs.Refusal.{or_else, lengths_refused, read_refused};
 ghost use Rattle.take_bytes.specs.Bytes.{Lent, Others, Reached, Near};
 
-use mbc::Mapper;
 use memory::Region;
+use numbers::Refusal;
+use refusals::Lengths;
 use registers::page::Part;
 
-// The lengths of what is lent, beside an image that is taken.
-pub fn lengths(image: &[u8], rom: usize, vram: usize, wram: usize, save: usize, sound: usize) -> u8
+// The lengths of what is lent, beside an image that is taken. They come one by one: as one value they go through memory, and some calls would miss their
+// budgets.
+pub fn lengths_taken(
+    image: &[u8],
+    rom: usize,
+    vram: usize,
+    wram: usize,
+    save: usize,
+    sound: usize,
+) -> Result<(), Refusal>
     requires { (load_call image.now).number ≡ done }
-    ensures { result ≡ lengths_refused (load_call image.now).state.core rom vram wram save sound }
+    ensures { number_given result ≡ lengths_refused (load_call image.now).state.core rom vram wram save sound }
 {
-    let banks = image::banks_at(image);
-    let cartridge = image::cartridge_at(image);
-    let mapper = Mapper::from_registers(image::registers_at(image));
-    if refusals::lengths_are(
-        banks.colour,
-        cartridge,
-        mapper,
+    let lens = Lengths {
         rom,
         vram,
         wram,
         save,
         sound,
+    };
+    let colour = image::banks_at(image).colour;
+    if refusals::lengths_are(
+        colour,
+        image::cartridge_at(image),
+        image::mapper_at(image),
+        lens,
     ) {
-        return numbers::DONE;
+        Ok(())
+    } else {
+        Err(Refusal::WrongLength)
     }
-    numbers::WRONG_LENGTH
 }
 
-// The image's number, then that of the lengths.
-pub fn number(image: &[u8], rom: usize, vram: usize, wram: usize, save: usize, sound: usize) -> u8
-    ensures { result ≡ or_else (load_call image.now).number (read_refused (load_call image.now).state rom vram wram save sound) }
+// What refuses the image, then what refuses the lengths, which come one by one as `lengths_taken` has them.
+pub fn taken(
+    image: &[u8],
+    rom: usize,
+    vram: usize,
+    wram: usize,
+    save: usize,
+    sound: usize,
+) -> Result<(), Refusal>
+    ensures { number_given result ≡ or_else (load_call image.now).number (read_refused (load_call image.now).state rom vram wram save sound) }
 {
-    let number = image::number(image);
-    if number != numbers::DONE {
-        return number;
-    }
-    lengths(image, rom, vram, wram, save, sound)
+    image::taken(image)?;
+    lengths_taken(image, rom, vram, wram, save, sound)
 }
 
 // A byte of the save, through the mapper, or of OAM or page: these are the first 512 bytes of an image, so FE00 is its first. Apart from `lent_at`, which
@@ -57,32 +74,25 @@ pub fn other_at(image: &[u8], save: &[u8], sound: &[u8], index: u16) -> u8
     ensures { (rom v w : List ℕ) → result ≡ read_byte (fixed rom sound.now) (load_call image.now).state v w save.now index }
 {
     match memory::region_of(index) {
-        Region::Oam => {
-            let i = (index - memory::OAM_START) as usize;
-            image[i]
-        }
+        Region::Oam => image[(index - memory::OAM_START) as usize],
         Region::Page => {
-            let i = (index - memory::OAM_START) as usize;
-            let byte = image[i];
+            let byte = image[(index - memory::OAM_START) as usize];
             if memory::HRAM_START <= index {
                 return byte;
             }
-            let banks = image::banks_at(image);
-            let line = registers::page::read_line(image::lcd_at(image));
             let joypad = image::joypad_at(image);
             registers::page::shown(
                 byte,
-                banks.colour,
-                line,
+                image::banks_at(image).colour,
+                registers::page::read_line(image::lcd_at(image)),
                 joypad.state,
                 sound,
                 (index - memory::PAGE_START) as u8,
             )
         }
         _ => {
-            let cartridge = image::cartridge_at(image);
             let registers = image::registers_at(image);
-            registers.read_ram(cartridge, save, index)
+            registers.read_ram(image::cartridge_at(image), save, index)
         }
     }
 }
@@ -100,24 +110,17 @@ pub fn own_at(image: &[u8], sound: &[u8], index: u16) -> u8
     requires { (((load_call image.now).number ≡ done) × (sound_len ≤ length sound.now)) × (oam_start ≤ index) }
     ensures { (rom v w s : List ℕ) → result ≡ read_byte (fixed rom sound.now) (load_call image.now).state v w s index }
 {
-    let i = (index - memory::OAM_START) as usize;
-    let byte = image[i];
+    let byte = image[(index - memory::OAM_START) as usize];
     if index < memory::PAGE_START {
         return byte;
     }
     let at = (index - memory::PAGE_START) as u8;
     match registers::page::part_of(at) {
-        Part::Low => {
-            let joypad = image::joypad_at(image);
-            registers::page::shown_low(byte, joypad.state, at)
-        }
+        Part::Low => registers::page::shown_low(byte, image::joypad_at(image).state, at),
         Part::Sound => registers::page::shown_sound(sound, at),
         Part::Line => registers::page::read_line(image::lcd_at(image)),
         Part::Screen => registers::page::shown_screen(byte, at),
-        Part::Colour => {
-            let banks = image::banks_at(image);
-            registers::page::shown_colour(byte, banks.colour, at)
-        }
+        Part::Colour => registers::page::shown_colour(byte, image::banks_at(image).colour, at),
     }
 }
 
@@ -127,18 +130,9 @@ pub fn lent_at(image: &[u8], rom: &[u8], vram: &[u8], wram: &[u8], index: u16) -
     ensures { (s sound : List ℕ) → result ≡ read_byte (fixed rom.now sound) (load_call image.now).state vram.now wram.now s index }
 {
     match memory::region_of(index) {
-        Region::Rom => {
-            let registers = image::registers_at(image);
-            rom[mbc::rom_place(registers.rom, index)]
-        }
-        Region::Vram => {
-            let banks = image::banks_at(image);
-            mmu::regions::read_cgb_lcd_ram(vram, banks.vram, index)
-        }
-        _ => {
-            let banks = image::banks_at(image);
-            mmu::regions::read_cgb_wram(wram, banks.wram, index)
-        }
+        Region::Rom => rom[mbc::rom_place(image::registers_at(image).rom, index)],
+        Region::Vram => mmu::regions::read_cgb_lcd_ram(vram, image::banks_at(image).vram, index),
+        _ => mmu::regions::read_cgb_wram(wram, image::banks_at(image).wram, index),
     }
 }
 
@@ -161,6 +155,7 @@ pub fn byte_at(
 }
 
 // As `byte_at`, for who reads one byte: called from one place, where the compiler puts it. First what a game reads most.
+// Both stay: tried, a read of one byte by `byte_at` takes 16 instructions more of OAM and 15 to 21 of FF00, FF44 and FF69, over the budgets of these reads.
 pub fn one_at(
     image: &[u8],
     rom: &[u8],

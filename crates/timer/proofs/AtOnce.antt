@@ -69,11 +69,6 @@ module _ (k m : ℕ) where
       let e : suc (k % m) ≡ m = omega arith in
       rw add-one (suc-mod k m ∙ ap (λ (x : ℕ). x % m) e ∙ mod_self m)
 
-pub rem_byte : (k m : ℕ) → 0 < m → m ≤ 256 → k % m < 256
-rem_byte k m p h =
-    let l = mod-lt k p in
-    omega arith
-
 -- the closed form goes up as the steps do
 module _ (n : ℕ) (t : Timer) (ht : t.tima < 256) (hm : t.tma < 256) where
   abbrev left : ℕ

@@ -1,5 +1,5 @@
 -- Laws of the definitions, and the promises of specs/Promises.antt.
-use Rattle.std.proofs.Common.{◌≡◌, ℕ, zero, suc, ◌+◌, ◌*◌, ◌/◌, ◌%◌, ◌<◌, ◌≤◌, Bool, true, false, cond, ltb, leb, List, [], ◌∷◌, get_or, refl, ap, ◌∙◌, add-zero, add-suc, mod-lt, arith, ltb-true, le-ltb, lt-ltb, le-leb}
+use Rattle.std.proofs.Common.{◌≡◌, ℕ, zero, suc, ◌+◌, ◌%◌, ◌<◌, ◌≤◌, Bool, true, false, cond, ltb, leb, List, [], ◌∷◌, get_or, refl, ap, ◌∙◌, add-zero, add-suc, mod-lt, arith, ltb-true, le-ltb, lt-ltb, le-leb}
 use borrow.Author.Tests.{lt-leb}
 use Rattle.numbers.specs.Numbers.{done, out_of_range, too_many_cycles}
 use Rattle.bit_utils.specs.Bits.{is_set, set_bit}
@@ -9,7 +9,7 @@ use Rattle.timer.specs.PanDocs.{period, counting, with_tima, step_tima, steps}
 use Rattle.timer.specs.Timer.{with_rest, divided, counted, updated, timer_in_range, gives, update_call}
 use Rattle.timer.specs.Promises.{ClockRises, TmaTacStay, StepsCompose, Ready, StaysInRange, Corner2, Corner3, StepsAtNoCycles}
 use Rattle.timer.specs.declared.Timer.{Timer}
-use Rattle.timer.specs.declared.Updated.{Updated}
+use Rattle.timer.specs.Timer.{Updated}
 
 -- the code's table
 abbrev periods : List ℕ
@@ -36,11 +36,6 @@ in_bounds (suc (suc (suc (suc i)))) h = absurd (omega arith)
 
 pub period_bounds : (tac : ℕ) → (0 < period tac) × (period tac ≤ 1024)
 period_bounds tac = rw (table_period tac) at (in_bounds (tac % 4) (omega arith))
-
--- DIV after its steps, and what is left, are the clock's two parts
-pub clock_parts : (div rest c : ℕ) → rest < 256
-    → ((256 * div + rest + c) % 65536 / 256 ≡ (div + (rest + c) / 256) % 256) × ((256 * div + rest + c) % 65536 % 256 ≡ (rest + c) % 256)
-clock_parts div rest c h = (omega arith, omega arith)
 
 -- the call, case by case
 pub call_refused : (t : Timer) (c : ℕ) → 1024 ≤ t.tima_cycles → update_call t c ≡ gives out_of_range t

@@ -1,6 +1,8 @@
 -- What follows from the definitions: laws that callers lean on, and document 01's corners 2 and 3. `promises_hold` ties them to the check.
-use Rattle.std.specs.Prelude.{◌≡◌, ℕ, ◌+◌, ◌%◌, ◌<◌, ◌≤◌}
+use Rattle.std.specs.Prelude.{◌≡◌, ℕ, Result, ◌+◌, ◌%◌, ◌<◌, ◌≤◌}
 use Rattle.numbers.specs.One.{OnlyOne}
+use Rattle.numbers.specs.Refusal.{number_given}
+use Rattle.numbers.specs.declared.Refusal.{Refusal}
 use Rattle.interrupt.specs.Flags.{requested}
 use Rattle.interrupt.specs.declared.Interrupt.TheVariants as Interrupt
 use Rattle.timer.specs.PanDocs.{steps}
@@ -79,6 +81,10 @@ pub record StepsAtNoCycles : Type 0 where
 abbrev pub OneUpdate : Type 0
 OneUpdate = (t : Timer) (c : ℕ) → OnlyOne (Updates t c)
 
+-- nor a second answer, as `update_lent` gives it
+abbrev pub OneUpdated : Type 0
+OneUpdated = (t : Timer) (c : ℕ) → OnlyOne (λ (r : Result (Unit {0}) Refusal). Updates t c (number_given r))
+
 pub record Promises : Type 0 where
   pub clock_rises : ClockRises
   pub tma_tac_stay : TmaTacStay
@@ -91,3 +97,4 @@ pub record Promises : Type 0 where
   pub corner_3 : Corner3
   pub steps_at_no_cycles : StepsAtNoCycles
   pub one_update : OneUpdate
+  pub one_updated : OneUpdated

@@ -1,10 +1,12 @@
 -- The timer's update (document 01, "Timer and buttons"), its state range ("Numbers a call gives back") and the call with its refusals.
-use Rattle.std.specs.Prelude.{◌≡◌, ℕ, ◌+◌, ◌*◌, ◌/◌, ◌%◌, Bool, cond, nat_le, nat_lt}
+use Rattle.std.specs.Prelude.{Result, ◌≡◌, ℕ, ◌+◌, ◌*◌, ◌/◌, ◌%◌, Bool, cond, nat_le, nat_lt}
+use Rattle.std.specs.Result.{result_unwrap_or}
 use Rattle.numbers.specs.Numbers.{done, out_of_range, too_many_cycles}
+use Rattle.numbers.specs.Refusal.{number_given}
+use Rattle.numbers.specs.declared.Refusal.{Refusal}
 use Rattle.timer.specs.PanDocs.{period, counting, steps}
 use Rattle.timer.specs.declared.Divided.{Divided}
 use Rattle.timer.specs.declared.Timer.{Timer}
-use Rattle.timer.specs.declared.Updated.{Updated}
 
 -- 256 x DIV + div_cycles
 abbrev pub clock : Timer → ℕ
@@ -42,6 +44,14 @@ updated t c = counted (divided t c) c
 -- tima_cycles is 0..1023 (div_cycles is a byte)
 abbrev pub timer_in_range : Timer → Bool
 timer_in_range t = nat_lt t.tima_cycles 1024
+
+-- the number, and the timer after the call: a refusal leaves it as it was
+pub record Updated : Type 0 where
+  pub number : ℕ
+  pub timer : Timer
+
+abbrev pub updated_of : Timer → Result Timer Refusal → Updated
+updated_of t r = record { number = number_given r; timer = result_unwrap_or r t }
 
 -- what a call gives back
 abbrev pub gives : ℕ → Timer → Updated

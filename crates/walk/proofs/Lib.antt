@@ -1,3 +1,2 @@
-pub mod Digit
 pub mod Fresh
 pub mod Walking

@@ -2,27 +2,28 @@
 use mathlib.Core.Bool.{Bool, true, false, cond}
 use mathlib.Core.List.{List, [], ◌∷◌, ◌++◌, append_assoc, append-nil}
 use mathlib.Core.Logic.{inl, inr}
-use mathlib.Core.Path.{◌≡◌, refl, sym, ap, subst, ◌∙◌}
+use Rattle.std.proofs.Common.{Option, None, Result, Ok, Err, IsErrAnd}
+use mathlib.Core.Path.{◌≡◌, refl, sym, ap, ◌∙◌}
 use Prim.Native.Nat.{ℕ, ◌<◌}
 use native.Mathlib.Omega.{arith}
 use borrow.Author.Tests.{le-ltb, lt-ltb, ne_eqb}
 use lib.ListN.{length, take, length-append}
 use lib.Dec.{eqb}
+use lib.Seq.{take_all}
 use Rattle.rules.proofs.Tests.{untrue}
 use Rattle.commands.specs.Walk.{command_of, read_line, write_line, update_line, strange_text}
 use Rattle.commands.specs.declared.command.Command.{Command}
-use Rattle.commands.specs.declared.command.Command.TheVariants.{Strange}
-use Rattle.lines.specs.Reader.{lines_of, fed, pending, line_in, Finds, FoundAs}
+use Rattle.lines.specs.Reader.{lines_of, fed, pending, Step, line_in, FoundAs}
 use Rattle.lines.specs.declared.reader.Found.{Found}
 use Rattle.lines.specs.declared.reader.Found.TheVariants.{Line, Long, Read, End}
 use Rattle.lines.specs.declared.reader.Reader.{Reader}
-use Rattle.lines.specs.declared.reader.Step.{Step}
 use Rattle.lines.proofs.Reading.{lines_cut, lines_before, before}
 use Rattle.memory.specs.World.{World, Fixed, world}
 use Rattle.memory.specs.declared.Memory.{Memory}
 use Rattle.walk.specs.Line.{Walked, walked, walked_by, line_walked}
+use Rattle.walk.specs.declared.Ending.{Ending}
 use Rattle.walk.specs.Walk.{after, walk_lines, one_line, long_first, onward, Place, place, ahead, Goes, Over}
-use Rattle.walk.specs.Walk.{onto, place_by, does_go_on, ByReader, Stepped, Shown, Ran, Whole}
+use Rattle.walk.specs.Walk.{place_by, does_go_on, ByReader, Stepped, Shown, Ran, Whole}
 
 -- Texts
 
@@ -31,11 +32,11 @@ after_after t u a = ap (λ (l : List ℕ). walked l a.after) (sym (append_assoc 
 
 -- A line of more than twelve characters has no known form
 
-either : (b : Bool) (x : Command) → cond b x x ≡ x
+either : (b : Bool) (x : Option Command) → cond b x x ≡ x
 either true x = refl
 either false x = refl
 
-pub too_long : (s : List ℕ) → 12 < length s → command_of s ≡ Strange
+pub too_long : (s : List ℕ) → 12 < length s → command_of s ≡ None
 unfolding command_of read_line write_line update_line
 too_long s h =
     rw (
@@ -43,10 +44,10 @@ too_long s h =
       ne_eqb (length s) 9 (λ (e : length s ≡ 9). omega arith),
       le-ltb (length s) 3 (omega arith),
       lt-ltb 12 (length s) h,
-      either (eqb _ 84) Strange,
-      either (eqb _ 87) Strange,
-      either (eqb _ 82) Strange,
-      either (eqb _ 32) Strange,
+      either (eqb _ 84) None,
+      either (eqb _ 87) None,
+      either (eqb _ 82) None,
+      either (eqb _ 32) None,
     )
 
 long_line : (x : Fixed) (w : World) (s : List ℕ) → 12 < length s → line_walked x w s ≡ walked strange_text w
@@ -189,24 +190,16 @@ walked_whole x w printed q g o =
       all = g.same [] (λ k. refl) ∙ rw (o.1.0, o.1.1);
     }
 
--- A line's text is put behind what waits
-
-pub line_said : (t : List ℕ) {t' u : List ℕ} {w : World} {a : Walked} → walked u w ≡ a → t' ≡ t ++ u → walked t' w ≡ after t a
-line_said t e f = rw (f, ← e)
-
-pub walked_same : {t u : List ℕ} {m n : Memory} (v w s l : List ℕ) → t ≡ u → m ≡ n → walked t (world m v w s l) ≡ walked u (world n v w s l)
-walked_same v w s l e f = rw (e, f)
-
 -- A step of the reader
 
 module _ (x : Fixed) (w : World) (t : List ℕ) (long : Bool) (p : List ℕ) (m : Bool) (bytes : List ℕ) (s : Step) where
   -- what it found leads on
   goes_by : (f : Found) → FoundAs f p m bytes s → 12 < length bytes
       → Goes x [] (place w t long p m) (place_by f x (place w t long p m) bytes s)
-  goes_by Line (inl c) h =
+  goes_by (Line from to) (inl c) h =
       let a = after t (one_line x w long (line_in bytes s)) in
       rw c.stays (goes_line x w t long (line_in bytes s) p (pending bytes s.next) a.text a.after m c.cut c.clear refl)
-  goes_by Line (inr c) h =
+  goes_by (Line from to) (inr c) h =
       let a = after t (one_line x w long (line_in bytes s)) in
       rw (c.ended, c.stays)
       (goes_last x w t long p (pending bytes s.next) a.text a.after c.clear c.some c.none
@@ -220,47 +213,10 @@ module _ (x : Fixed) (w : World) (t : List ℕ) (long : Bool) (p : List ℕ) (m 
 
   -- it ends the walk at the input's end alone
   over_by : (f : Found) → FoundAs f p m bytes s → does_go_on f ≡ false → Over (place_by f x (place w t long p m) bytes s)
-  over_by Line c e = untrue (sym e)
+  over_by (Line from to) c e = untrue (sym e)
   over_by Long c e = untrue (sym e)
   over_by Read c e = untrue (sym e)
   over_by End c e = (c.stays, (refl, c.none))
-
-  -- a step by what the reader found
-  module _ (found : Finds p m bytes s) (lost : Bool) (kept : lost ≡ false) where
-    stepped : (f : Found) (q : Place) → s.found ≡ f → q ≡ place_by f x (place w t long p m) bytes s
-        → Stepped x lost (place w t long p m) bytes (does_go_on f) false q
-    stepped f q e g =
-        record {
-          told = sym kept;
-          stops = λ l. untrue (sym kept ∙ l);
-          reads = λ _.
-              record {
-                step = s;
-                finds = found;
-                on = ap does_go_on (sym e);
-                leads = subst (λ (k : Found). q ≡ place_by k x (place w t long p m) bytes s) (sym e) g;
-              };
-        }
-
-    pub step_read : s.found ≡ Read
-        → Stepped x lost (place w t long p m) bytes true false (place w t long (pending bytes s.next) s.next.more)
-    step_read e = stepped Read (onto bytes s long (walked t w)) e refl
-
-    pub step_long : s.found ≡ Long
-        → Stepped x lost (place w t long p m) bytes true false (place w t true (pending bytes s.next) s.next.more)
-    step_long e = stepped Long (onto bytes s true (walked t w)) e refl
-
-    pub step_line : (t' : List ℕ) (w' : World) → walked t' w' ≡ after t (one_line x w long (line_in bytes s)) → s.found ≡ Line
-        → Stepped x lost (place w t long p m) bytes true false (place w' t' false (pending bytes s.next) s.next.more)
-    step_line t' w' a e = stepped Line (onto bytes s false (walked t' w')) e (ap (onto bytes s false) a)
-
-    pub step_end : (t' : List ℕ) (w' : World) → w' ≡ w → t' ≡ t ++ cond long strange_text [] → s.found ≡ End
-        → Stepped x lost (place w t long p m) bytes false false (place w' t' false (pending bytes s.next) s.next.more)
-    step_end t' w' a b e = stepped End (onto bytes s false (walked t' w')) e (rw (a, b))
-
-pub step_lost : (x : Fixed) (p : Place) (bytes : List ℕ) (lost : Bool) → lost ≡ true → Stepped x lost p bytes false true p
-step_lost x p bytes lost e =
-    record { told = sym e; stops = λ _. (refl, refl); reads = λ k. untrue (sym k ∙ e) }
 
 -- a step goes from its place to the next, and ends the walk where the input has ended and all of it is answered
 by_reader : (x : Fixed) (p : Place) (bytes : List ℕ) (more : Bool) (q : Place) → ByReader x p bytes more q → 12 < length bytes
@@ -297,14 +253,13 @@ module _ (x : Fixed) (p : Place) (w : World) (long : Bool) (rest : List ℕ) (m 
       }
 
   -- all that waits is printed, or nothing
-  pub ran_next : (out : List ℕ) (used now : ℕ) (a b : Bool) (k : Reader) (size : ℕ) → Shown k used size now lost
-      → Ran x p a b (place w (take used out) long rest m) → Stepped x lost (place w (take now out) long rest m) bytes more gone q
+  pub ran_next : (t v : List ℕ) (a b : Bool) (k : Reader) (size : ℕ) → v ≡ take (length v) t → Shown k (length t) size (length v) lost
+      → Ran x p a b (place w t long rest m) → Stepped x lost (place w v long rest m) bytes more gone q
       → 12 < length bytes → Ran x p more gone q
-  ran_next out used now a b k size (inl e) r s h =
-      ran_on (take used out) [] (take now out) a b (ap (λ (n : ℕ). take n out) (sym e.all)) r s h
-  ran_next out used now a b k size (inr e) r s h =
-      ran_on (take used out) (take used out) (take now out) a b
-      (sym (append-nil (take used out)) ∙ ap (λ (n : ℕ). take used out ++ take n out) (sym e.none)) r s h
+  ran_next t v a b k size i (inl e) r s h =
+      ran_on t [] v a b (sym (i ∙ (ap (λ (n : ℕ). take n t) e.all ∙ take_all (length t) t (omega arith)))) r s h
+  ran_next t v a b k size i (inr e) r s h =
+      ran_on t t v a b (sym (append-nil t) ∙ ap (λ (l : List ℕ). t ++ l) (sym (i ∙ ap (λ (n : ℕ). take n t) e.none))) r s h
 
 pub ran_none : (x : Fixed) (w : World) (t : List ℕ) (long : Bool) (rest : List ℕ) (m : Bool) (more gone : Bool) → more ≡ true
     → Ran x (place w t long rest m) more gone (place w t long rest m)
@@ -320,3 +275,8 @@ ran_whole x w t long rest m more gone q e f g h r i j =
 
 pub worlds_same : {m n : Memory} {v v' w w' : List ℕ} (s l : List ℕ) → m ≡ n → v ≡ v' → w ≡ w' → world m v w s l ≡ world n v' w' s l
 worlds_same s l e f g = rw (e, f, g)
+
+-- what a walk that goes out by `?` answers
+pub ended : {T : Type 0} (r : Result T Ending) (e : Ending) → IsErrAnd r (λ y. y ≡ e) → r ≡ Err e
+ended (Ok x) e h = absurd h
+ended (Err y) e h = ap Err h

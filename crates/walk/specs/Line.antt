@@ -1,13 +1,13 @@
 -- A line of the bus walk, whole: what it prints and what it leaves (document 01, "Corners that decide", the last paragraph).
-use Rattle.std.specs.Prelude.{◌≡◌, List, [], ℕ, ◌%◌, ◌≤◌}
+use Rattle.std.specs.Prelude.{◌≡◌, List, [], Option, Some, None, ℕ, ◌%◌, ◌≤◌, length}
 use Rattle.bus.specs.Calls.{Outcome, read_byte_call}
 use Rattle.commands.specs.Walk.{command_of, read_text, write_text, update_text, strange_text, text_of}
+use Rattle.commands.specs.declared.bytes.Bytes.{Bytes}
 use Rattle.commands.specs.declared.command.Command.{Command}
-use Rattle.commands.specs.declared.command.Command.TheVariants.{Read, Write, Update, Strange}
-use Rattle.commands.specs.declared.text.Text.{Text}
+use Rattle.commands.specs.declared.command.Command.TheVariants.{Read, Write, Update}
 use Rattle.input_calls.specs.Input.{update_timer_call}
 use Rattle.memory.specs.World.{World, Fixed, world}
-use Rattle.refusals.specs.declared.Done.{Done}
+use Rattle.refusals.specs.Answers.{Done}
 use Rattle.write_calls.specs.Writes.{write_byte_call}
 
 -- ROM byte at a is a modulo 256
@@ -31,15 +31,15 @@ abbrev pub timed : World → Done → Walked
 timed w d = walked (update_text d.number) (world d.memory w.vram w.wram w.save w.log)
 
 -- a read changes nothing and prints its byte; it is lent no log
-unfoldable pub walked_by : Fixed → World → Command → Walked
-walked_by x w (Read i) = walked (read_text i (read_byte_call x (world w.state w.vram w.wram w.save []) i).value) w
-walked_by x w (Write i v) = written i (write_byte_call x w i v)
-walked_by x w (Update c) = timed w (update_timer_call w.state c)
-walked_by x w Strange = walked strange_text w
+unfoldable pub walked_by : Fixed → World → Option Command → Walked
+walked_by x w (Some (Read i)) = walked (read_text i (read_byte_call x (world w.state w.vram w.wram w.save []) i).value) w
+walked_by x w (Some (Write i v)) = written i (write_byte_call x w i v)
+walked_by x w (Some (Update c)) = timed w (update_timer_call w.state c)
+walked_by x w None = walked strange_text w
 
 abbrev pub line_walked : Fixed → World → List ℕ → Walked
 line_walked x w s = walked_by x w (command_of s)
 
 -- a text and a world are those of a line
-abbrev pub Answers : Text → World → Walked → Type 0
-Answers t w a = (walked (text_of t) w ≡ a) × (t.size ≤ 10)
+abbrev pub Answers : Bytes 10 → World → Walked → Type 0
+Answers t w a = (walked (text_of t) w ≡ a) × (length (text_of t) ≤ 10)

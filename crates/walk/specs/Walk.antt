@@ -1,15 +1,16 @@
 -- The bus walk over a whole input: its lines one after the other, each on what the last one left (document 01, "Corners that decide", the
 -- last paragraph).
-use Rattle.std.specs.Prelude.{Bool, true, false, cond, List, [], ◌∷◌, ◌++◌, ◌⊎◌, ◌≡◌, ℕ, ◌+◌, ◌≤◌, ◌<◌, length, replicate}
+use Rattle.std.specs.Prelude.{Bool, true, false, cond, List, [], ◌∷◌, ◌++◌, Result, Ok, Err, ◌⊎◌, ◌≡◌, ℕ, ◌+◌, ◌≤◌, ◌<◌, length, replicate}
 use Rattle.bus.specs.Fresh.{started_by}
 use Rattle.commands.specs.Walk.{strange_text}
 use Rattle.lines.specs.Contents.{Filled}
-use Rattle.lines.specs.Reader.{lines_of, pending, line_in, Finds}
+use Rattle.lines.specs.Reader.{lines_of, pending, Step, line_in, Finds}
 use Rattle.lines.specs.declared.reader.Found.{Found}
 use Rattle.lines.specs.declared.reader.Found.TheVariants.{Line, Long, Read, End}
 use Rattle.lines.specs.declared.reader.Reader.{Reader}
-use Rattle.lines.specs.declared.reader.Step.{Step}
 use Rattle.memory.specs.World.{World, Fixed, world}
+use Rattle.walk.specs.declared.Ending.{Ending}
+use Rattle.walk.specs.declared.Ending.TheVariants.{Input, Lost}
 use Rattle.walk.specs.Line.{Walked, walked, line_walked, rom_byte}
 
 -- a text before what is printed
@@ -83,17 +84,23 @@ abbrev pub onto : List ℕ → Step → Bool → Walked → Place
 onto bytes s long a = place a.after a.text long (pending bytes s.next) s.next.more
 
 abbrev pub place_by : Found → Fixed → Place → List ℕ → Step → Place
-place_by Line x p bytes s = onto bytes s false (after p.waiting (one_line x p.world p.long (line_in bytes s)))
+place_by (Line from to) x p bytes s = onto bytes s false (after p.waiting (one_line x p.world p.long (line_in bytes s)))
 place_by Long x p bytes s = onto bytes s true (walked p.waiting p.world)
 place_by Read x p bytes s = onto bytes s p.long (walked p.waiting p.world)
 place_by End x p bytes s = onto bytes s false (walked (p.waiting ++ cond p.long strange_text []) p.world)
 
 -- the walk goes on, except at the input's end
 abbrev pub does_go_on : Found → Bool
-does_go_on Line = true
+does_go_on (Line from to) = true
 does_go_on Long = true
 does_go_on Read = true
 does_go_on End = false
+
+-- whether answers are lost
+abbrev pub is_lost : {T : Type 0} → Result T Ending → Bool
+is_lost (Ok done) = false
+is_lost (Err Input) = false
+is_lost (Err Lost) = true
 
 -- exactly one step of the reader
 pub record ByReader (x : Fixed) (p : Place) (bytes : List ℕ) (more : Bool) (q : Place) : Type 0 where

@@ -12,13 +12,6 @@ use commands::text::Text;
 use commands::{command, text};
 use memory::Memory;
 
-// What is printed, and the state after the line.
-#[derive(Clone, Copy)]
-pub struct Answer {
-    pub text: Text,
-    pub memory: Memory,
-}
-
 fn read(
     memory: Memory,
     rom: &[u8],
@@ -32,11 +25,11 @@ fn read(
         (world memory vram.now wram.now save.now []) index).value) }
 {
     let given = bus::reads::read_byte(memory, rom, vram, wram, save, sound, index);
-    text::read(index, given.value)
+    text::read(index, given.unwrap_or(0))
 }
 
 fn write(
-    memory: Memory,
+    memory: &mut Memory,
     rom: &[u8],
     vram: &mut [u8],
     wram: &mut [u8],
@@ -45,34 +38,35 @@ fn write(
     sound: &[u8],
     index: u16,
     value: u8,
-) -> Answer
-    ensures { Answers result.text (world result.memory vram.new wram.new save.new log.new)
+) -> Text
+    ensures { Answers result (world memory.new vram.new wram.new save.new log.new)
         (written index (write_byte_call (fixed rom.now sound.now)
-        (world memory vram.old wram.old save.old log.old)
+        (world memory.old vram.old wram.old save.old log.old)
         index value)) }
 {
-    let done = write_calls::write_byte(memory, rom, vram, wram, save, log, sound, index, value);
-    let next = done.memory;
-    Answer {
-        text: text::write(index, done.number),
-        memory: next,
+    let done = write_calls::write_byte(*memory, rom, vram, wram, save, log, sound, index, value);
+    let number = numbers::write_number(done.map(|wrote| wrote.owed));
+    if let Ok(wrote) = done {
+        *memory = wrote.memory;
     }
+    text::write(index, number)
 }
 
-fn update(memory: Memory, cycles: u32) -> Answer
-    ensures { Shows result.text (update_text (update_timer_call memory cycles).number) × (result.memory ≡ (update_timer_call memory cycles).memory) }
+fn update(memory: &mut Memory, cycles: u32) -> Text
+    ensures { Shows result (update_text (update_timer_call memory.old cycles).number) × (memory.new ≡ (update_timer_call memory.old cycles).memory) }
 {
-    let done = input_calls::update_timer(memory, cycles);
-    let next = done.memory;
-    Answer {
-        text: text::update(done.number),
-        memory: next,
+    let done = input_calls::update_timer(*memory, cycles);
+    let number = numbers::number_given(&done);
+    if let Ok(next) = done {
+        *memory = next;
     }
+    text::update(number)
 }
 
 // The line comes without its line end.
+#[tactic(auto, unfolding(crate::specs::Line::walked_by))]
 pub fn line(
-    memory: Memory,
+    memory: &mut Memory,
     s: &[u8],
     rom: &[u8],
     vram: &mut [u8],
@@ -80,25 +74,18 @@ pub fn line(
     save: &mut [u8],
     log: &mut [u8],
     sound: &[u8],
-) -> Answer
-    ensures { Answers result.text (world result.memory vram.new wram.new save.new log.new)
+) -> Text
+    ensures { Answers result (world memory.new vram.new wram.new save.new log.new)
         (line_walked (fixed rom.now sound.now)
-        (world memory vram.old wram.old save.old log.old)
+        (world memory.old vram.old wram.old save.old log.old)
         s.now) }
 {
-    let asked = command::parse(s);
-    match asked {
-        Command::Read(index) => Answer {
-            text: read(memory, rom, vram, wram, save, sound, index),
-            memory: memory,
-        },
-        Command::Write(index, value) => write(
+    match command::parse(s) {
+        Some(Command::Read(index)) => read(*memory, rom, vram, wram, save, sound, index),
+        Some(Command::Write(index, value)) => write(
             memory, rom, vram, wram, save, log, sound, index, value,
         ),
-        Command::Update(cycles) => update(memory, cycles),
-        Command::Strange => Answer {
-            text: text::strange(),
-            memory: memory,
-        },
+        Some(Command::Update(cycles)) => update(memory, cycles),
+        None => text::strange(),
     }
 }

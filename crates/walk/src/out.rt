@@ -1,35 +1,39 @@
-// What is printed stands in a buffer that the caller lends, until it is written.
-ghost use Rattle.std.specs.Prelude.{◌+◌, ◌≤◌, ◌≡◌, ◌++◌, length, take};
+// What is printed waits in a fixed room until it is written.
+ghost use Rattle.std.specs.Prelude.{◌≡◌, ◌+◌, ◌≤◌, ◌++◌, [], length};
 ghost use Rattle.commands.specs.Walk.{text_of};
 
+use commands::bytes::Bytes;
 use commands::text::Text;
 use std::io::Write;
 
-// Writes the first `used` bytes: whether they are written. A failed write is told on standard error.
-pub fn flush<W: Write, E: Write>(output: &mut W, errors: &mut E, out: &[u8], used: usize) -> bool
-    requires { used ≤ length out.now }
+// The room that the walk has.
+pub type Out = Bytes<65536>;
+
+// Answers could not be written.
+#[derive(Clone, Copy, PartialEq, Eq)]
+pub struct Lost;
+
+// Writes what waits. A failed write is told on standard error, and what could not be written is lost.
+pub fn flush<W: Write, E: Write, const N: usize>(
+    output: &mut W,
+    errors: &mut E,
+    out: &mut Bytes<N>,
+) -> Result<(), Lost>
+    ensures { text_of out.new ≡ [] }
 {
-    if output.write_all(&out[..used]).is_ok() {
-        return true;
+    let written = output.write_all(out.as_slice());
+    out.clear();
+    if written.is_ok() {
+        return Ok(());
     }
     let _ = errors.write_all(b"the answers could not be written\n");
-    false
+    Err(Lost)
 }
 
-// `size` bytes of a text, behind what is there.
-fn append(out: &mut [u8], used: usize, all: [u8; 10], size: usize) -> usize
-    requires { (used + 10 ≤ length out.old) × (size ≤ 10) }
-    ensures { (take result out.new ≡ take used out.old ++ take size all) × (result ≤ length out.new) }
+// Puts a text behind what waits.
+pub fn put<const N: usize>(out: &mut Bytes<N>, text: &Text)
+    requires { (length (text_of out.old) + 10 ≤ N) × (length (text_of text.now) ≤ 10) }
+    ensures { text_of out.new ≡ text_of out.old ++ text_of text.now }
 {
-    let end = used + size;
-    out[used..end].copy_from_slice(&all[..size]);
-    end
-}
-
-pub fn put(out: &mut [u8], used: usize, text: Text) -> usize
-    requires { (used + 10 ≤ length out.old) × (text.size ≤ 10) }
-    ensures { (take result out.new ≡ take used out.old ++ text_of text) × (result ≤ length out.new) }
-{
-    let all = text.bytes;
-    append(out, used, all, text.size)
+    out.put(text.as_slice());
 }

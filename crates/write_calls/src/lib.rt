@@ -1,12 +1,22 @@
 // The calls that write a byte or a word to what is lent. What refuses them is asked of the state and the lengths before anything is touched.
-#![tactic(auto)]
+// A byte's and a word's write stay apart: the test for room, the write within and what is owed are other functions, so a function for both would take three
+// closures. What is lent stays a parameter each, as in `mmu::write_byte`.
+#![tactic(auto, using(refusals::proofs::Answers::exit, refusals::proofs::Answers::refuses), unfolding(bus::specs::Calls::unless, refusals::specs::Refusal::or_else))]
 
 ghost use Rattle.memory.specs.World.{world, fixed};
 ghost use Rattle.bus.specs.Calls.{buffers};
 ghost use Rattle.write_calls.specs.Writes.{WritesByte, WritesWord, OneWritten};
 
 use memory::Memory;
-use refusals::Done;
+use numbers::{Owed, Refusal};
+use refusals::Lengths;
+
+// The state after the call, and what it leaves to the host.
+#[derive(Clone, Copy)]
+pub struct Wrote {
+    pub memory: Memory,
+    pub owed: Owed,
+}
 
 pub fn write_byte(
     memory: Memory,
@@ -18,34 +28,17 @@ pub fn write_byte(
     sound: &[u8],
     index: u16,
     value: u8,
-) -> Done
+) -> Result<Wrote, Refusal>
     ensures { WritesByte (fixed rom.now sound.now)
         (world memory vram.old wram.old save.old log.old) index value result
         (buffers vram.new wram.new save.new log.new) }
 {
-    let refused = refusals::write_refused(
-        memory,
-        rom.len(),
-        vram.len(),
-        wram.len(),
-        save.len(),
-        sound.len(),
-        log.len(),
-    );
-    let room = refusals::byte_room(memory.core.used, log.len(), index);
-    let number = refusals::or_else(refused, room);
-    if number != numbers::DONE {
-        return Done {
-            number: number,
-            memory: memory,
-        };
-    }
+    let lens = Lengths::of(rom, vram, wram, save, sound);
+    refusals::write_refused(memory, lens, log.len())?;
+    refusals::byte_room(memory.core.used, log.len(), index)?;
     let next = mmu::write_byte(2, memory, rom, vram, wram, save, log, sound, index, value);
     let owed = refusals::byte_owed(index);
-    Done {
-        number: owed,
-        memory: next,
-    }
+    Ok(Wrote { memory: next, owed })
 }
 
 // Low byte first; the index of the high byte wraps.
@@ -59,34 +52,17 @@ pub fn write_word(
     sound: &[u8],
     index: u16,
     value: u16,
-) -> Done
+) -> Result<Wrote, Refusal>
     ensures { WritesWord (fixed rom.now sound.now)
         (world memory vram.old wram.old save.old log.old) index value result
         (buffers vram.new wram.new save.new log.new) }
 {
-    let refused = refusals::write_refused(
-        memory,
-        rom.len(),
-        vram.len(),
-        wram.len(),
-        save.len(),
-        sound.len(),
-        log.len(),
-    );
-    let room = refusals::word_room(memory.core.used, log.len(), index);
-    let number = refusals::or_else(refused, room);
-    if number != numbers::DONE {
-        return Done {
-            number: number,
-            memory: memory,
-        };
-    }
+    let lens = Lengths::of(rom, vram, wram, save, sound);
+    refusals::write_refused(memory, lens, log.len())?;
+    refusals::word_room(memory.core.used, log.len(), index)?;
     let next = mmu::write_word(memory, rom, vram, wram, save, log, sound, index, value);
     let owed = refusals::word_owed(index);
-    Done {
-        number: owed,
-        memory: next,
-    }
+    Ok(Wrote { memory: next, owed })
 }
 
 // That no second outcome fits these contracts, as a contract: its proof hands it over.

@@ -7,7 +7,7 @@ use Rattle.enter.proofs.enter.Goals as goal
 
 pub returns-in-ReadByte : goal.returns-in-ReadByte
 unfolding entry
-returns-in-ReadByte c = rw (c.in-ReadByte.is, c.of_value.ensures) (ap (asks (holding _ _ _ _ _)) c.pouch_read_byte-number.ensures)
+returns-in-ReadByte c = rw (c.in-ReadByte.is, c.of_value.ensures, c.from.ensures) (ap (asks (holding _ _ _ _ _)) c.pouch_read_byte-number.ensures)
 
 pub returns-in-ReadWord : goal.returns-in-ReadWord
 unfolding entry
@@ -15,7 +15,7 @@ returns-in-ReadWord c = rw (c.in-ReadWord.is, c.of_value-in-ReadWord.ensures) (a
 
 pub returns-in-ReadCgbLcdRam : goal.returns-in-ReadCgbLcdRam
 unfolding entry
-returns-in-ReadCgbLcdRam c = rw (c.in-ReadCgbLcdRam.is, c.of_value-in-ReadCgbLcdRam.ensures) (ap (asks (holding _ _ _ _ _)) c.pouch_read_cgb_lcd_ram-number.ensures)
+returns-in-ReadCgbLcdRam c = rw (c.in-ReadCgbLcdRam.is, c.of_value-in-ReadCgbLcdRam.ensures, c.from-in-ReadCgbLcdRam.ensures) (ap (asks (holding _ _ _ _ _)) c.pouch_read_cgb_lcd_ram-number.ensures)
 
 pub returns-in-WriteByte : goal.returns-in-WriteByte
 returns-in-WriteByte c = rw (c.in-WriteByte.is, c.of_number.ensures) c.pouch_write_byte.ensures

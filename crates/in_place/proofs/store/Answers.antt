@@ -1,10 +1,7 @@
 -- A byte of the page put.
 use native.Mathlib.Omega.{arith}
-use Rattle.in_place.proofs.Images.{size, held, put_byte}
+use Rattle.in_place.proofs.Images.{held, put_byte}
 use Rattle.in_place.proofs.store.Goals as goal
-
-pub bounds-image-i : goal.bounds-image-i
-bounds-image-i c = let h = size _ c.requires in omega arith
 
 pub returns : goal.returns
 returns c = (put_byte (held _ c.requires) c.args.at c.args.value (omega arith) (omega arith)).same

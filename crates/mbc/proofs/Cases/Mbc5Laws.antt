@@ -1,6 +1,6 @@
 -- Mbc5's laws: what its ranges say, as a record of facts, and that each of its writes keeps them.
 use mathlib.Core.Path.{◌≡◌, refl}
-use mathlib.Core.Bool.{true, false, cond, ◌&&◌, or-true}
+use mathlib.Core.Bool.{true, cond, ◌&&◌, or-true}
 use mathlib.Core.List.{[], ◌∷◌}
 use mathlib.Core.Logic.{inl}
 use Prim.Native.Nat.{ℕ, zero, suc, ◌<◌, ◌≤◌, ◌*◌, ◌/◌}
@@ -28,11 +28,6 @@ ram_below banks bank some e = ltb-true bank banks (rw (ne_eqb banks 0 (λ z. ome
 pub below_fits : (banks bank : ℕ) → bank < banks → ram_fits banks bank ≡ true
 unfolding ram_fits
 below_fits banks bank h = rw (ne_eqb banks 0 (λ z. omega (arith, h, z)), lt-ltb bank banks h)
-
-pub above_fits_not : (banks bank : ℕ) → banks ≤ bank → (bank ≡ 0 → ⊥) → ram_fits banks bank ≡ false
-unfolding ram_fits
-above_fits_not zero bank h some = ne_eqb bank 0 some
-above_fits_not (suc n) bank h some = rw (ne_eqb (suc n) 0 (λ z. omega (arith, z))) (le-ltb bank (suc n) h)
 
 -- it has four bits
 pub ram_most : (code bank : ℕ) → ram_fits (ram_banks code) bank ≡ true → bank ≤ 15

@@ -1,34 +1,21 @@
 -- The laws of copy and write by cases.
-use Rattle.std.proofs.Common.{◌≡◌, sym, ◌∙◌, subst, arith}
+use Rattle.std.proofs.Common.{sym, ◌∙◌, subst, arith}
 use Rattle.mmu.specs.Access.{Ready}
-use Rattle.mmu.proofs.Laws.{read_ready, write_ready, copy_none, copy_more, transfer_done}
+use Rattle.mmu.proofs.Laws.{write_ready, copy_none, copy_more}
 use Rattle.mmu.proofs.Laws.{starting_depth, starting_index, start_ready, write_alone, write_transfer}
 use Rattle.mmu.proofs.+do_dma_transfer_write_byte.Goals as goal
 
 pub do_dma_transfer-loop-i-init : goal.do_dma_transfer-loop-i-init
-do_dma_transfer-loop-i-init t c = record { within = omega arith; copied = sym (copy_none _ _ _ _ _); ready = c.requires.0 }
-
-pub do_dma_transfer-read_byte-byte-requires : goal.do_dma_transfer-read_byte-byte-requires
-do_dma_transfer-read_byte-byte-requires t c = read_ready _ _ c.loop-i.invariant.ready
-
-pub do_dma_transfer-write_byte-next-requires : goal.do_dma_transfer-write_byte-next-requires
-do_dma_transfer-write_byte-next-requires t c = (omega (arith, c.decreases), c.loop-i.invariant.ready)
+do_dma_transfer-loop-i-init t c = record { copied = sym (copy_none _ _ _ _ _); ready = c.requires.0 }
 
 pub do_dma_transfer-loop-i-preserved : goal.do_dma_transfer-loop-i-preserved
 do_dma_transfer-loop-i-preserved t c =
     let W = c.write_byte-next.ensures in
     let L = c.loop-i.invariant in
     record {
-      within = omega (arith, c.loop-i-test.true);
-      copied = rw (c.read_byte-byte.ensures, c.wrapping_add_u16-from.ensures.value) at W ∙ copy_more _ _ _ _ _ _ _ L.copied;
+      copied = rw c.read_byte-byte.ensures at W ∙ copy_more _ _ _ _ _ _ _ L.copied;
       ready = subst (Ready _) (sym W) (write_ready _ _ _ L.ready _ _);
     }
-
-pub do_dma_transfer-returns : goal.do_dma_transfer-returns
-do_dma_transfer-returns t c =
-    let L = c.loop-i.invariant in
-    let e : c.loop-i.i ≡ c.args.copy.count = omega (arith, L.within, c.loop-i-test.false) in
-    transfer_done _ _ _ _ _ _ e L.copied c.end_copy.ensures
 
 pub write_byte-returns-then-not-starting : goal.write_byte-returns-then-not-starting
 write_byte-returns-then-not-starting t c =

@@ -1,26 +1,26 @@
 -- By the region: one law for each (`left_rom` ..).
 use mathlib.Core.Path.{sym, ◌∙◌}
 use Rattle.memory.proofs.Regions.{within}
-use Rattle.put_bytes.proofs.PutLaws.{taken_held, taken_mapped, taken_length, taken_core, taken_save, taken_vram, taken_wram, after_slim, left_rom, left_vram, left_save, left_wram, left_oam, left_page}
+use Rattle.put_bytes.proofs.PutLaws.{taken_held, taken_mapped, taken_length, taken_core, taken_save, taken_vram, taken_wram, after_slim, left_rom, left_vram, left_save, left_wram, left_oam}
 use Rattle.put_bytes.proofs.put_byte.Goals as goal
 
 pub put_mapper-requires : goal.put_mapper-requires
 put_mapper-requires c = let P = c.requires in (taken_mapped P, after_slim P (taken_core P) _ _)
 
-pub banks_at-banks-requires : goal.banks_at-banks-requires
-banks_at-banks-requires c = taken_length c.requires
+pub banks_at-requires : goal.banks_at-requires
+banks_at-requires c = taken_length c.requires
 
 pub write_cgb_lcd_ram-requires : goal.write_cgb_lcd_ram-requires
-write_cgb_lcd_ram-requires c = let P = c.requires in (within _ (sym c.region_of.ensures ∙ c.in-Vram.is), rw c.banks_at-banks.ensures (taken_vram P (taken_core P)))
+write_cgb_lcd_ram-requires c = let P = c.requires in (within _ (sym c.region_of.ensures ∙ c.in-Vram.is), rw c.banks_at.ensures (taken_vram P (taken_core P)))
 
 pub put_save-requires : goal.put_save-requires
 put_save-requires c = let P = c.requires in ((taken_mapped P, after_slim P (taken_core P) _ _), (within _ (sym c.region_of.ensures ∙ c.in-Save.is), (taken_save P (taken_core P), P.holds.log)))
 
-pub banks_at-banks-requires-in-Wram : goal.banks_at-banks-requires-in-Wram
-banks_at-banks-requires-in-Wram c = taken_length c.requires
+pub banks_at-requires-in-Wram : goal.banks_at-requires-in-Wram
+banks_at-requires-in-Wram c = taken_length c.requires
 
 pub write_cgb_wram-requires : goal.write_cgb_wram-requires
-write_cgb_wram-requires c = let P = c.requires in (within _ (sym c.region_of.ensures ∙ c.in-Wram.is), rw c.banks_at-banks-in-Wram.ensures (taken_wram P (taken_core P)))
+write_cgb_wram-requires c = let P = c.requires in (within _ (sym c.region_of.ensures ∙ c.in-Wram.is), rw c.banks_at-in-Wram.ensures (taken_wram P (taken_core P)))
 
 pub put_own-requires : goal.put_own-requires
 put_own-requires c = (taken_length c.requires, (within _ (sym c.region_of.ensures ∙ c.in-Oam.is)).0)
@@ -32,16 +32,13 @@ pub returns-in-Rom : goal.returns-in-Rom
 returns-in-Rom c = let P = c.requires in left_rom P (taken_core P) _ _ (sym c.region_of.ensures ∙ c.in-Rom.is) c.put_mapper.ensures
 
 pub returns-in-Vram : goal.returns-in-Vram
-returns-in-Vram c = let P = c.requires in left_vram P (taken_core P) _ _ (sym c.region_of.ensures ∙ c.in-Vram.is) (c.write_cgb_lcd_ram.ensures ∙ rw c.banks_at-banks.ensures)
+returns-in-Vram c = let P = c.requires in left_vram P (taken_core P) _ _ (sym c.region_of.ensures ∙ c.in-Vram.is) (c.write_cgb_lcd_ram.ensures ∙ rw c.banks_at.ensures)
 
 pub returns-in-Save : goal.returns-in-Save
 returns-in-Save c = let P = c.requires in left_save P (taken_core P) _ _ (sym c.region_of.ensures ∙ c.in-Save.is) c.put_save.ensures
 
 pub returns-in-Wram : goal.returns-in-Wram
-returns-in-Wram c = let P = c.requires in left_wram P (taken_core P) _ _ (sym c.region_of.ensures ∙ c.in-Wram.is) (c.write_cgb_wram.ensures ∙ rw c.banks_at-banks-in-Wram.ensures)
+returns-in-Wram c = let P = c.requires in left_wram P (taken_core P) _ _ (sym c.region_of.ensures ∙ c.in-Wram.is) (c.write_cgb_wram.ensures ∙ rw c.banks_at-in-Wram.ensures)
 
 pub returns-in-Oam : goal.returns-in-Oam
 returns-in-Oam c = let P = c.requires in left_oam P (taken_core P) _ _ (sym c.region_of.ensures ∙ c.in-Oam.is) c.ranges.value.fits c.put_own.ensures
-
-pub returns-in-Page : goal.returns-in-Page
-returns-in-Page c = let P = c.requires in left_page P (taken_core P) _ _ (sym c.region_of.ensures ∙ c.in-Page.is) c.put_page.ensures

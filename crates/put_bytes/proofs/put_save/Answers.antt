@@ -5,7 +5,7 @@ use Rattle.image.proofs.PatchLaws.{mapping_kept, used_over}
 use Rattle.mbc.specs.Mbc.{after}
 use Rattle.mmu.proofs.Places.{answer_lands, save_full, save_done}
 use Rattle.savelog.proofs.Use.{has_room}
-use Rattle.put_bytes.proofs.PutLaws.{mapped_sound, mapped_range, mapped_kept}
+use Rattle.put_bytes.proofs.PutLaws.{mapped_sound, mapped_kept}
 use Rattle.put_bytes.specs.Puts.{core_in}
 use Rattle.put_bytes.proofs.put_save.Goals as goal
 
@@ -18,17 +18,11 @@ returns-then-full c = let P = c.requires in
       saved = λ m p q e. save_full m p q (e ∙ sym c.used_at-used.ensures) _ _ _ _ (sym c.full.ensures ∙ c.if-full.true);
     }
 
-pub answer-answer-requires : goal.answer-answer-requires
-answer-answer-requires c = let P = c.requires in (rw (c.registers_at-registers.ensures, c.cartridge_at-cartridge.ensures) (mapped_range _ P.0.0), P.1.0)
-
 pub store_answer-more-requires : goal.store_answer-more-requires
 store_answer-more-requires c = let P = c.requires in (
-  answer_lands _ _ _ _ c.ranges.value.fits (rw (c.registers_at-registers.ensures, ← c.mapper_at-mapper.ensures) at c.answer-answer.ensures) (rw (c.mapper_at-mapper.ensures, c.cartridge_at-cartridge.ensures) P.1.1.0),
+  answer_lands _ _ _ _ c.ranges.value.fits (rw (c.registers_at-registers.ensures, ← c.mapper_at-mapper.ensures) at c.answer-stored.ensures) (rw (c.mapper_at-mapper.ensures, c.cartridge_at-cartridge.ensures) P.1.1.0),
   (has_room _ _ 1 (sym c.full.ensures ∙ c.if-full.false), P.1.1.1),
 )
-
-pub put_used-requires : goal.put_used-requires
-put_used-requires c = c.requires.0.0.size
 
 pub returns-then-keeps : goal.returns-then-keeps
 returns-then-keeps c = let P = c.requires in
@@ -37,14 +31,8 @@ returns-then-keeps c = let P = c.requires in
       used = _;
       image = c.put_used.ensures ∙ sym (mapping_kept _ (λ k. (c.slice_known-1.given k).fits) _ _ c.mapper_at-mapper.ensures (mapped_sound _ P.0.0));
       saved = λ m p q e. save_done m (p ∙ sym c.cartridge_at-cartridge.ensures) (q ∙ sym c.mapper_at-mapper.ensures) (e ∙ sym c.used_at-used.ensures) _ _ _ _
-          (sym c.full.ensures ∙ c.if-full.false) (sym (c.keeps.ensures c.if-keeps.true _ _)) (rw (c.registers_at-registers.ensures, ← c.mapper_at-mapper.ensures) at c.answer-answer.ensures) c.store_answer-more.ensures;
+          (sym c.full.ensures ∙ c.if-full.false) (sym (c.keeps.ensures c.if-keeps.true _ _)) (rw (c.registers_at-registers.ensures, ← c.mapper_at-mapper.ensures) at c.answer-stored.ensures) c.store_answer-more.ensures;
     }
-
-pub put_mapper-requires : goal.put_mapper-requires
-put_mapper-requires c = c.requires.0
-
-pub put_used-requires-2 : goal.put_used-requires-2
-put_used-requires-2 c = let size = c.requires.0.0.size in omega arith
 
 pub returns : goal.returns
 returns c = let P = c.requires in
@@ -54,5 +42,5 @@ returns c = let P = c.requires in
       used = c.store_answer-more.result;
       image = c.put_used-2.ensures ∙ rw c.put_mapper.ensures (used_over _ P.0.0.size _ _ _ (rw (← c.used_at-used.ensures) (omega (arith, c.used_at-used.type_inv))));
       saved = λ m p q e. save_done m (p ∙ sym c.cartridge_at-cartridge.ensures) (q ∙ sym c.mapper_at-mapper.ensures) (e ∙ sym c.used_at-used.ensures) _ _ _ _
-          (sym c.full.ensures ∙ c.if-full.false) (rw (c.mapper_at-mapper.ensures, c.cartridge_at-cartridge.ensures)) (rw (c.registers_at-registers.ensures, ← c.mapper_at-mapper.ensures) at c.answer-answer.ensures) c.store_answer-more.ensures;
+          (sym c.full.ensures ∙ c.if-full.false) (rw (c.mapper_at-mapper.ensures, c.cartridge_at-cartridge.ensures)) (rw (c.registers_at-registers.ensures, ← c.mapper_at-mapper.ensures) at c.answer-stored.ensures) c.store_answer-more.ensures;
     }

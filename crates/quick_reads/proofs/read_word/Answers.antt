@@ -31,7 +31,7 @@ returns-then-sound-eq-SOUND_LEN c = let a = c.args in
     let below : Below 256 a.image.now = λ k. (c.shared_slice_known-1.given k).fits in
     let p = c.mapper_surely_fits.ensures c.if-mapper_surely_fits.true in
     let q = c.rest_surely_fits.ensures c.if-rest_surely_fits.true in
-    done_word_read x a.image.now a.vram.now a.wram.now a.save.now (surely_passes x a.image.now a.vram.now a.wram.now a.save.now below p q c.if-sound-eq-SOUND_LEN.true) refl _ (c.joined-word.ensures ∙ rw (c.byte_at-high.ensures, c.byte_at-low.ensures, c.wrapping_add_u16-above.ensures.value))
+    done_word_read x a.image.now a.vram.now a.wram.now a.save.now (surely_passes x a.image.now a.vram.now a.wram.now a.save.now below p q c.if-sound-eq-SOUND_LEN.true) refl _ (c.from_le_bytes.ensures ∙ rw (c.byte_at-high.ensures, c.byte_at-low.ensures))
 
 pub returns : goal.returns
 returns c = c.plain_word.ensures

@@ -1,15 +1,12 @@
--- The image, then the call on it.
+-- What the call makes of the state.
 use mathlib.Core.Path.{refl}
+use borrow.Author.Rules.{rules}
 use Rattle.dispatch.specs.Step.{state_step}
-use Rattle.entry.proofs.Held.{taken, closed_state, state_done}
+use Rattle.dispatch.specs.declared.StateCall.TheVariants.{DoLcdControlWrite}
+use Rattle.lcd.specs.Lcd.{control_written}
+use Rattle.registers.specs.State.{on_screen}
 use Rattle.quick_screen.proofs.do_lcd_control_write.Goals as goal
-
-pub returns-then-number-ne-DONE : goal.returns-then-number-ne-DONE
-returns-then-number-ne-DONE c = closed_state _ c.number-number.ensures c.if-number-ne-DONE.true _
-
-pub do_lcd_control_write-requires : goal.do_lcd_control_write-requires
-do_lcd_control_write-requires c = (taken _ c.number-number.ensures c.if-number-ne-DONE.false (λ i. (c.slice_known-1.given i).fits))
 
 pub returns : goal.returns
 unfolding state_step
-returns c = state_done _ (taken _ c.number-number.ensures c.if-number-ne-DONE.false (λ i. (c.slice_known-1.given i).fits)) _ _ refl c.do_lcd_control_write.ensures
+returns c = c.on_image.ensures (DoLcdControlWrite c.args.value) (on_screen (λ s. control_written s c.args.value)) (λ m. refl) (λ a b h p. search rules)

@@ -12,14 +12,14 @@ use Rattle.quick_screen.proofs.put_number.Goals as goal
 pub put_flag-requires : goal.put_flag-requires
 put_flag-requires c = let h = size _ c.requires in search (rules, h)
 
-pub put_u8-requires : goal.put_u8-requires
-put_u8-requires c = let h = size _ c.requires in search (rules, h)
+pub put_field-requires : goal.put_field-requires
+put_field-requires c = let h = size _ c.requires in search (rules, h)
 
-pub put_u8-requires-in-Signal : goal.put_u8-requires-in-Signal
-put_u8-requires-in-Signal c = let h = size _ c.requires in search (rules, h)
+pub put_field-requires-in-Signal : goal.put_field-requires-in-Signal
+put_field-requires-in-Signal c = let h = size _ c.requires in search (rules, h)
 
-pub put_u8-requires-in-Mode : goal.put_u8-requires-in-Mode
-put_u8-requires-in-Mode c = let h = size _ c.requires in search (rules, h)
+pub put_field-requires-in-Mode : goal.put_field-requires-in-Mode
+put_field-requires-in-Mode c = let h = size _ c.requires in search (rules, h)
 
 pub put_signed-requires : goal.put_signed-requires
 put_signed-requires c = let h = size _ c.requires in search (rules, h)
@@ -37,13 +37,13 @@ pub returns-in-Disabled : goal.returns-in-Disabled
 returns-in-Disabled c = number_image _ c.requires (one.Disabled _) c.in-Disabled.is tt c.put_flag.ensures
 
 pub returns-in-Line : goal.returns-in-Line
-returns-in-Line c = number_image _ c.requires (one.Line _) c.in-Line.is (omega arith) c.put_u8.ensures
+returns-in-Line c = number_image _ c.requires (one.Line _) c.in-Line.is (omega arith) c.put_field.ensures
 
 pub returns-in-Signal : goal.returns-in-Signal
-returns-in-Signal c = number_image _ c.requires (one.Signal _) c.in-Signal.is (omega arith) c.put_u8-in-Signal.ensures
+returns-in-Signal c = number_image _ c.requires (one.Signal _) c.in-Signal.is (omega arith) c.put_field-in-Signal.ensures
 
 pub returns-in-Mode : goal.returns-in-Mode
-returns-in-Mode c = number_image _ c.requires (one.Mode _) c.in-Mode.is (omega arith) c.put_u8-in-Mode.ensures
+returns-in-Mode c = number_image _ c.requires (one.Mode _) c.in-Mode.is (omega arith) c.put_field-in-Mode.ensures
 
 pub returns-in-Delay : goal.returns-in-Delay
 returns-in-Delay c = let s : SFits w32 c.in-Delay.x = search rules in

@@ -4,4 +4,4 @@ use Rattle.lines.specs.Reader.{Inside}
 use Rattle.replay_bus.proofs.replay.Given as goal
 
 abbrev pub invariant-loop : goal.invariant-loop
-invariant-loop g l = Inside (length l.buf) l.state.reader
+invariant-loop g l = Inside (length l.buf) l.reader

@@ -1,18 +1,10 @@
--- What is still to be put gives, over the log as it is, what the whole gives over the log as it was: each turn stores one byte.
-use mathlib.Core.Path.{sym, ◌∙◌}
-use Prim.Native.Nat.{◌+◌, ◌≤◌}
+-- The last bytes of its four.
+use mathlib.Core.Path.{◌∙◌}
+use lib.ListN.{length, length-drop}
+use lib.Seq.{take_all}
 use native.Mathlib.Omega.{arith}
-use lib.ListN.{length, length-set}
-use Rattle.savelog.proofs.Laws.{placed_step, placed_end}
+use Rattle.savelog.proofs.Laws.{last_bytes}
 use Rattle.savelog.proofs.put_number.Goals as goal
 
-pub loop-j-preserved : goal.loop-j-preserved
-loop-j-preserved c = let v = c.loop-j.invariant in
-    let m : c.args.i + c.loop-j.j ≤ length c.loop-j.log = rw v.1 (omega arith) in (
-      omega arith,
-      length-set c.loop-j.log _ _ ∙ v.1,
-      v.2 ∙ placed_step c.loop-j.log c.args.i c.loop-j.j c.loop-j.n (omega arith) m,
-    )
-
 pub returns : goal.returns
-returns c = sym (c.loop-j.invariant.2 ∙ placed_end c.loop-j.log c.args.i c.loop-j.j c.loop-j.n (omega arith))
+returns c = (rw c.to_be_bytes-bytes.ensures at c.copy_from_slice.ensures.after) ∙ take_all _ _ (rw length-drop (omega arith)) ∙ last_bytes (length c.args.place.now) c.args.number c.requires

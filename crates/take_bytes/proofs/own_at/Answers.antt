@@ -11,38 +11,17 @@ use Rattle.registers.specs.Page.{line_read}
 use Rattle.take_bytes.proofs.ByteLaws.{byte_oam, byte_page}
 use Rattle.take_bytes.proofs.own_at.Goals as goal
 
-pub bounds-image-i : goal.bounds-image-i
-bounds-image-i c = omega (arith, load_length _ c.requires.0.0)
+pub bounds-image-index : goal.bounds-image-index
+bounds-image-index c = omega (arith, load_length _ c.requires.0.0)
 
 pub returns-then-index-lt-PAGE_START : goal.returns-then-index-lt-PAGE_START
 returns-then-index-lt-PAGE_START c = λ rom v w s. byte_oam _ c.requires.0.0 (λ k. (c.shared_slice_known-1.given k).fits) _ _ _ _ _ (region_at Oam _ (c.requires.1, c.if-index-lt-PAGE_START.true))
-
-pub joypad_at-joypad-requires : goal.joypad_at-joypad-requires
-joypad_at-joypad-requires c = load_length _ c.requires.0.0
-
-pub shown_low-requires : goal.shown_low-requires
-shown_low-requires c = in_part _ c.part_of.ensures c.in-Low.is
-
-pub shown_sound-requires : goal.shown_sound-requires
-shown_sound-requires c = (in_part _ c.part_of.ensures c.in-Sound.is, c.requires.0.1)
-
-pub lcd_at-requires : goal.lcd_at-requires
-lcd_at-requires c = load_length _ c.requires.0.0
-
-pub shown_screen-requires : goal.shown_screen-requires
-shown_screen-requires c = in_part _ c.part_of.ensures c.in-Screen.is
-
-pub banks_at-banks-requires : goal.banks_at-banks-requires
-banks_at-banks-requires c = load_length _ c.requires.0.0
-
-pub shown_colour-requires : goal.shown_colour-requires
-shown_colour-requires c = in_part _ c.part_of.ensures c.in-Colour.is
 
 pub returns-in-Low : goal.returns-in-Low
 returns-in-Low c = λ rom v w s.
     let a = c.args in
     let f = fields a.image.now in
-    (c.shown_low.ensures (banks_of f).colour (line_read (lcd_of f)) a.sound.now ∙ rw c.joypad_at-joypad.ensures) ∙ byte_page _ c.requires.0.0 (λ k. (c.shared_slice_known-1.given k).fits) _ _ _ _ _ (region_at Page _ c.if-index-lt-PAGE_START.false) (omega arith)
+    (c.shown_low.ensures (banks_of f).colour (line_read (lcd_of f)) a.sound.now ∙ rw c.joypad_at.ensures) ∙ byte_page _ c.requires.0.0 (λ k. (c.shared_slice_known-1.given k).fits) _ _ _ _ _ (region_at Page _ c.if-index-lt-PAGE_START.false) (omega arith)
 
 pub returns-in-Sound : goal.returns-in-Sound
 returns-in-Sound c = λ rom v w s. c.shown_sound.ensures _ _ _ _ ∙ byte_page _ c.requires.0.0 (λ k. (c.shared_slice_known-1.given k).fits) _ _ _ _ _ (region_at Page _ c.if-index-lt-PAGE_START.false) (omega arith)
@@ -59,4 +38,4 @@ pub returns-in-Colour : goal.returns-in-Colour
 returns-in-Colour c = λ rom v w s.
     let a = c.args in
     let f = fields a.image.now in
-    (c.shown_colour.ensures (line_read (lcd_of f)) (joypad_of f).state a.sound.now ∙ rw c.banks_at-banks.ensures) ∙ byte_page _ c.requires.0.0 (λ k. (c.shared_slice_known-1.given k).fits) _ _ _ _ _ (region_at Page _ c.if-index-lt-PAGE_START.false) (omega arith)
+    (c.shown_colour.ensures (line_read (lcd_of f)) (joypad_of f).state a.sound.now ∙ rw c.banks_at.ensures) ∙ byte_page _ c.requires.0.0 (λ k. (c.shared_slice_known-1.given k).fits) _ _ _ _ _ (region_at Page _ c.if-index-lt-PAGE_START.false) (omega arith)

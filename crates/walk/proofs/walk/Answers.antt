@@ -1,5 +1,5 @@
 -- The loop goes from the beginning: nothing is read, and nothing waits.
-use Rattle.std.proofs.Common.{ℕ, take, replicate, ap}
+use Rattle.std.proofs.Common.{replicate, refl, ap}
 use Rattle.lines.specs.Reader.{pending}
 use Rattle.lines.specs.declared.reader.Reader.{Reader}
 use Rattle.walk.proofs.Walking.{ran_whole}
@@ -7,7 +7,5 @@ use Rattle.walk.proofs.walk.Goals as goal
 
 pub returns : goal.returns
 returns g c =
-    let s = c.start.ensures in
-    λ more gone.
-    rw s.0.0 at (ran_whole _ _ _ _ _ _ _ _ _ (ap (λ (n : ℕ). take n (replicate 65536 0)) s.0.1) s.1.1.0 (ap (λ (r : Reader). pending (replicate 65536 0) r) s.1.0)
-    (ap (λ (r : Reader). r.more) s.1.0) c.run-state.ensures.1 more gone)
+    let e = c.new.ensures.0 in
+    ran_whole _ _ _ _ _ _ _ _ _ c.new-out.ensures refl (ap (λ (r : Reader). pending (replicate 65536 0) r) e) (ap (λ (r : Reader). r.more) e) c.run-ended.ensures

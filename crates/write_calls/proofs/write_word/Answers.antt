@@ -1,15 +1,7 @@
 -- Refused, or written within.
+use Rattle.std.proofs.Common.{sym}
 use Rattle.bus.proofs.Passes.{write_passes}
-use Rattle.bus.proofs.Outcomes.{refused_outcome, accepted_outcome, same_outcome}
-use Rattle.refusals.proofs.Answers.{both_pass}
-use mathlib.Core.Path.{sym, ◌∙◌}
 use Rattle.write_calls.proofs.write_word.Goals as goal
 
-pub returns-then-number-ne-DONE : goal.returns-then-number-ne-DONE
-returns-then-number-ne-DONE c = refused_outcome (rw (c.word_room-room.ensures, c.write_refused-refused.ensures) at c.or_else-number.ensures) c.if-number-ne-DONE.true _ _
-
 pub write_word-next-requires : goal.write_word-next-requires
-write_word-next-requires c = write_passes _ _ _ _ _ _ _ (both_pass _ _ (sym (rw (c.word_room-room.ensures, c.write_refused-refused.ensures) at c.or_else-number.ensures) ∙ c.if-number-ne-DONE.false)).0
-
-pub returns : goal.returns
-returns c = accepted_outcome (rw (c.word_room-room.ensures, c.write_refused-refused.ensures) at c.or_else-number.ensures) c.if-number-ne-DONE.false _ (same_outcome 0 c.word_owed-owed.ensures c.write_word-next.ensures)
+write_word-next-requires c = write_passes _ _ _ _ _ _ _ (sym (rw c.of-lens.ensures at c.in_ok-write_refused.ensures))

@@ -1,9 +1,17 @@
 -- Refused, or done: the description first, then the lengths.
-use Rattle.bus.proofs.Outcomes.{refused_fresh, accepted_fresh}
+use Rattle.bus.specs.Fresh.{fresh_refused, beginning}
+use Rattle.refusals.specs.Refusal.{or_else}
+use Rattle.refusals.proofs.Answers.{exit, refuses}
 use Rattle.bus.proofs.fresh.fresh.Goals as goal
 
-pub returns-then-number-ne-DONE : goal.returns-then-number-ne-DONE
-returns-then-number-ne-DONE c = refused_fresh (rw (c.new-memory.ensures, c.fresh-made.ensures) at c.fresh_refused-number.ensures) _ _ _ c.if-number-ne-DONE.true c.zero.ensures
+pub returns-in_err-cartridge : goal.returns-in_err-cartridge
+unfolding fresh_refused beginning or_else
+returns-in_err-cartridge c = rw (exit _ _ c.from_residual.ensures.1, ← c.in_err-cartridge.ensures, refuses c.in_err-cartridge.field-0.0, refuses c.in_err-cartridge.field-0.0)
+
+pub returns-in_err-lent_refused : goal.returns-in_err-lent_refused
+unfolding fresh_refused beginning or_else
+returns-in_err-lent_refused c = rw (exit _ _ c.from_residual-in_err-lent_refused.ensures.1, ← c.in_ok-cartridge.ensures, ← c.new-memory.ensures, ← (rw c.of-lens.ensures at c.in_err-lent_refused.ensures), refuses c.in_err-lent_refused.field-0.0)
 
 pub returns : goal.returns
-returns c = accepted_fresh (rw (c.new-memory.ensures, c.fresh-made.ensures) at c.fresh_refused-number.ensures) _ _ _ c.if-number-ne-DONE.false (rw c.fresh-made.ensures at c.new-memory.ensures) c.zero_bytes.ensures c.zero_bytes-2.ensures
+unfolding fresh_refused beginning or_else
+returns c = rw (← c.in_ok-cartridge.ensures, ← c.new-memory.ensures, ← (rw c.of-lens.ensures at c.in_ok-lent_refused.ensures), c.fill.ensures.after (λ y e. e), c.fill-2.ensures.after (λ y e. e))

@@ -1,14 +1,7 @@
 -- Refused, or read within.
+use Rattle.std.proofs.Common.{sym}
 use Rattle.bus.proofs.Passes.{read_passes}
-use Rattle.refusals.proofs.Answers.{refused_word, accepted_word}
-use mathlib.Core.Path.{sym, ◌∙◌}
 use Rattle.bus.proofs.reads.read_word.Goals as goal
 
-pub returns-then-number-ne-DONE : goal.returns-then-number-ne-DONE
-returns-then-number-ne-DONE c = refused_word c.read_refused-number.ensures c.if-number-ne-DONE.true _
-
-pub read_word-value-requires : goal.read_word-value-requires
-read_word-value-requires c = read_passes _ _ _ _ _ _ (sym c.read_refused-number.ensures ∙ c.if-number-ne-DONE.false)
-
-pub returns : goal.returns
-returns c = accepted_word c.read_refused-number.ensures c.if-number-ne-DONE.false c.read_word-value.ensures
+pub read_word-requires : goal.read_word-requires
+read_word-requires c = read_passes _ _ _ _ _ _ (sym (rw c.of.ensures at c.in_ok-read_refused.ensures))

@@ -17,4 +17,4 @@ pub answer-requires : goal.answer-requires
 answer-requires c = (rw (c.cartridge_at-cartridge.ensures, c.registers_at-registers.ensures) (mapped_range _ c.requires.0), in_ram _ c.requires.1 c.if-index-lt-VRAM_START.false)
 
 pub returns : goal.returns
-returns c = rw (c.answer_number.ensures, c.answer.ensures, c.cartridge_at-cartridge.ensures, c.registers_at-registers.ensures)
+returns c = rw (c.record_stored.ensures, c.answer.ensures, c.cartridge_at-cartridge.ensures, c.registers_at-registers.ensures)

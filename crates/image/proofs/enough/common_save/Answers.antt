@@ -2,29 +2,11 @@
 use borrow.Author.Tests.{not-false}
 use native.Mathlib.Omega.{arith}
 use Prim.Native.Nat.{◌/◌, ◌%◌, ◌≤◌}
-use mathlib.Core.Path.{◌≡◌, refl}
+use mathlib.Core.Path.{◌≡◌}
 use Rattle.mbc.specs.Mbc.{ram_banks}
 use Rattle.mbc.proofs.Enough.{four, one, none}
 use Rattle.image.proofs.MappingLaws.{common_fits, wide_fits, common}
 use Rattle.image.proofs.enough.common_save.Goals as goal
-
-pub returns-then-n-gt7 : goal.returns-then-n-gt7
-returns-then-n-gt7 c = λ f. absurd (f refl)
-
-pub returns-then-not-common_kind : goal.returns-then-not-common_kind
-returns-then-not-common_kind c = λ f. absurd (f refl)
-
-pub returns-then-log-eq0 : goal.returns-then-log-eq0
-returns-then-log-eq0 c = λ f. absurd (f refl)
-
-pub returns-then-banks_of-rom : goal.returns-then-banks_of-rom
-returns-then-banks_of-rom c = λ f. absurd (f refl)
-
-pub returns-then-n-ne1 : goal.returns-then-n-ne1
-returns-then-n-ne1 c = λ f. absurd (f refl)
-
-pub returns-then-n-ne0-2 : goal.returns-then-n-ne0-2
-returns-then-n-ne0-2 c = λ f. absurd (f refl)
 
 pub returns-then-n-ne0 : goal.returns-then-n-ne0
 unfolding ram_banks
@@ -35,13 +17,7 @@ returns-then-n-ne0 c = let n = c.args.n in
     let rom = rw (c.banks_of.ensures, log) at c.if-banks_of-rom.false in
     let kind = c.common_kind.ensures (not-false _ c.if-not-common_kind.false-raw) in
     let code : n / 131072 % 8 ≡ 3 = omega (arith, c.if-n-ne0.true, c.if-n-ne1.false) in
-    λ f. common n kind most (common_fits n kind most least rom (four code (omega (arith, c.if-n-ne0-2.false)))) 0x8000 (rw code)
-
-pub returns-then-n-ne0-4 : goal.returns-then-n-ne0-4
-returns-then-n-ne0-4 c = λ f. absurd (f refl)
-
-pub returns-then-n-ne0-5 : goal.returns-then-n-ne0-5
-returns-then-n-ne0-5 c = λ f. absurd (f refl)
+    common n kind most (common_fits n kind most least rom (four code (omega (arith, c.if-n-ne0-2.false)))) 0x8000 (rw code)
 
 pub returns-then-n-ne0-3 : goal.returns-then-n-ne0-3
 unfolding ram_banks
@@ -52,10 +28,7 @@ returns-then-n-ne0-3 c = let n = c.args.n in
     let rom = rw (c.banks_of.ensures, log) at c.if-banks_of-rom.false in
     let kind = c.common_kind.ensures (not-false _ c.if-not-common_kind.false-raw) in
     let code : n / 131072 % 8 ≡ 2 = omega (arith, c.if-n-ne0.false, c.if-n-ne0-3.true, c.if-n-ne0-4.false) in
-    λ f. common n kind most (common_fits n kind most least rom (one code (omega (arith, c.if-n-ne0-5.false)) (omega (arith, c.if-n-ne0-5.false)))) 0x2000 (rw code)
-
-pub returns-then-n-ne3 : goal.returns-then-n-ne3
-returns-then-n-ne3 c = λ f. absurd (f refl)
+    common n kind most (common_fits n kind most least rom (one code (omega (arith, c.if-n-ne0-5.false)) (omega (arith, c.if-n-ne0-5.false)))) 0x2000 (rw code)
 
 pub returns-then-n-ne0-6 : goal.returns-then-n-ne0-6
 unfolding ram_banks
@@ -66,12 +39,9 @@ returns-then-n-ne0-6 c = let n = c.args.n in
     let rom = rw (c.banks_of.ensures, log) at c.if-banks_of-rom.false in
     let kind = c.common_kind.ensures (not-false _ c.if-not-common_kind.false-raw) in
     let code : n / 131072 % 8 ≡ 4 = omega (arith, c.if-n-ne0.false, c.if-n-ne0-3.false, c.if-n-ne0-6.true) in
-    let three : n / 16777216 ≡ 3 = c.if-n-ne3.false in
+    let three : n / 16777216 ≡ 3 = c.if-n-ne-MBC5.false in
     let mbc5 : n / 16777216 % 4 ≡ 3 = rw three in
-    λ f. common n kind most (wide_fits n kind mbc5 most least rom code) 0x20000 (rw code)
-
-pub returns-then-n-ne0-7 : goal.returns-then-n-ne0-7
-returns-then-n-ne0-7 c = λ f. absurd (f refl)
+    common n kind most (wide_fits n kind mbc5 most least rom code) 0x20000 (rw code)
 
 pub returns : goal.returns
 unfolding ram_banks
@@ -82,4 +52,4 @@ returns c = let n = c.args.n in
     let rom = rw (c.banks_of.ensures, log) at c.if-banks_of-rom.false in
     let kind = c.common_kind.ensures (not-false _ c.if-not-common_kind.false-raw) in
     let code : n / 131072 % 8 ≡ 0 = omega (arith, c.if-n-ne0.false, c.if-n-ne0-3.false, c.if-n-ne0-6.false) in
-    λ f. common n kind most (common_fits n kind most least rom (none code (omega (arith, c.if-n-ne0-7.false)) (omega (arith, c.if-n-ne0-7.false)) (omega (arith, c.if-n-ne0-7.false)))) 0 (rw code)
+    common n kind most (common_fits n kind most least rom (none code (omega (arith, c.if-n-ne0-7.false)) (omega (arith, c.if-n-ne0-7.false)) (omega (arith, c.if-n-ne0-7.false)))) 0 (rw code)

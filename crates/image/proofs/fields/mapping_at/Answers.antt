@@ -4,4 +4,4 @@ use Rattle.image.proofs.fields.mapping_at.Goals as goal
 
 pub returns : goal.returns
 unfolding mapping_number
-returns c = c.u32_at.ensures
+returns c = c.field_at.ensures

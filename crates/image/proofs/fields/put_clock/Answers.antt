@@ -4,4 +4,4 @@ use Rattle.image.proofs.fields.put_clock.Goals as goal
 
 pub returns : goal.returns
 unfolding clock_put
-returns c = rw c.put_u8.ensures at c.put_u16.ensures
+returns c = rw c.put_field.ensures at c.put_field-2.ensures

@@ -4,4 +4,4 @@ use Rattle.image.proofs.fields.put_used.Goals as goal
 
 pub returns : goal.returns
 unfolding used_put
-returns c = c.put_u16.ensures
+returns c = c.put_field.ensures

@@ -26,9 +26,6 @@ low_four l bit k s i h j e =
     ∙ sym (inner_field l s 16 0 4 (search arith) j)
     ∙ ap (λ (n : ℕ). n % 2 ^ 4) (div-one (field_at l s 16))
 
-pub overflow_cast-result : goal.overflow_cast-result
-overflow_cast-result c = let h = c.field_at-n.ensures.1 in omega arith
-
 pub returns : goal.returns
 returns c = let l = c.args.image.now in
     let size = c.requires in

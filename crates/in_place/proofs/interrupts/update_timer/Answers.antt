@@ -1,23 +1,10 @@
 -- DIV's byte, then what the steps of TIMA put, then the group.
-use native.Mathlib.Omega.{arith}
 use mathlib.Core.Path.{◌∙◌}
 use lib.ListN.{length-set}
 use Rattle.in_place.proofs.Images.{size}
 use Rattle.in_place.proofs.Updates.{rest_below, timer_updated}
 use borrow.Author.Rules.{rules}
 use Rattle.in_place.proofs.interrupts.update_timer.Goals as goal
-
-pub clock_at-clock-requires : goal.clock_at-clock-requires
-clock_at-clock-requires c = size _ c.requires.0
-
-pub bounds-image-260 : goal.bounds-image-260
-bounds-image-260 c = let h = size _ c.requires.0 in omega arith
-
-pub bounds-image-263 : goal.bounds-image-263
-bounds-image-263 c = let h = size _ c.requires.0 in omega arith
-
-pub bounds-image-260-2 : goal.bounds-image-260-2
-bounds-image-260-2 c = let h = size _ c.requires.0 in omega arith
 
 pub step_tima_by-requires : goal.step_tima_by-requires
 step_tima_by-requires c = simp length-set (size _ c.requires.0)
@@ -26,9 +13,6 @@ pub put_clock-requires : goal.put_clock-requires
 put_clock-requires c = let h = c.requires.0 in
     let k = rest_below _ h _ c.clock_at-clock.ensures c.count_div-divided.ensures c.periods_in-periods.ensures in
     (c.step_tima_by.auto.image ∙ simp length-set (size _ h), search rules)
-
-pub shape_of-image : goal.shape_of-image
-shape_of-image c = c.put_clock.auto.image ∙ c.step_tima_by.auto.image ∙ simp length-set
 
 pub returns : goal.returns
 returns c = timer_updated _ c.requires.0 _ c.clock_at-clock.ensures c.count_div-divided.ensures c.periods_in-periods.ensures

@@ -1,5 +1,6 @@
 -- Each register by the function that its arm calls.
 use Rattle.in_place.proofs.Images.{held, by_arm, byte_stored}
+use Rattle.registers.specs.Colour.{background_index_put, background_data_put, sprite_index_put, sprite_data_put}
 use Rattle.in_place.proofs.page.write.Goals as goal
 
 pub returns-in-Sound : goal.returns-in-Sound
@@ -39,16 +40,20 @@ pub returns-in-Start : goal.returns-in-Start
 returns-in-Start c = by_arm _ c.requires _ _ c.register_of.ensures c.in-Start.is c.write_start.ensures
 
 pub returns-in-BackgroundIndex : goal.returns-in-BackgroundIndex
-returns-in-BackgroundIndex c = by_arm _ c.requires _ _ c.register_of.ensures c.in-BackgroundIndex.is c.write_background_index.ensures
+unfolding background_index_put
+returns-in-BackgroundIndex c = by_arm _ c.requires _ _ c.register_of.ensures c.in-BackgroundIndex.is c.write_index.ensures
 
 pub returns-in-BackgroundData : goal.returns-in-BackgroundData
-returns-in-BackgroundData c = by_arm _ c.requires _ _ c.register_of.ensures c.in-BackgroundData.is c.write_background_data.ensures
+unfolding background_data_put
+returns-in-BackgroundData c = by_arm _ c.requires _ _ c.register_of.ensures c.in-BackgroundData.is c.write_data.ensures
 
 pub returns-in-SpriteIndex : goal.returns-in-SpriteIndex
-returns-in-SpriteIndex c = by_arm _ c.requires _ _ c.register_of.ensures c.in-SpriteIndex.is c.write_sprite_index.ensures
+unfolding sprite_index_put
+returns-in-SpriteIndex c = by_arm _ c.requires _ _ c.register_of.ensures c.in-SpriteIndex.is c.write_index-in-SpriteIndex.ensures
 
 pub returns-in-SpriteData : goal.returns-in-SpriteData
-returns-in-SpriteData c = by_arm _ c.requires _ _ c.register_of.ensures c.in-SpriteData.is c.write_sprite_data.ensures
+unfolding sprite_data_put
+returns-in-SpriteData c = by_arm _ c.requires _ _ c.register_of.ensures c.in-SpriteData.is c.write_data-in-SpriteData.ensures
 
 pub returns-in-WramBank : goal.returns-in-WramBank
 returns-in-WramBank c = by_arm _ c.requires _ _ c.register_of.ensures c.in-WramBank.is c.write_wram_bank.ensures

@@ -11,8 +11,5 @@ use Rattle.in_place.proofs.palettes.put_data.Goals as goal
 pub put_color-requires : goal.put_color-requires
 put_color-requires c = (simp length-set c.requires.0, (omega arith, ap (λ (w : Written). in_range w.color) c.set_color_palette-w.ensures ∙ channels_range _))
 
-pub shape_of-image : goal.shape_of-image
-shape_of-image c = c.put_color.auto.image ∙ simp length-set
-
 pub returns : goal.returns
 returns c = data_put_law _ _ _ _ c.color_of.ensures.0 c.color_at-c.ensures c.next_index.ensures c.color_of-2.ensures.0 c.color_at-next.ensures c.set_color_palette-w.ensures c.put_color.ensures

@@ -2,11 +2,8 @@
 use mathlib.Core.Path.{ap, ◌∙◌}
 use Rattle.lcd.specs.declared.Lcd.{Lcd}
 use Rattle.memory.specs.declared.Core.{Core}
-use Rattle.in_place.proofs.Images.{size, core}
+use Rattle.in_place.proofs.Images.{core}
 use Rattle.in_place.proofs.transfers.mode_at.Goals as goal
 
-pub lcd_at-lcd-requires : goal.lcd_at-lcd-requires
-lcd_at-lcd-requires c = size _ c.requires
-
 pub returns : goal.returns
-returns c = ap (λ (l : Lcd). l.mode) c.lcd_at-lcd.ensures ∙ ap (λ (k : Core). k.lcd.mode) (core _ c.requires)
+returns c = ap (λ (l : Lcd). l.mode) c.lcd_at.ensures ∙ ap (λ (k : Core). k.lcd.mode) (core _ c.requires)

@@ -4,6 +4,3 @@ use Rattle.mmu.proofs.regions.put_mapper.Goals as goal
 
 pub write-written-requires : goal.write-written-requires
 write-written-requires c = (c.requires.1, mapped_rom _ c.requires.0)
-
-pub returns : goal.returns
-returns c = rw c.write-written.ensures at c.with_mapper.ensures

@@ -1,5 +1,5 @@
--- The invariant: what the blocks so far leave. The measure is what is left of the bytes.
-use Rattle.std.proofs.Common.{◌≡◌, ◌-◌, refl, ◌∙◌, arith}
+-- One block more (`copied_more`), from the next multiple of 16 on.
+use Rattle.std.proofs.Common.{◌≡◌, ◌+◌, ◌≤◌, refl, ◌∙◌, arith}
 use Rattle.move_bytes.proofs.MoveLaws.{lent_vram, copied_none, copied_more, step_lands, step_within}
 use Rattle.move_bytes.proofs.blocks.copy_all.Goals as goal
 
@@ -9,21 +9,18 @@ loop-i-init c = (omega arith, (refl, (refl, copied_none c.requires.0 _ _)))
 pub copy-requires : goal.copy-requires
 copy-requires c = let L = c.loop-i.invariant in
     let P = c.requires in
-    let W = c.wrapping_add_u16-from.ensures.value in
-    let T = step_lands _ _ _ _ P.1 L.0 L.1.0 c.loop-i-test.true in
-    (lent_vram P.0 L.1.1.0, (rw W T.0, T.1))
+    (lent_vram P.0 L.1.1.0, step_lands _ _ _ _ P.1 L.0 L.1.0 c.loop-i-test.true)
 
 pub loop-i-preserved : goal.loop-i-preserved
 loop-i-preserved c = let C = c.copy in
-    let W = c.wrapping_add_u16-from.ensures.value in
     let L = c.loop-i.invariant in
     let P = c.requires in
-    (step_within _ _ _ _ P.1 L.0 L.1.0 c.loop-i-test.true, (omega (arith, L.1.0), (C.auto.vram ∙ L.1.1.0, copied_more P.0 _ _ _ L.1.1.1 (rw W at C.ensures))))
+    (step_within _ _ _ _ P.1 L.0 L.1.0 c.loop-i-test.true, (omega (arith, L.1.0), (C.auto.vram ∙ L.1.1.0, copied_more P.0 _ _ _ L.1.1.1 C.ensures)))
 
-pub shape_of-vram : goal.shape_of-vram
-shape_of-vram c = c.loop-i.invariant.1.1.0
-
-pub returns : goal.returns
-returns c = let L = c.loop-i in
-    let e : L.i ≡ c.args.count = omega arith in
-    rw (← e) L.invariant.1.1.1
+pub returns-2 : goal.returns-2
+returns-2 c = let L = c.loop-i.invariant in
+    let P = c.requires in
+    let i = c.loop-i.i in
+    let s : i + 16 ≤ c.args.count = step_within _ _ _ _ P.1 L.0 L.1.0 c.loop-i-test.true in
+    let e : i + 16 ≡ c.args.count = omega arith in
+    rw (← e) (copied_more P.0 _ _ _ L.1.1.1 c.copy.ensures)

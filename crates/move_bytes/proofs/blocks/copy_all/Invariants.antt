@@ -1,5 +1,5 @@
--- The invariant: what the blocks so far leave. The measure is what is left of the bytes.
-use Rattle.std.proofs.Common.{◌≡◌, ◌-◌, ◌%◌, ◌≤◌, length}
+-- The invariant: what the blocks so far leave.
+use Rattle.std.proofs.Common.{◌≡◌, ◌%◌, ◌-◌, ◌≤◌, length}
 use Rattle.memory.specs.World.{fixed}
 use Rattle.move_bytes.specs.Transfers.{Copied}
 use Rattle.move_bytes.proofs.blocks.copy_all.Given as goal

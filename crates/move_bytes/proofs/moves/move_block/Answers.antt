@@ -6,9 +6,6 @@ use Rattle.hdma.specs.declared.Hdma.{Hdma}
 use Rattle.hdma.specs.Hdma.{source_used, destination_used, block_ended}
 use Rattle.move_bytes.proofs.moves.move_block.Goals as goal
 
-pub hdma_at-hdma-requires : goal.hdma_at-hdma-requires
-hdma_at-hdma-requires c = (c.requires.bytes, c.requires.number)
-
 pub copy_all-requires : goal.copy_all-requires
 copy_all-requires c = let D = c.destination_of-destination.ensures in let D₃ = D.3 in (c.requires, ((source_sixteen _ c.source_of-source.ensures, refl), (D.1, D.2, omega arith)))
 

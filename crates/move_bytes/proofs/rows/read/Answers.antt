@@ -6,12 +6,6 @@ use Rattle.memory.proofs.Regions.{within}
 use Rattle.std.proofs.Common.{sym, ap, ◌∙◌}
 use Rattle.move_bytes.proofs.rows.read.Goals as goal
 
-pub take_high-requires : goal.take_high-requires
-take_high-requires c = (c.requires.0, (c.requires.1, c.if-source-ge-HRAM_START.true))
-
-pub banks_at-banks-requires : goal.banks_at-banks-requires
-banks_at-banks-requires c = (c.requires.0.bytes, c.requires.0.number)
-
 pub take_rom-requires : goal.take_rom-requires
 take_rom-requires c = (c.requires.0, (c.requires.1, within _ (sym c.region_of.ensures ∙ c.in-Rom.is)))
 
@@ -26,9 +20,6 @@ wram_at-requires c = (within _ (sym c.region_of.ensures ∙ c.in-Wram.is)).0
 
 pub take-requires-in-Wram : goal.take-requires-in-Wram
 take-requires-in-Wram c = read_wram_fits c.requires.0 _ _ c.requires.1 (sym c.region_of.ensures ∙ c.in-Wram.is) (c.wram_at.ensures ∙ ap (λ (b : Banks). wram_at b.wram c.args.source) c.banks_at-banks.ensures)
-
-pub take_oam-requires : goal.take_oam-requires
-take_oam-requires c = (c.requires.0, (c.requires.1, sym c.region_of.ensures ∙ c.in-Oam.is))
 
 pub returns-in-Vram : goal.returns-in-Vram
 returns-in-Vram c = read_vram c.requires.0 _ _ c.requires.1 (sym c.region_of.ensures ∙ c.in-Vram.is) (c.vram_at.ensures ∙ ap (λ (b : Banks). vram_at b.vram c.args.source) c.banks_at-banks.ensures) c.take.new.out c.take.auto.out c.take.ensures

@@ -1,5 +1,5 @@
--- The invariant: the bytes so far are those of the bus. The measure is what is left of them.
-use Rattle.std.proofs.Common.{◌≡◌, ◌+◌, ◌-◌, ◌≤◌, length}
+-- The invariant: the bytes so far are those of the bus.
+use Rattle.std.proofs.Common.{◌≡◌, ◌+◌, length}
 use Rattle.image.specs.Load.{load_call}
 use Rattle.memory.specs.World.{fixed}
 use Rattle.mmu.specs.Access.{read_byte}
@@ -7,7 +7,4 @@ use Rattle.move_bytes.proofs.RowLaws.{Filled}
 use Rattle.move_bytes.proofs.rows.take_each.Given as goal
 
 abbrev pub invariant-loop-i : goal.invariant-loop-i
-invariant-loop-i l = (l.i ≤ length l.initial.out) × ((length l.out ≡ length l.initial.out) × Filled l.out (λ k. read_byte (fixed l.rom l.sound) (load_call l.image).state l.vram l.wram l.save (l.source + k)) l.i)
-
-abbrev pub decreases-loop-i : goal.decreases-loop-i
-decreases-loop-i l = length l.initial.out - l.i
+invariant-loop-i l = (length l.out ≡ length l.initial.out) × Filled l.out (λ k. read_byte (fixed l.rom l.sound) (load_call l.image).state l.vram l.wram l.save (l.source + k)) l.i

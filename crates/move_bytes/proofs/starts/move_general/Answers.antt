@@ -6,9 +6,6 @@ use Rattle.hdma.specs.Hdma.{source_used, destination_used, general_ended}
 use Rattle.std.proofs.Common.{ap, ◌∙◌}
 use Rattle.move_bytes.proofs.starts.move_general.Goals as goal
 
-pub hdma_at-hdma-requires : goal.hdma_at-hdma-requires
-hdma_at-hdma-requires c = (c.requires.bytes, c.requires.number)
-
 pub copy_all-requires : goal.copy_all-requires
 copy_all-requires c = let D = c.destination_of-destination.ensures in (c.requires, ((source_sixteen _ c.source_of-source.ensures, landing_sixteen _ _ c.args.value c.length.ensures c.landing-count.ensures.0 D.1), (D.1, D.2, c.landing-count.ensures.1)))
 

@@ -5,20 +5,11 @@ use borrow.Author.Tests.{not-true, not-false}
 use Rattle.std.proofs.Common.{sym, refl, ◌∙◌, arith}
 use Rattle.move_bytes.proofs.starts.start_hdma.Goals as goal
 
-pub is_colour-requires : goal.is_colour-requires
-is_colour-requires c = (c.requires.bytes, c.requires.number)
-
 pub bounds-image-341 : goal.bounds-image-341
 bounds-image-341 c = omega (arith, lent_length c.requires)
 
 pub returns-then-not-is_colour : goal.returns-then-not-is_colour
 returns-then-not-is_colour c = plain_wrote c.requires _ (sym c.is_colour.ensures ∙ not-true _ c.if-not-is_colour.true-raw) c.ranges.value.fits refl
-
-pub hdma_at-hdma-requires : goal.hdma_at-hdma-requires
-hdma_at-hdma-requires c = (c.requires.bytes, c.requires.number)
-
-pub mode_at-requires : goal.mode_at-requires
-mode_at-requires c = (c.requires.bytes, c.requires.number)
 
 pub put_written-requires : goal.put_written-requires
 put_written-requires c = ((c.requires.bytes, c.requires.number), set_storable c.requires _ (sym c.is_colour.ensures ∙ not-false _ c.if-not-is_colour.false-raw) (decided _ _ _ _ _ c.do_cgb_dma.ensures c.hdma_at-hdma.ensures c.mode_at.ensures) c.in-Set.is)

@@ -1,20 +1,15 @@
 -- The image, then what it has left.
 use mathlib.Core.Path.{refl}
-use Rattle.entry.proofs.Held.{taken}
+use Rattle.entry.proofs.Held.{due, taken}
+use Rattle.refusals.proofs.Answers.{exit}
 use Rattle.quick_state.proofs.Parts.{closed_overflow, overflow_given}
 use Rattle.quick_state.proofs.clock.cycles_to_overflow.Goals as goal
 
-pub returns-then-mapper-ne-DONE : goal.returns-then-mapper-ne-DONE
-returns-then-mapper-ne-DONE c = closed_overflow _ (c.mapper_number-mapper.ensures.1 c.if-mapper-ne-DONE.true) c.if-mapper-ne-DONE.true refl
-
-pub rest_number-number-requires : goal.rest_number-number-requires
-rest_number-number-requires c = c.mapper_number-mapper.ensures.0 c.if-mapper-ne-DONE.false
-
-pub returns-then-number-ne-DONE : goal.returns-then-number-ne-DONE
-returns-then-number-ne-DONE c = closed_overflow _ c.rest_number-number.ensures c.if-number-ne-DONE.true refl
+pub returns-in_err-taken_here : goal.returns-in_err-taken_here
+returns-in_err-taken_here c = rw (exit _ _ c.from_residual.ensures.1) (closed_overflow _ c.in_err-taken_here.ensures (due _) refl, tt)
 
 pub cycles_to_overflow-requires : goal.cycles_to_overflow-requires
-cycles_to_overflow-requires c = (taken _ c.rest_number-number.ensures c.if-number-ne-DONE.false (λ i. (c.shared_slice_known-1.given i).fits))
+cycles_to_overflow-requires c = (taken _ c.in_ok-taken_here.ensures refl (λ i. (c.shared_slice_known-1.given i).fits))
 
 pub returns : goal.returns
-returns c = overflow_given _ (taken _ c.rest_number-number.ensures c.if-number-ne-DONE.false (λ i. (c.shared_slice_known-1.given i).fits)) c.cycles_to_overflow.ensures
+returns c = (overflow_given _ (taken _ c.in_ok-taken_here.ensures refl (λ i. (c.shared_slice_known-1.given i).fits)) c.cycles_to_overflow.ensures.0, c.cycles_to_overflow.ensures.1)

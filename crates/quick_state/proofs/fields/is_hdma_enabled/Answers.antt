@@ -1,14 +1,16 @@
 -- The image, then its field.
+use mathlib.Core.Path.{refl}
 use Rattle.in_place.proofs.Images.{size}
-use Rattle.entry.proofs.Held.{taken, closed_ask}
+use Rattle.entry.proofs.Held.{due, taken, closed_ask}
+use Rattle.refusals.proofs.Answers.{exit}
 use Rattle.quick_state.proofs.Parts.{hdma_asked}
 use Rattle.quick_state.proofs.fields.is_hdma_enabled.Goals as goal
 
-pub returns-then-number-ne-DONE : goal.returns-then-number-ne-DONE
-returns-then-number-ne-DONE c = closed_ask _ c.number-number.ensures c.if-number-ne-DONE.true _ c.refused.ensures
+pub returns-in_err-taken_here : goal.returns-in_err-taken_here
+returns-in_err-taken_here c = rw (exit _ _ c.from_residual.ensures.1) (closed_ask _ c.in_err-taken_here.ensures (due _) _ refl)
 
-pub hdma_at-hdma-requires : goal.hdma_at-hdma-requires
-hdma_at-hdma-requires c = size _ (taken _ c.number-number.ensures c.if-number-ne-DONE.false (λ i. (c.shared_slice_known-1.given i).fits))
+pub hdma_at-requires : goal.hdma_at-requires
+hdma_at-requires c = size _ (taken _ c.in_ok-taken_here.ensures refl (λ i. (c.shared_slice_known-1.given i).fits))
 
 pub returns : goal.returns
-returns c = hdma_asked _ (taken _ c.number-number.ensures c.if-number-ne-DONE.false (λ i. (c.shared_slice_known-1.given i).fits)) c.hdma_at-hdma.ensures c.flag_given.ensures
+returns c = hdma_asked _ (taken _ c.in_ok-taken_here.ensures refl (λ i. (c.shared_slice_known-1.given i).fits)) c.hdma_at.ensures refl

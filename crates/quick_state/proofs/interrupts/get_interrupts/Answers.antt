@@ -1,19 +1,15 @@
 -- The image, then the question.
-use Rattle.entry.proofs.Held.{taken, closed_ask}
+use mathlib.Core.Path.{refl}
+use Rattle.entry.proofs.Held.{due, taken, closed_ask}
+use Rattle.refusals.proofs.Answers.{exit}
 use Rattle.quick_state.proofs.Calls.{pending_given}
 use Rattle.quick_state.proofs.interrupts.get_interrupts.Goals as goal
 
-pub returns-then-mapper-ne-DONE : goal.returns-then-mapper-ne-DONE
-returns-then-mapper-ne-DONE c = closed_ask _ (c.mapper_number-mapper.ensures.1 c.if-mapper-ne-DONE.true) c.if-mapper-ne-DONE.true _ c.refused.ensures
+pub returns-in_err-taken_here : goal.returns-in_err-taken_here
+returns-in_err-taken_here c = rw (exit _ _ c.from_residual.ensures.1) (closed_ask _ c.in_err-taken_here.ensures (due _) _ refl)
 
-pub rest_number-number-requires : goal.rest_number-number-requires
-rest_number-number-requires c = c.mapper_number-mapper.ensures.0 c.if-mapper-ne-DONE.false
-
-pub returns-then-number-ne-DONE : goal.returns-then-number-ne-DONE
-returns-then-number-ne-DONE c = closed_ask _ c.rest_number-number.ensures c.if-number-ne-DONE.true _ c.refused-then-number-ne-DONE.ensures
-
-pub get_interrupts-pending-requires : goal.get_interrupts-pending-requires
-get_interrupts-pending-requires c = (taken _ c.rest_number-number.ensures c.if-number-ne-DONE.false (λ i. (c.shared_slice_known-1.given i).fits))
+pub get_interrupts-requires : goal.get_interrupts-requires
+get_interrupts-requires c = (taken _ c.in_ok-taken_here.ensures refl (λ i. (c.shared_slice_known-1.given i).fits))
 
 pub returns : goal.returns
-returns c = pending_given _ (taken _ c.rest_number-number.ensures c.if-number-ne-DONE.false (λ i. (c.shared_slice_known-1.given i).fits)) c.get_interrupts-pending.ensures c.pending_number-value.ensures
+returns c = pending_given _ (taken _ c.in_ok-taken_here.ensures refl (λ i. (c.shared_slice_known-1.given i).fits)) c.get_interrupts.ensures refl

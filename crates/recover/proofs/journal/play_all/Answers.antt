@@ -8,4 +8,4 @@ pub loop-s-init : goal.loop-s-init
 loop-s-init g c = (c.unread-s.ensures.1, refl, rw c.unread-s.ensures.0 (none_played _ _ _))
 
 pub loop-s-preserved : goal.loop-s-preserved
-loop-s-preserved g c = (c.play_next-next.ensures.0, omega (arith, c.loop-s.invariant.1), played_more _ _ _ _ _ _ _ c.loop-s.invariant.2 (c.play_next-next.ensures.1 c.if-next-s.false))
+loop-s-preserved g c = let e = c.in_ok-s.ensures in (e.0, omega (arith, c.loop-s.invariant.1), played_more _ _ _ _ _ _ _ c.loop-s.invariant.2 e.2)

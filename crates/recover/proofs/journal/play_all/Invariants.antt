@@ -9,4 +9,4 @@ abbrev pub invariant-loop-s : goal.invariant-loop-s
 invariant-loop-s g l = Bounded l.s × (length l.save ≡ length l.initial.save) × Played l.log.form l.kept l.s l.initial.save l.save
 
 abbrev pub decreases-loop-s : goal.decreases-loop-s
-decreases-loop-s g l = l.len - l.s.len
+decreases-loop-s g l = l.first.len - l.s.len

@@ -7,6 +7,6 @@ pub returns-then-b-eq0 : goal.returns-then-b-eq0
 unfolding byte_scanned
 returns-then-b-eq0 c = rw (eq-eqb _ 0 c.if-b-eq0.true)
 
-pub returns : goal.returns
+pub returns-else-b-eq0 : goal.returns-else-b-eq0
 unfolding byte_scanned
-returns c = rw (ne_eqb _ 0 c.if-b-eq0.false)
+returns-else-b-eq0 c = rw (ne_eqb _ 0 c.if-b-eq0.false)

@@ -1,8 +1,9 @@
--- A form's width is a numeral.
+-- By the form's width.
+use Rattle.recover_messages.proofs.Scans.{bytes_fit}
 use Rattle.recover_messages.proofs.journal.bytes_of.Goals as goal
 
-pub returns-in-Three : goal.returns-in-Three
-returns-in-Three c = rw c.in-Three.is
+pub overflow_mul-result : goal.overflow_mul-result
+overflow_mul-result c = rw c.len.ensures (record { fits = bytes_fit c.args.form c.args.n c.requires })
 
-pub returns-in-Four : goal.returns-in-Four
-returns-in-Four c = rw c.in-Four.is
+pub returns : goal.returns
+returns c = rw c.len.ensures

@@ -1,10 +1,11 @@
--- A form's width is a numeral.
+-- By the form's width.
 use mathlib.Core.Path.{refl}
 use native.Mathlib.Omega.{arith}
+use Rattle.recover_messages.proofs.Scans.{width_within, threes}
 use Rattle.recover_messages.proofs.journal.records_in.Goals as goal
 
-pub returns-in-Three : goal.returns-in-Three
-returns-in-Three c = rw c.in-Three.is (refl, omega arith)
+pub nonzero_div-result : goal.nonzero_div-result
+nonzero_div-result c = omega (arith, c.len.ensures, (width_within c.args.form).0)
 
-pub returns-in-Four : goal.returns-in-Four
-returns-in-Four c = rw c.in-Four.is (refl, omega arith)
+pub returns : goal.returns
+returns c = rw c.len.ensures (refl, threes c.args.form c.args.n)

@@ -1,10 +1,11 @@
--- A form's width is a numeral.
+-- By the form's width.
 use mathlib.Core.Path.{refl}
 use native.Mathlib.Omega.{arith}
+use Rattle.recover_messages.proofs.Scans.{width_within, rest_within}
 use Rattle.recover_messages.proofs.journal.rest_of.Goals as goal
 
-pub returns-in-Three : goal.returns-in-Three
-returns-in-Three c = rw c.in-Three.is (refl, omega arith)
+pub nonzero_rem-result : goal.nonzero_rem-result
+nonzero_rem-result c = omega (arith, c.len.ensures, (width_within c.args.form).0)
 
-pub returns-in-Four : goal.returns-in-Four
-returns-in-Four c = rw c.in-Four.is (refl, omega arith)
+pub returns : goal.returns
+returns c = rw c.len.ensures (refl, rest_within c.args.form c.args.n)

@@ -4,19 +4,19 @@ use native.Mathlib.Omega.{arith}
 use Rattle.recover_messages.proofs.Scans.{scan_next, scan_ends, byte_bounded, byte_len}
 use Rattle.recover_messages.proofs.journal.scanned.Goals as goal
 
-pub loop-i-init : goal.loop-i-init
-loop-i-init c = (omega arith, refl, c.requires.0, omega arith)
+pub loop-b-init : goal.loop-b-init
+loop-b-init c = (refl, c.requires.0, omega arith)
 
 pub after-next-requires : goal.after-next-requires
-after-next-requires c = omega (arith, c.loop-i.invariant.3)
+after-next-requires c = omega (arith, c.requires.1, c.loop-b.invariant.2)
 
-pub loop-i-preserved : goal.loop-i-preserved
-loop-i-preserved c = let l = c.loop-i in
+pub loop-b-preserved : goal.loop-b-preserved
+loop-b-preserved c = let l = c.loop-b in
     let p = c.args.part.now in
     rw c.after-next.ensures
-    (omega arith, l.invariant.1 ∙ scan_next l.next p l.i (omega arith), byte_bounded _ _ l.invariant.2, byte_len _ _ ∙ omega (arith, l.invariant.3))
+    (l.invariant.0 ∙ scan_next l.next p l.b-index (omega arith), byte_bounded _ _ l.invariant.1, byte_len _ _ ∙ omega (arith, l.invariant.2))
 
 pub returns : goal.returns
-returns c = let l = c.loop-i in
+returns c = let l = c.loop-b in
     let p = c.args.part.now in
-    (sym (l.invariant.1 ∙ scan_ends l.next p l.i (omega arith)), (l.invariant.2, omega (arith, l.invariant.3)))
+    (sym (l.invariant.0 ∙ scan_ends l.next p l.b-index (omega arith)), (l.invariant.1, omega (arith, l.invariant.2)))

@@ -1,14 +1,14 @@
 -- Each branch is a case of `end_line`.
 use native.Mathlib.Omega.{arith}
-use Rattle.recover_text.proofs.Pieces.{named, put_none}
+use Rattle.recover_text.proofs.Pieces.{puts_as, puts_none}
 use Rattle.recover_messages.proofs.Choice.{ends_in_zeros, ends_whole, ends_torn}
 use Rattle.recover_messages.proofs.message.end.Goals as goal
 
 pub returns-then-kept-s : goal.returns-then-kept-s
-returns-then-kept-s c = named (ends_in_zeros _ _ _ _ _ c.journal_len-kept.ensures.0 c.if-kept-s.true) c.left_out.ensures
+returns-then-kept-s c = puts_as (ends_in_zeros _ _ _ _ _ c.kept-kept.ensures.0 c.if-kept-s.true) c.left_out.ensures
 
-pub returns-then-left-eq0 : goal.returns-then-left-eq0
-returns-then-left-eq0 c = named (ends_whole _ _ _ _ _ c.journal_len-kept.ensures.0 c.if-kept-s.false c.rest_of-left.ensures.0 c.if-left-eq0.true) (put_none _ _ (omega arith))
+pub returns-then-left-ne0 : goal.returns-then-left-ne0
+returns-then-left-ne0 c = puts_as (ends_torn _ _ _ _ _ c.kept-kept.ensures.0 c.if-kept-s.false c.rest_of-left.ensures.0 c.if-left-ne0.true) c.left_out-then-left-ne0.ensures
 
-pub returns : goal.returns
-returns c = named (ends_torn _ _ _ _ _ c.journal_len-kept.ensures.0 c.if-kept-s.false c.rest_of-left.ensures.0 c.if-left-eq0.false) c.left_out-2.ensures
+pub returns-else-left-ne0 : goal.returns-else-left-ne0
+returns-else-left-ne0 c = puts_as (ends_whole _ _ _ _ _ c.kept-kept.ensures.0 c.if-kept-s.false c.rest_of-left.ensures.0 c.if-left-ne0.false) (puts_none _ (omega arith))

@@ -6,9 +6,13 @@ use native.Mathlib.Omega.{arith}
 use Rattle.savelog.specs.Log.{width_of}
 use Rattle.recover_text.specs.Text.{counted}
 use Rattle.recover_text.proofs.Digits.{counted_length}
-use Rattle.recover_text.proofs.Pieces.{named, and_then}
+use Rattle.recover_text.proofs.Pieces.{puts_as, puts_then, puts_ends}
 use Rattle.recover_messages.specs.Words as words
 use Rattle.recover_messages.proofs.message.recovered.Goals as goal
 
 pub returns : goal.returns
-returns c = (named (ap (λ k. words.recovered ++ counted k words.record_noun) (c.records_in-records.ensures.0 ∙ ap (λ k. k / width_of c.args.form) c.journal_len.ensures.0)) (and_then c.text-a.ensures c.counted.ensures), omega (arith, c.text-a.ensures.ends, c.counted.ensures.ends, counted_length c.records_in-records.result words.record_noun))
+returns c = (
+  puts_as (ap (λ k. words.recovered ++ counted k words.record_noun) (c.records_in-records.ensures.0 ∙ ap (λ k. k / width_of c.args.j.form) c.kept.ensures.0))
+      (puts_then c.text.ensures c.counted.ensures),
+  omega (arith, puts_ends c.text.ensures, puts_ends c.counted.ensures, counted_length c.records_in-records.result words.record_noun),
+)

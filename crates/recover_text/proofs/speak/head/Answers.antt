@@ -1,7 +1,7 @@
 -- The address, and the colon behind it.
 use native.Mathlib.Omega.{arith}
-use Rattle.recover_text.proofs.Pieces.{and_then}
+use Rattle.recover_text.proofs.Pieces.{puts_then, puts_ends}
 use Rattle.recover_text.proofs.speak.head.Goals as goal
 
 pub returns : goal.returns
-returns c = (and_then c.address-a.ensures.0 c.text.ensures, omega (arith, c.address-a.ensures.1, c.text.ensures.ends))
+returns c = (puts_then c.address.ensures.0 c.text.ensures, omega (arith, c.address.ensures.1, puts_ends c.text.ensures))

@@ -1,12 +1,12 @@
 -- Each branch is a case of `in_word`.
-use borrow.Author.Tests.{lt-ltb, le-ltb}
+use Rattle.rules.proofs.Tests.{tests}
 use Rattle.recover_text.specs.Speak.{in_word}
 use Rattle.recover_text.proofs.speak.in_word.Goals as goal
 
-pub returns-then-b-lt33 : goal.returns-then-b-lt33
+pub returns-then-b-ge33 : goal.returns-then-b-ge33
 unfolding in_word
-returns-then-b-lt33 c = rw (lt-ltb _ 33 c.if-b-lt33.true)
+returns-then-b-ge33 c = search tests
 
-pub returns : goal.returns
+pub returns-else-b-ge33 : goal.returns-else-b-ge33
 unfolding in_word
-returns c = rw (le-ltb _ 33 c.if-b-lt33.false)
+returns-else-b-ge33 c = search tests

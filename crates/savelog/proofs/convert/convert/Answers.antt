@@ -6,10 +6,6 @@ use Rattle.savelog.specs.Log.{records_by, all_sound}
 use Rattle.savelog.proofs.Converts.{by_sound}
 use Rattle.savelog.proofs.convert.convert.Goals as goal
 
-pub returns-then-not-has_room : goal.returns-then-not-has_room
-returns-then-not-has_room c = let a = c.args in
-    rw (by_sound a.from a.to a.source.now a.target.now, sym c.has_room.ensures ∙ not-true _ c.if-not-has_room.true-raw)
-
 pub returns-then-not-sound : goal.returns-then-not-sound
 returns-then-not-sound c = let a = c.args in
     rw (
@@ -18,8 +14,8 @@ returns-then-not-sound c = let a = c.args in
       ap (λ (e : ℕ). all_sound e (records_by a.from a.source.now)) (sym c.end.ensures) ∙ sym c.sound.ensures ∙ not-true _ c.if-not-sound.true-raw,
     )
 
-pub write_all-len-requires : goal.write_all-len-requires
-write_all-len-requires c = let a = c.args in (
+pub write_all-requires : goal.write_all-requires
+write_all-requires c = let a = c.args in (
   sym c.has_room.ensures ∙ not-false _ c.if-not-has_room.false-raw,
   ap (λ (e : ℕ). all_sound e (records_by a.from a.source.now)) (sym c.end.ensures)
       ∙ sym c.sound.ensures
@@ -34,6 +30,6 @@ returns c = let a = c.args in
       ap (λ (e : ℕ). all_sound e (records_by a.from a.source.now)) (sym c.end.ensures)
           ∙ sym c.sound.ensures
           ∙ not-false _ c.if-not-sound.false-raw,
-      c.write_all-len.ensures.0,
-      c.write_all-len.ensures.1,
+      c.write_all.ensures.0,
+      c.write_all.ensures.1,
     )

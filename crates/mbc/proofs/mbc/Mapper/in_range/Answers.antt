@@ -1,6 +1,8 @@
--- Its registers are its own, and sound.
-use Rattle.mbc.proofs.RegisterLaws.{mapper_held, registers_sound}
+-- By the case.
+use Rattle.mbc.proofs.Cases.RomOnlyLaws.{rom_only_starts}
+use Rattle.mbc.specs.Mbc.{in_range, described}
 use Rattle.mbc.proofs.mbc.Mapper.in_range.Goals as goal
 
-pub returns : goal.returns
-returns c = rw (c.fit.ensures, mapper_held c.args.self c.registers-held.result c.registers-held.ensures, c.registers-held.ensures, registers_sound c.args.self)
+pub returns-in-RomOnly : goal.returns-in-RomOnly
+unfolding in_range described
+returns-in-RomOnly c = rw c.in-RomOnly.is (rw (rom_only_starts c.args.cartridge) c.in_range.ensures)

@@ -1,9 +1,0 @@
--- One colour a turn.
-use Prim.Native.Nat.{◌-◌, ◌≤◌}
-use Rattle.bus_host.proofs.digest.of_colors.Given as goal
-
-abbrev pub invariant-loop-i : goal.invariant-loop-i
-invariant-loop-i l = l.i ≤ 32
-
-abbrev pub decreases-loop-i : goal.decreases-loop-i
-decreases-loop-i l = 32 - l.i

@@ -1,6 +1,0 @@
--- The screen of the image, changed and put back.
-use Rattle.in_place.proofs.Groups.{on_screen_law}
-use Rattle.in_place.proofs.screen.reset_window_line.Goals as goal
-
-pub returns : goal.returns
-returns c = on_screen_law _ _ c.screen_at-screen.ensures c.reset_window_line-next.ensures c.put_screen.ensures

@@ -1,5 +1,0 @@
--- One bit as a number.
-use Rattle.mbc.proofs.mbc5.Mbc5.registers.Goals as goal
-
-pub returns : goal.returns
-returns c = rw c.bit.ensures

@@ -1,7 +1,0 @@
--- Channel by channel, in sums and quotients.
-use native.Mathlib.Omega.{arith}
-use Rattle.palette.proofs.Bytes.{same}
-use Rattle.palette.proofs.with_low.Goals as goal
-
-pub returns : goal.returns
-returns c = same (omega arith) (omega arith) (omega arith)

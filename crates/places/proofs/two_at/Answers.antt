@@ -1,9 +1,0 @@
--- The bytes read are those of the list.
-use mathlib.Core.Path.{sym, ap, ◌∙◌}
-use native.Mathlib.Omega.{arith}
-use Rattle.packing.specs.Packing.{packed, eights}
-use Rattle.places.proofs.Laws.{two_listed}
-use Rattle.places.proofs.two_at.Goals as goal
-
-pub returns : goal.returns
-returns c = c.number_of_two.ensures ∙ sym (ap (packed (eights 2)) (two_listed c.args.bytes.now c.args.at (omega arith)))
